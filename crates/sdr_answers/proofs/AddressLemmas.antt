@@ -78,19 +78,19 @@ find_is test (e ∷ es) = step (test e.datum) (find_is test es)
     step true rest = refl
     step false rest = rest
 
-same_addr : (o : Option Element) → blocks.found_addr (option_map element_row o) ≡ steps.addr_of o
+same_addr : (o : Option Element) → blocks.found_addr (option_map element_row o) ≡ steps.element_addr_or_zero o
 same_addr None = refl
 same_addr (Some e) = refl
 
 at_first : (es : List Element) (n : ℕ) (b : Bool) → nat_lt n (length es) ≡ b
-    → steps.addr_of (slice_get es n) ≡ found_addr es (cond b (Some n) None)
+    → steps.element_addr_or_zero (slice_get es n) ≡ found_addr es (cond b (Some n) None)
 at_first es n true within = refl
-at_first es n false past = ap steps.addr_of (slice_get_past es n (ltb-false _ _ past))
+at_first es n false past = ap steps.element_addr_or_zero (slice_get_past es n (ltb-false _ _ past))
 
 pub found_addr_is : (test : ℕ → Bool) (es : List Element)
     → blocks.found_addr (find (λ (x : ListElement). test x.datum) (map element_row es)) ≡ found_addr es
     (position (λ (e : Element). test e.datum) es)
 found_addr_is test es =
     let p = λ (e : Element). test e.datum in
-    ap blocks.found_addr (find_is test es) ∙ same_addr (find p es) ∙ ap steps.addr_of (find_at p es)
+    ap blocks.found_addr (find_is test es) ∙ same_addr (find p es) ∙ ap steps.element_addr_or_zero (find_at p es)
     ∙ at_first es (position_or_len p es) (nat_lt (position_or_len p es) (length es)) refl

@@ -11,7 +11,7 @@ use Rattle.std.specs.declared.cmp.Ordering.TheVariants.{Less, Equal, Greater}
 use Rattle.std.proofs.lemmas.Bool.Decides.{nat_tests}
 use Rattle.sdr_model.specs.Valid.{FitTogether, HasBytes, HasSubject}
 use Rattle.sdr_model.specs.World.{World, as_raw, thing_at}
-use Rattle.sdr_model.specs.Zco.{as_source, is_of_raw, names_raw, source_on}
+use Rattle.sdr_model.specs.Zco.{as_source, is_of_raw, names_raw, source_naming}
 use Rattle.sdr_model.specs.declared.things.Thing.{Thing}
 use Rattle.sdr_model.specs.declared.things.Thing.TheVariants as things
 use Rattle.sdr_model.specs.declared.zco.Subject.{Subject}
@@ -76,7 +76,7 @@ pub record Names (w : World) (raw addr : ℕ) : Type 0 where
   pub named : is_of_raw raw source.subject ≡ true
 
 -- the source that names a raw object is there
-pub source_there : (w : World) (raw addr : ℕ) → source_on w raw ≡ Some addr → Names w raw addr
+pub source_there : (w : World) (raw addr : ℕ) → source_naming w raw ≡ Some addr → Names w raw addr
 source_there w raw addr is = by (find (λ e. names_raw raw e.1) (finite.entries w.things)) refl is
   where
     of : (k : ℕ) (t : Thing) → names_raw raw t ≡ true → thing_at w k ≡ Some t → Names w raw k
@@ -94,8 +94,8 @@ source_there w raw addr is = by (find (λ e. names_raw raw e.1) (finite.entries 
         e found))
 
 -- no source names a raw object where nothing is
-pub none_named : (w : World) (raw : ℕ) → FitTogether w → thing_at w raw ≡ None → source_on w raw ≡ None
-none_named w raw fits none = by (source_on w raw) refl
+pub none_named : (w : World) (raw : ℕ) → FitTogether w → thing_at w raw ≡ None → source_naming w raw ≡ None
+none_named w raw fits none = by (source_naming w raw) refl
   where
     no_raw : (bytes a : ℕ) → (a == raw) ≡ true → HasBytes bytes (as_raw (thing_at w a)) → ⊥
     no_raw bytes a named has =
@@ -108,7 +108,7 @@ none_named w raw fits none = by (source_on w raw) refl
     no_subject bytes (subjects.File path) named has = true≢false (sym named)
     no_subject bytes (subjects.Bulk item) named has = true≢false (sym named)
 
-    by : (o : Option ℕ) → source_on w raw ≡ o → source_on w raw ≡ None
+    by : (o : Option ℕ) → source_naming w raw ≡ o → source_naming w raw ≡ None
     by None is = is
     by (Some addr) is =
         let n = source_there w raw addr is in

@@ -8,7 +8,7 @@ use Rattle.std.specs.FinMap as finite
 use Rattle.std.specs.List.{AllByRecursion, list_any}
 use Rattle.std.specs.Option.{option_map, option_or}
 use Rattle.sdr_audit.proofs.ShapeLemmas.{told}
-use Rattle.sdr_audit.specs.Shape.{told_of}
+use Rattle.sdr_audit.specs.Shape.{shape_of}
 use Rattle.sdr_audit.specs.Standing.{HeapStandsFor}
 use Rattle.sdr_base.specs.Blocks as base
 use Rattle.sdr_base.specs.Blocks.{IsKind, kind_length}
@@ -20,14 +20,14 @@ use Rattle.sdr_base.specs.declared.refusal.Refusal.{Refusal}
 use Rattle.sdr_base.specs.declared.refusal.Refusal.TheVariants as refusals
 use Rattle.sdr_base.specs.declared.stop.Stop.TheVariants as stops
 use Rattle.sdr_laws.proofs.FoundLemmas.{blocks_are_found}
-use Rattle.sdr_model.specs.Accounts.{ticket_block, ticket_blocks}
+use Rattle.sdr_model.specs.Accounts.{block_for_ticket, ticket_blocks}
 use Rattle.sdr_model.specs.Blocks.{addresses_of, blocks_of}
-use Rattle.sdr_model.specs.Things.{block_among, capsule_block, element_block, entry_block, extent_block, inner_among, inner_blocks, name_block, object_blocks, own_block}
+use Rattle.sdr_model.specs.Things.{block_among, block_for_capsule, block_for_element, entry_block, block_for_extent, inner_among, inner_blocks, block_for_name, object_blocks, own_block}
 use Rattle.sdr_model.specs.Valid.{IsValid}
 use Rattle.sdr_model.specs.World.{World, block_at, misnamed, refusal_for, thing_at}
 use Rattle.sdr_model.specs.declared.accounts.Ticket.{Ticket}
 use Rattle.sdr_model.specs.declared.name.Name.{Name}
-use Rattle.sdr_model.specs.declared.things.Block.{Block}
+use Rattle.sdr_model.specs.declared.things.UsedBlock.{UsedBlock}
 use Rattle.sdr_model.specs.declared.things.Thing.{Thing}
 use Rattle.sdr_model.specs.declared.things.Thing.TheVariants as things
 use Rattle.sdr_model.specs.declared.zco.Capsule.{Capsule}
@@ -46,19 +46,20 @@ is_own kinds.Object = true
 is_own kind = false
 
 -- the block at an address beside those of things: a name's or a ticket's
-abbrev pub loose_block : World → ℕ → Option Block
-loose_block w addr = option_or (block_among addr (map name_block w.names)) (block_among addr (ticket_blocks w.accounts))
+abbrev pub loose_block : World → ℕ → Option UsedBlock
+loose_block w addr = option_or (block_among addr (map block_for_name w.names))
+    (block_among addr (ticket_blocks w.accounts))
 
 -- the block at an address that is no thing's own
-abbrev pub inner_block : World → ℕ → Option Block
+abbrev pub inner_block : World → ℕ → Option UsedBlock
 inner_block w addr = option_or (inner_among addr (finite.entries w.things)) (loose_block w addr)
 
 -- what holds of each block that may be found
-module _ (P : Block → Type 0) where
-  abbrev pub Finds : Option Block → Type 0
-  Finds o = (b : Block) → o ≡ Some b → P b
+module _ (P : UsedBlock → Type 0) where
+  abbrev pub Finds : Option UsedBlock → Type 0
+  Finds o = (b : UsedBlock) → o ≡ Some b → P b
 
-  pub found_all : (addr : ℕ) (bs : List Block) → AllByRecursion P bs → Finds (block_among addr bs)
+  pub found_all : (addr : ℕ) (bs : List UsedBlock) → AllByRecursion P bs → Finds (block_among addr bs)
   found_all addr [] all b is = absurd cc
   found_all addr (x ∷ xs) all b is = step (found_all addr xs all.1 b) (x.addr == addr) is
     where
@@ -66,43 +67,45 @@ module _ (P : Block → Type 0) where
       step rest true here = let same : x ≡ b = cc in subst P same all.0
       step rest false here = rest here
 
-  pub or_finds : (o r : Option Block) → Finds o → Finds r → Finds (option_or o r)
+  pub or_finds : (o r : Option UsedBlock) → Finds o → Finds r → Finds (option_or o r)
   or_finds None r first second = second
   or_finds (Some x) r first second = first
 
-  pub all_of : {X : Type 0} (f : X → Block) → ((x : X) → P (f x)) → (xs : List X) → AllByRecursion P (map f xs)
+  pub all_of : {X : Type 0} (f : X → UsedBlock) → ((x : X) → P (f x)) → (xs : List X) → AllByRecursion P (map f xs)
   all_of f each [] = tt
   all_of f each (x ∷ xs) = (each x, all_of f each xs)
 
-  pub all_both : (xs ys : List Block) → AllByRecursion P xs → AllByRecursion P ys → AllByRecursion P (xs ++ ys)
+  pub all_both : (xs ys : List UsedBlock) → AllByRecursion P xs → AllByRecursion P ys → AllByRecursion P (xs ++ ys)
   all_both [] ys first second = second
   all_both (x ∷ xs) ys first second = (first.0, all_both xs ys first.1 second)
 
   -- it holds of the blocks of names and tickets
-  pub loose_all : (w : World) (addr : ℕ) → ((n : Name) → P (name_block n)) → ((t : Ticket) → P (ticket_block t))
+  pub loose_all : (w : World) (addr : ℕ) → ((n : Name) → P (block_for_name n)) → ((t : Ticket) → P (block_for_ticket t))
       → Finds (loose_block w addr)
   loose_all w addr name ticket =
-      or_finds (block_among addr (map name_block w.names)) (block_among addr (ticket_blocks w.accounts))
-      (found_all addr (map name_block w.names) (all_of name_block name w.names))
-      (found_all addr (ticket_blocks w.accounts) (all_both (map ticket_block w.accounts.inbound.tickets)
-      (map ticket_block w.accounts.outbound.tickets)
-      (all_of ticket_block ticket w.accounts.inbound.tickets) (all_of ticket_block ticket w.accounts.outbound.tickets)))
+      or_finds (block_among addr (map block_for_name w.names)) (block_among addr (ticket_blocks w.accounts))
+      (found_all addr (map block_for_name w.names) (all_of block_for_name name w.names))
+      (found_all addr (ticket_blocks w.accounts) (all_both (map block_for_ticket w.accounts.inbound.tickets)
+      (map block_for_ticket w.accounts.outbound.tickets)
+      (all_of block_for_ticket ticket w.accounts.inbound.tickets)
+          (all_of block_for_ticket ticket w.accounts.outbound.tickets)))
 
   -- and of those of the inside of an object
-  pub object_all : (z : ZcoObject) → ((c : Capsule) → P (capsule_block c)) → ((e : Extent) → P (extent_block e))
+  pub object_all : (z : ZcoObject) → ((c : Capsule) → P (block_for_capsule c)) → ((e : Extent) → P (block_for_extent e))
       → AllByRecursion P (object_blocks z)
   object_all z capsule extent =
-      all_both (map capsule_block z.headers ++ map extent_block z.extents) (map capsule_block z.trailers)
-      (all_both (map capsule_block z.headers) (map extent_block z.extents) (all_of capsule_block capsule z.headers)
-      (all_of extent_block extent z.extents))
-      (all_of capsule_block capsule z.trailers)
+      all_both (map block_for_capsule z.headers ++ map block_for_extent z.extents) (map block_for_capsule z.trailers)
+      (all_both (map block_for_capsule z.headers) (map block_for_extent z.extents)
+          (all_of block_for_capsule capsule z.headers)
+      (all_of block_for_extent extent z.extents))
+      (all_of block_for_capsule capsule z.trailers)
 
 -- a block is no thing's own
-abbrev IsInner : Block → Type 0
+abbrev IsInner : UsedBlock → Type 0
 IsInner b = is_own b.kind ≡ false
 
 all_inner : (thing : Thing) → AllByRecursion IsInner (inner_blocks thing)
-all_inner (things.List row) = all_of IsInner element_block (λ e. refl) row.elements
+all_inner (things.List row) = all_of IsInner block_for_element (λ e. refl) row.elements
 all_inner (things.Hash hash) = all_of IsInner entry_block (λ e. refl) hash.entries
 all_inner (things.Object z) = object_all IsInner z (λ c. refl) (λ e. refl)
 all_inner thing = tt
@@ -120,7 +123,7 @@ pub record ThingAt (w : World) (addr : ℕ) (kind : Kind) : Type 0 where
   pub kind_is : (own_block addr thing).kind ≡ kind
 
 -- a block of a kind that things' own blocks have is a thing's own
-own_block_at : (w : World) (addr : ℕ) (b : Block) → block_at w addr ≡ Some b → is_own b.kind ≡ true → ThingAt w addr b.kind
+own_block_at : (w : World) (addr : ℕ) (b : UsedBlock) → block_at w addr ≡ Some b → is_own b.kind ≡ true → ThingAt w addr b.kind
 own_block_at w addr b is own = by (thing_at w addr) refl is
   where
     others : Finds IsInner (inner_block w addr)
@@ -133,12 +136,12 @@ own_block_at w addr b is own = by (thing_at w addr) refl is
     by None at here = absurd (true≢false (sym own ∙ others b here))
     by (Some thing) at here =
         let same : own_block addr thing ≡ b = cc in
-        record { thing = thing; there = at; kind_is = ap (λ (x : Block). x.kind) same }
+        record { thing = thing; there = at; kind_is = ap (λ (x : UsedBlock). x.kind) same }
 
 -- the block in use at an address is the world's
 pub block_told : (heap : Heap) (w : World) (addr : ℕ) → HeapStandsFor heap w → IsValid w
-    → kind_length (heap.blocks addr) ≡ told_of (block_at w addr)
-block_told heap w addr s valid = told heap.blocks w addr s.blocks valid ∙ ap told_of (sym (blocks_are_found w addr valid))
+    → kind_length (heap.blocks addr) ≡ shape_of (block_at w addr)
+block_told heap w addr s valid = told heap.blocks w addr s.blocks valid ∙ ap shape_of (sym (blocks_are_found w addr valid))
 
 -- the kind that was told, and the bytes
 abbrev kind_in : Option (Kind × ℕ) → Kind
@@ -146,18 +149,18 @@ kind_in None = kinds.Raw
 kind_in (Some told) = told.0
 
 -- the block in use has the kind of the world's
-pub kind_told : (found : Option base.Block) (b : Block) → kind_length found ≡ Some (b.kind, b.bytes) → IsKind found b.kind
+pub kind_told : (found : Option base.Block) (b : UsedBlock) → kind_length found ≡ Some (b.kind, b.bytes) → IsKind found b.kind
 kind_told None b same = absurd cc
 kind_told (Some block) b same = ap kind_in same
 
 -- and where there is one, there is the world's
 pub block_of_kind : (heap : Heap) (w : World) (addr : ℕ) (kind : Kind) → HeapStandsFor heap w → IsValid w
     → IsKind (heap.blocks addr) kind
-    → (b : Block) × (block_at w addr ≡ Some b) × (b.kind ≡ kind)
+    → (b : UsedBlock) × (block_at w addr ≡ Some b) × (b.kind ≡ kind)
 block_of_kind heap w addr kind s valid is = by (heap.blocks addr) (block_at w addr) refl (block_told heap w addr s valid) is
   where
-    by : (found : Option base.Block) (o : Option Block) → block_at w addr ≡ o → kind_length found ≡ told_of o → IsKind found kind
-        → (b : Block) × (block_at w addr ≡ Some b) × (b.kind ≡ kind)
+    by : (found : Option base.Block) (o : Option UsedBlock) → block_at w addr ≡ o → kind_length found ≡ shape_of o → IsKind found kind
+        → (b : UsedBlock) × (block_at w addr ≡ Some b) × (b.kind ≡ kind)
     by None o at same is = absurd is
     by (Some block) None at same is = absurd cc
     by (Some block) (Some b) at same is = (b, at, sym (ap kind_in same) ∙ is)
@@ -175,7 +178,7 @@ pub own_in_use : (heap : Heap) (w : World) (addr : ℕ) (thing : Thing) → Heap
     → IsKind (heap.blocks addr) (own_block addr thing).kind
 own_in_use heap w addr thing s valid there =
     kind_told (heap.blocks addr) (own_block addr thing)
-    (block_told heap w addr s valid ∙ ap (λ o. told_of (option_or (option_map (own_block addr) o) (inner_block w addr))) there)
+    (block_told heap w addr s valid ∙ ap (λ o. shape_of (option_or (option_map (own_block addr) o) (inner_block w addr))) there)
 
 -- the address of what isn't of a kind is refused
 pub missed : (heap : Heap) (w : World) (addr : ℕ) (kind : Kind) (refusal : Refusal) → HeapStandsFor heap w → IsValid w
@@ -183,7 +186,7 @@ pub missed : (heap : Heap) (w : World) (addr : ℕ) (kind : Kind) (refusal : Ref
     → (¬ IsKind (heap.blocks addr) kind) × (refusal ≡ misnamed w addr)
 missed heap w addr kind refusal s valid = by (heap.blocks addr) (block_at w addr) refusal (block_told heap w addr s valid)
   where
-    by : (found : Option base.Block) (b : Option Block) (r : Refusal) → kind_length found ≡ told_of b
+    by : (found : Option base.Block) (b : Option UsedBlock) (r : Refusal) → kind_length found ≡ shape_of b
         → Misses found addr kind (stops.Refused r)
         → (¬ IsKind found kind) × (r ≡ refusal_for addr b)
     by None None (refusals.BadAddress bad) same m = (λ is. is, ap (λ a. refusals.BadAddress a) m.0)
@@ -201,12 +204,13 @@ pub no_block : (heap : Heap) (w : World) (addr : ℕ) → HeapStandsFor heap w �
     → block_at w addr ≡ None
 no_block heap w addr s valid none = untold (block_at w addr) (sym (ap kind_length none) ∙ block_told heap w addr s valid)
   where
-    untold : (o : Option Block) → None ≡ told_of o → o ≡ None
+    untold : (o : Option UsedBlock) → None ≡ shape_of o → o ≡ None
     untold None is = refl
     untold (Some b) is = absurd cc
 
 -- no address is listed where no block begins
-unlisted : (addr : ℕ) (bs : List Block) → block_among addr bs ≡ None → list_any (nat_eq addr) (addresses_of bs) ≡ false
+unlisted : (addr : ℕ) (bs : List UsedBlock) → block_among addr bs ≡ None → list_any (nat_eq addr) (addresses_of bs)
+    ≡ false
 unlisted addr [] none = refl
 unlisted addr (b ∷ bs) none = step (unlisted addr bs) (b.addr == addr) refl none
   where
@@ -222,11 +226,11 @@ unlisted addr (b ∷ bs) none = step (unlisted addr bs) (b.addr == addr) refl no
 pub none_of : (heap : Heap) (w : World) (addr : ℕ) → HeapStandsFor heap w → IsValid w → heap.blocks addr ≡ None
     → ¬ Contains (addresses_of (blocks_of w)) addr
 none_of heap w addr s valid none listed =
-    let no : None ≡ told_of (block_among addr (blocks_of w)) = sym (ap kind_length none) ∙ told heap.blocks w addr s.blocks valid
+    let no : None ≡ shape_of (block_among addr (blocks_of w)) = sym (ap kind_length none) ∙ told heap.blocks w addr s.blocks valid
     in
     true≢false (sym (list_any-from_Contains nat_eq_equiv addr (addresses_of (blocks_of w)) listed)
     ∙ unlisted addr (blocks_of w) (untold (block_among addr (blocks_of w)) no))
   where
-    untold : (o : Option Block) → None ≡ told_of o → o ≡ None
+    untold : (o : Option UsedBlock) → None ≡ shape_of o → o ≡ None
     untold None is = refl
     untold (Some b) is = absurd cc

@@ -8,7 +8,7 @@ use Rattle.sdr_answers.proofs.ListReading.{element_missed, list_missed}
 use Rattle.sdr_answers.proofs.RowLemmas.{Moved, full_refused, gave_back, gave_takes, marks_none, moved_nothing, short_refused, thing_changed, thing_made, thing_went, took_one}
 use Rattle.sdr_answers.proofs.SortingLemmas.{order_is, ordered_place_is}
 use Rattle.sdr_answers.proofs.SpotLemmas.{IsSpotAt, spot_is_at}
-use Rattle.sdr_answers.specs.Answering.{Aim, Answered, IsRefused, IsServed}
+use Rattle.sdr_answers.specs.Answering.{Aim, Answered, IsRefused, IsReady}
 use Rattle.sdr_answers.specs.Sorting.{Sorts}
 use Rattle.sdr_audit.specs.Rows.{element_row, list_row}
 use Rattle.sdr_audit.specs.Standing.{HeapStandsFor, with_taken_marked}
@@ -27,8 +27,8 @@ use Rattle.sdr_list.specs.Calls.{ChangeStops, DeletesElement, InsertStops, Inser
 use Rattle.sdr_list.specs.Destroying.{DestroyStops, DestroysList}
 use Rattle.sdr_list.specs.Kept.{with_datum, with_element, without_element}
 use Rattle.sdr_list.specs.Orders as blocks
-use Rattle.sdr_list.specs.Preorders.{order_of}
-use Rattle.sdr_list.specs.declared.orders.Keys.{Keys as Order}
+use Rattle.sdr_list.specs.Preorders.{key_order}
+use Rattle.sdr_list.specs.declared.orders.ListKeys.{ListKeys as Order}
 use Rattle.sdr_lock.proofs.WorkLemmas.{on_some}
 use Rattle.sdr_model.specs.ListSteps as steps
 use Rattle.sdr_model.specs.ListSteps.{Inserts, as_list}
@@ -62,7 +62,7 @@ inserts_row : (w : World) (list : ℕ) (row : SdrList) (place datum addr : ℕ)
 inserts_row w list row place datum addr = (refl, (refl, refl))
 
 -- a call on a heap that stands for a world in which it is served
-module _ (old new : Heap) (w : World) (unmoved : old.moves ≡ []) (s : HeapStandsFor old w) (served : IsServed w)
+module _ (old new : Heap) (w : World) (unmoved : old.moves ≡ []) (s : HeapStandsFor old w) (served : IsReady w)
     (small : IsSmall old) where
   -- a list became another, by moves that take nothing
   list_becomes : (call : Call) (list : ℕ) (row other : SdrList) (moves : List Move) → taken_addresses moves ≡ []
@@ -158,10 +158,10 @@ module _ (old new : Heap) (w : World) (unmoved : old.moves ≡ []) (s : HeapStan
 
   -- the place of an element in order
   pub ordered_answered : (list datum : ℕ) (keys : Keys) (order : Order) (addr : ℕ) → Sorts keys order
-      → InsertsInList list (blocks.ordered_place (order_of order) old.blocks datum) datum addr old new
+      → InsertsInList list (blocks.ordered_place (key_order order) old.blocks datum) datum addr old new
       → Answered w (calls.InsertOrdered list datum keys) new [] (replies.At addr)
   ordered_answered list datum keys order addr sorts inserts =
-      inserted_in (calls.InsertOrdered list datum keys) list (blocks.ordered_place (order_of order) old.blocks datum)
+      inserted_in (calls.InsertOrdered list datum keys) list (blocks.ordered_place (key_order order) old.blocks datum)
       (steps.ordered_place w (steps.compare_keys keys) datum) datum addr (λ o h. h) inserts
       (λ row. ap (λ by. blocks.ordered_place by old.blocks datum (list_row row)) (order_is keys order sorts)
       ∙ ordered_place_is old w (steps.compare_keys keys) datum row s served.whole.valid)

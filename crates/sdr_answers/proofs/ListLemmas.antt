@@ -4,7 +4,7 @@ use Rattle.std.specs.Prelude.{All, IfSome}
 use Rattle.std.proofs.lemmas.List.{length-append, length-map}
 use Rattle.std.proofs.lemmas.List.Elements.{All-map}
 use Rattle.sdr_answers.proofs.KindLemmas.{own_in_use, thing_is_at}
-use Rattle.sdr_answers.specs.Answering.{IsServed}
+use Rattle.sdr_answers.specs.Answering.{IsReady}
 use Rattle.sdr_audit.proofs.ChangeLemmas.{apart}
 use Rattle.sdr_audit.specs.Rows.{element_row, list_row}
 use Rattle.sdr_audit.specs.Standing.{HeapStandsFor}
@@ -79,7 +79,7 @@ own_list addr (things.List row) is = (row, refl)
 own_list addr thing is = absurd cc
 
 -- a block in use of the kind of lists is a list's
-pub list_is_at : (heap : Heap) (w : World) (list : ℕ) → HeapStandsFor heap w → IsServed w → IsSmall heap
+pub list_is_at : (heap : Heap) (w : World) (list : ℕ) → HeapStandsFor heap w → IsReady w → IsSmall heap
     → IsKind (heap.blocks list) kinds.List
     → IsListAt heap w list
 list_is_at heap w list s served small kind =
@@ -99,7 +99,7 @@ no_list heap w list s valid other = by (thing_at w list) refl
     by (Some thing) at = refl
 
 -- as many elements as its block tells are the world's at least
-pub elements_told : (heap : Heap) (w : World) (list : ℕ) → HeapStandsFor heap w → IsServed w → IsSmall heap
+pub elements_told : (heap : Heap) (w : World) (list : ℕ) → HeapStandsFor heap w → IsReady w → IsSmall heap
     → elements_in (heap.blocks list) ≤ length (moves.elements_in (as_list (thing_at w list)))
 elements_told heap w list s served small = by (heap.blocks list) refl
   where

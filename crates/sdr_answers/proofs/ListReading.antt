@@ -6,7 +6,7 @@ use Rattle.sdr_answers.proofs.ListLemmas.{IsSmall, list_is_at, no_list}
 use Rattle.sdr_answers.proofs.RowLemmas.{looked, misnamed_refused}
 use Rattle.sdr_answers.proofs.SortingLemmas.{equal_addr_is, order_is}
 use Rattle.sdr_answers.proofs.SpotLemmas.{IsSpotAt, no_spot, spot_is_at}
-use Rattle.sdr_answers.specs.Answering.{Answered, IsRefused, IsServed}
+use Rattle.sdr_answers.specs.Answering.{Answered, IsRefused, IsReady}
 use Rattle.sdr_answers.specs.Sorting.{Sorts}
 use Rattle.sdr_audit.specs.Rows.{element_row, list_row}
 use Rattle.sdr_audit.specs.Standing.{HeapStandsFor}
@@ -19,13 +19,13 @@ use Rattle.sdr_base.specs.declared.stop.Stop.TheVariants as stops
 use Rattle.sdr_list.specs.Calls.{TellsOfElement, TellsOfList}
 use Rattle.sdr_list.specs.Kept.{Spot as Place, addr_before, addr_from}
 use Rattle.sdr_list.specs.Orders as blocks
-use Rattle.sdr_list.specs.Preorders.{order_of}
-use Rattle.sdr_list.specs.declared.orders.Keys.{Keys as Order}
+use Rattle.sdr_list.specs.Preorders.{key_order}
+use Rattle.sdr_list.specs.declared.orders.ListKeys.{ListKeys as Order}
 use Rattle.sdr_model.specs.ListSteps as steps
 use Rattle.sdr_model.specs.ListSteps.{as_list, datum_at, datum_of, element_addr, last_addr}
 use Rattle.sdr_model.specs.Rows.{ByRow}
 use Rattle.sdr_model.specs.Step.{is_answer}
-use Rattle.sdr_model.specs.Steps.{On, Outcome, Reads}
+use Rattle.sdr_model.specs.Steps.{On, Outcome, ReadsBytes}
 use Rattle.sdr_model.specs.Things.{Spot}
 use Rattle.sdr_model.specs.World.{World, spot_of, thing_at}
 use Rattle.sdr_model.specs.declared.answer.Reply.{Reply}
@@ -36,11 +36,12 @@ use Rattle.sdr_model.specs.declared.keys.Keys.{Keys}
 use Rattle.sdr_model.specs.declared.things.SdrList.{SdrList}
 
 -- a call on a heap that stands for a world in which it is served
-module _ (old new : Heap) (w : World) (unmoved : old.moves ≡ []) (s : HeapStandsFor old w) (served : IsServed w)
+module _ (old new : Heap) (w : World) (unmoved : old.moves ≡ []) (s : HeapStandsFor old w) (served : IsReady w)
     (small : IsSmall old) where
   -- a number that was read off a list is the machine's
   list_told : (call : Call) (list value : ℕ) (of : ListRow → ℕ) (is : SdrList → ℕ) (say : ℕ → Reply) → new ≡ old
-      → ((o : Outcome) → On w o list (as_list (thing_at w list)) (λ row. Reads w o [] (say (is row))) → ByRow w o call)
+      → ((o : Outcome) → On w o list (as_list (thing_at w list)) (λ row. ReadsBytes w o [] (say (is row))) →
+          ByRow w o call)
       → TellsOfList list of old.blocks value → ((row : SdrList) → of (list_row row) ≡ is row) → is_answer (say value) ≡ true
       → Answered w call new [] (say value)
   list_told call list value of is say same row told alike answered =
@@ -51,7 +52,8 @@ module _ (old new : Heap) (w : World) (unmoved : old.moves ≡ []) (s : HeapStan
 
   -- and so is one that was read off an element
   element_told : (call : Call) (element value : ℕ) (of : Place → ℕ) (is : Spot → ℕ) (say : ℕ → Reply) → new ≡ old
-      → ((o : Outcome) → On w o element (spot_of w element) (λ spot. Reads w o [] (say (is spot))) → ByRow w o call)
+      → ((o : Outcome) → On w o element (spot_of w element) (λ spot. ReadsBytes w o [] (say (is spot))) →
+          ByRow w o call)
       → TellsOfElement element of old.blocks value
       → ((e : IsSpotAt old w element)
       → of (record { list = e.spot.list; row = list_row e.spot.row; place = e.spot.place; datum = e.datum }) ≡ is e.spot)
@@ -89,10 +91,10 @@ module _ (old new : Heap) (w : World) (unmoved : old.moves ≡ []) (s : HeapStan
       (λ o h. h) told (λ row. last_addr_is row.elements) refl
 
   pub search_answered : (list datum : ℕ) (keys : Keys) (order : Order) (addr : ℕ) → new ≡ old → Sorts keys order
-      → TellsOfList list (blocks.equal_addr (order_of order) old.blocks datum) old.blocks addr
+      → TellsOfList list (blocks.equal_addr (key_order order) old.blocks datum) old.blocks addr
       → Answered w (calls.Search list datum keys) new [] (replies.At addr)
   search_answered list datum keys order addr same sorts told =
-      list_told (calls.Search list datum keys) list addr (blocks.equal_addr (order_of order) old.blocks datum)
+      list_told (calls.Search list datum keys) list addr (blocks.equal_addr (key_order order) old.blocks datum)
       (steps.equal_addr w (steps.compare_keys keys) datum) (λ n. replies.At n) same (λ o h. h) told
       (λ row. ap (λ by. blocks.equal_addr by old.blocks datum (list_row row)) (order_is keys order sorts)
       ∙ equal_addr_is old w (steps.compare_keys keys) datum row s served.whole.valid) refl

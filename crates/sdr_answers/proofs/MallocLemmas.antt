@@ -12,7 +12,7 @@ use Rattle.sdr_base.specs.declared.moves.Move.TheVariants.{Took}
 use Rattle.sdr_base.specs.declared.refusal.Refusal.{Refusal}
 use Rattle.sdr_base.specs.declared.refusal.Refusal.TheVariants as refusals
 use Rattle.sdr_base.specs.declared.stop.Stop.TheVariants as stops
-use Rattle.sdr_heap.specs.Raw.{MallocStops, Makes}
+use Rattle.sdr_heap.specs.Raw.{MallocStops, MakesRaw}
 use Rattle.sdr_lock.proofs.WorkLemmas.{on_false, on_true}
 use Rattle.sdr_model.specs.Limits.{longest_raw}
 use Rattle.sdr_model.specs.Rows.{ByRow}
@@ -43,7 +43,7 @@ malloc_row w bytes addr short =
     on_false _ _ _ fits (refl, (refl, refl))
 
 -- a raw object was made
-pub malloc_answered : (bytes addr : ℕ) (old new : Heap) (w : World) → old.moves ≡ [] → Makes bytes addr old new
+pub malloc_answered : (bytes addr : ℕ) (old new : Heap) (w : World) → old.moves ≡ [] → MakesRaw bytes addr old new
     → HeapStandsFor old w → IsWhole w → Answered w (calls.Malloc bytes) new [] (replies.At addr)
 malloc_answered bytes addr old new w unmoved makes stands whole =
     let t = makes.taken in

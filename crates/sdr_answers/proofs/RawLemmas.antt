@@ -7,7 +7,7 @@ use Rattle.sdr_audit.specs.Standing.{HeapStandsFor}
 use Rattle.sdr_audit.specs.Ties.{ties_of}
 use Rattle.sdr_base.specs.Blocks as base
 use Rattle.sdr_base.specs.Blocks.{IsKind}
-use Rattle.sdr_base.specs.Entries.{Stands}
+use Rattle.sdr_base.specs.Entries.{BlocksAre}
 use Rattle.sdr_base.specs.Making.{MakesThing, besides}
 use Rattle.sdr_base.specs.Objects.{Heap, TakesZeros}
 use Rattle.sdr_base.specs.Parts.{overwrite, part}
@@ -62,7 +62,7 @@ zeros_made bytes addr old new t =
         fresh = t.fresh;
         changes = record {
           kept = λ rest s.
-              subst (λ (b : base.Blocks). Stands b ((addr, record { kind = kinds.Raw; bytes = replicate (8 + bytes) 0 }) ∷ rest))
+              subst (λ (b : base.Blocks). BlocksAre b ((addr, record { kind = kinds.Raw; bytes = replicate (8 + bytes) 0 }) ∷ rest))
               (sym (ap (λ (h : Heap). h.blocks) t.taken))
               (came old.blocks addr (record { kind = kinds.Raw; bytes = replicate (8 + bytes) 0 }) [] rest t.nonzero t.fresh s);
         };

@@ -3,7 +3,7 @@ use Rattle.std.proofs.Common.{◌≡◌, ◌∙◌, ◌≤◌, ◌<◌, ◌+◌,
 use Rattle.std.proofs.lemmas.Bool.Decides.{nat_tests}
 use Rattle.std.proofs.lemmas.List.Folds.{list_any-append}
 use Rattle.std.specs.List.{list_any}
-use Rattle.sdr_audit.specs.Shape.{told_of}
+use Rattle.sdr_audit.specs.Shape.{shape_of}
 use Rattle.sdr_audit.specs.Standing.{HeapStandsFor}
 use Rattle.sdr_audit.specs.Ties.{ties_of}
 use Rattle.sdr_base.specs.Blocks as base
@@ -20,12 +20,12 @@ use Rattle.sdr_heap.specs.Raw.{Exceeds, HasRoom, HasTold, IsMissing, MissesRaw, 
 use Rattle.sdr_lock.proofs.WorkLemmas.{on_false, on_none, on_some, on_true}
 use Rattle.sdr_model.specs.Limits.{longest_read}
 use Rattle.sdr_model.specs.RawSteps.{length_as}
-use Rattle.sdr_model.specs.Steps.{On, Outcome, Reads, Refuses}
+use Rattle.sdr_model.specs.Steps.{On, Outcome, ReadsBytes, Refuses}
 use Rattle.sdr_model.specs.Whole.{IsWhole}
 use Rattle.sdr_model.specs.World.{World, as_raw, block_at, misnamed, refusal_for, thing_at}
 use Rattle.sdr_model.specs.declared.answer.Reply.TheVariants as replies
 use Rattle.sdr_model.specs.declared.call.Call.TheVariants as calls
-use Rattle.sdr_model.specs.declared.things.Block.{Block}
+use Rattle.sdr_model.specs.declared.things.UsedBlock.{UsedBlock}
 use Rattle.sdr_model.specs.declared.things.Thing.TheVariants as things
 use Rattle.sdr_answers.proofs.KindLemmas.{block_told, missed, no_block}
 use Rattle.sdr_answers.proofs.RawLemmas.{IsRawAt, length_of_raw, no_raw, part_of_raw, raw_is_at}
@@ -74,9 +74,9 @@ length_answered addr value old new w unmoved same told s whole =
     count_in None = 0
     count_in (Some told) = told.1
 
-    by : (found : Option base.Block) (b : Option Block) → kind_length found ≡ told_of b → HasTold found value
+    by : (found : Option base.Block) (b : Option UsedBlock) → kind_length found ≡ shape_of b → HasTold found value
         → MatchOption b (Refuses w (told_of_length w value) (misnamed w addr))
-        (λ b. Reads w (told_of_length w value) [] (replies.Value (length_as b.kind b.bytes)))
+        (λ b. ReadsBytes w (told_of_length w value) [] (replies.Value (length_as b.kind b.bytes)))
     by None b same is = absurd is
     by (Some block) None same is = absurd cc
     by (Some block) (Some b) same is = (

@@ -24,7 +24,7 @@ use Rattle.sdr_model.specs.Fields.{IsWord}
 use Rattle.sdr_model.specs.Reading.{is_reading}
 use Rattle.sdr_model.specs.Rows.{ByRow}
 use Rattle.sdr_model.specs.Step.{is_answer}
-use Rattle.sdr_model.specs.Steps.{On, Outcome, Reads, gave, taken_addresses, with_thing, without_thing}
+use Rattle.sdr_model.specs.Steps.{On, Outcome, ReadsBytes, gave, taken_addresses, with_thing, without_thing}
 use Rattle.sdr_model.specs.Valid.{IsValid}
 use Rattle.sdr_model.specs.World.{World, thing_at}
 use Rattle.sdr_model.specs.declared.answer.Reply.{Reply}
@@ -58,7 +58,7 @@ unmoved_answered w after call new shown reply none row answered stands gave take
 -- a call that reads what it names was answered
 pub looked : {X : Type 0} (w : World) (call : Call) (addr : ℕ) (named : Option X) (bytes : X → List ℕ) (say : X
     → Reply) (x : X) (old new : Heap) (reply : Reply)
-    → ((o : Outcome) → On w o addr named (λ y. Reads w o (bytes y) (say y)) → ByRow w o call) → named ≡ Some x → reply ≡ say x
+    → ((o : Outcome) → On w o addr named (λ y. ReadsBytes w o (bytes y) (say y)) → ByRow w o call) → named ≡ Some x → reply ≡ say x
     → is_answer reply ≡ true → old.moves ≡ [] → new ≡ old → HeapStandsFor old w → Answered w call new (bytes x) reply
 looked w call addr named bytes say x old new reply row is told answered unmoved same s =
     unmoved_answered w (record w { shown = bytes x }) call new (bytes x) reply (ap (λ (h : Heap). h.moves) same ∙ unmoved)

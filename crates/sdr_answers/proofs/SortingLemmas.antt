@@ -15,10 +15,10 @@ use Rattle.sdr_base.specs.declared.kind.Kind.TheVariants as kinds
 use Rattle.sdr_list.proofs.KeyLemmas.{key-raw}
 use Rattle.sdr_list.specs.Orders as blocks
 use Rattle.sdr_list.specs.Orders.{if_raw, key_in}
-use Rattle.sdr_list.specs.Preorders.{order_of}
-use Rattle.sdr_list.specs.declared.orders.Keys.{Keys as Order}
+use Rattle.sdr_list.specs.Preorders.{key_order}
+use Rattle.sdr_list.specs.declared.orders.ListKeys.{ListKeys as Order}
 use Rattle.sdr_model.specs.ListSteps as steps
-use Rattle.sdr_model.specs.ListSteps.{KeyOrder, bytes_of, compare_keys, equal_addr, ordered_place, sort_key}
+use Rattle.sdr_model.specs.ListSteps.{KeyOrder, sort_bytes, compare_keys, equal_addr, ordered_place, sort_key}
 use Rattle.sdr_model.specs.Valid.{IsValid}
 use Rattle.sdr_model.specs.World.{World, as_raw}
 use Rattle.sdr_model.specs.declared.keys.Keys.{Keys}
@@ -26,9 +26,9 @@ use Rattle.sdr_model.specs.declared.keys.Keys.TheVariants as keys
 use Rattle.sdr_model.specs.declared.things.SdrList.{SdrList}
 
 -- the order that is kept by is the machine's
-pub order_is : (by : Keys) (order : Order) → Sorts by order → order_of order ≡ compare_keys by
-order_is keys.ByBytes order is = ap order_of is
-order_is keys.ByLength order is = ap order_of is
+pub order_is : (by : Keys) (order : Order) → Sorts by order → key_order order ≡ compare_keys by
+order_is keys.ByBytes order is = ap key_order is
+order_is keys.ByLength order is = ap key_order is
 
 -- the key of a datum
 pub key_is : (heap : Heap) (w : World) → HeapStandsFor heap w → IsValid w → (datum : ℕ)
@@ -36,11 +36,11 @@ pub key_is : (heap : Heap) (w : World) → HeapStandsFor heap w → IsValid w �
 key_is heap w s valid datum = by (heap.blocks datum) refl
   where
     raw : IsRawAt heap w datum → blocks.sort_key heap.blocks datum ≡ sort_key w datum
-    raw r = ap key_in r.block ∙ key-raw ((ties_of w).named_by datum) r.bytes ∙ sym (ap (λ o. bytes_of (as_raw o)) r.there)
+    raw r = ap key_in r.block ∙ key-raw ((ties_of w).named_by datum) r.bytes ∙ sym (ap (λ o. sort_bytes (as_raw o)) r.there)
 
     other : ¬ IsKind (heap.blocks datum) kinds.Raw → key_in (heap.blocks datum) ≡ []
         → blocks.sort_key heap.blocks datum ≡ sort_key w datum
-    other not none = none ∙ sym (ap bytes_of (no_raw heap w datum s valid not))
+    other not none = none ∙ sym (ap sort_bytes (no_raw heap w datum s valid not))
 
     of_kind : (block : base.Block) (kind : Kind) → heap.blocks datum ≡ Some block → block.kind ≡ kind
         → blocks.sort_key heap.blocks datum ≡ sort_key w datum

@@ -6,7 +6,7 @@ use Rattle.std.specs.Option.{option_map, option_or}
 use Rattle.std.specs.Prelude.{count_by, slice_get}
 use Rattle.sdr_answers.proofs.KindLemmas.{Finds, all_of, block_of_kind, found_all, inner_block, loose_all, loose_block, object_all, or_finds}
 use Rattle.sdr_answers.proofs.ListLemmas.{IsSmall, list_kept}
-use Rattle.sdr_answers.specs.Answering.{IsServed}
+use Rattle.sdr_answers.specs.Answering.{IsReady}
 use Rattle.sdr_audit.specs.Rows.{element_row, list_row}
 use Rattle.sdr_audit.specs.Standing.{HeapStandsFor}
 use Rattle.sdr_base.specs.Blocks.{IsKind}
@@ -18,9 +18,9 @@ use Rattle.sdr_laws.proofs.ListShapes.{at_place, no_element}
 use Rattle.sdr_laws.proofs.SpotThere.{spot_there}
 use Rattle.sdr_list.proofs.KeptLemmas.{element_there}
 use Rattle.sdr_list.specs.Kept.{IsSpot}
-use Rattle.sdr_model.specs.Things.{Spot, block_among, element_block, entry_block, inner_among, inner_blocks, object_blocks, own_block, spot_among, spot_in_thing}
+use Rattle.sdr_model.specs.Things.{Spot, block_among, block_for_element, entry_block, inner_among, inner_blocks, object_blocks, own_block, spot_among, spot_in_thing}
 use Rattle.sdr_model.specs.World.{World, block_at, spot_of, thing_at}
-use Rattle.sdr_model.specs.declared.things.Block.{Block}
+use Rattle.sdr_model.specs.declared.things.UsedBlock.{UsedBlock}
 use Rattle.sdr_model.specs.declared.things.Element.{Element}
 use Rattle.sdr_model.specs.declared.things.Thing.{Thing}
 use Rattle.sdr_model.specs.declared.things.Thing.TheVariants as things
@@ -36,7 +36,7 @@ pub record IsSpotAt (heap : Heap) (w : World) (element : ℕ) : Type 0 where
   pub keeps : IsSpot heap.blocks element (record { list = spot.list; row = list_row spot.row; place = spot.place; datum = datum })
 
 -- the element that is found is there
-pub spot_stands : (heap : Heap) (w : World) (element : ℕ) (spot : Spot) → HeapStandsFor heap w → IsServed w → IsSmall heap
+pub spot_stands : (heap : Heap) (w : World) (element : ℕ) (spot : Spot) → HeapStandsFor heap w → IsReady w → IsSmall heap
     → spot_of w element ≡ Some spot → IsSpotAt heap w element
 spot_stands heap w element spot s served small found =
     let there = spot_there w.things element spot found in
@@ -62,23 +62,23 @@ spot_stands heap w element spot s served small found =
 
 -- where no place is found, no block among these is an element's
 none_among : (element : ℕ) (es : List Element) → position (λ e. e.block == element) es ≡ None
-    → block_among element (map element_block es) ≡ None
+    → block_among element (map block_for_element es) ≡ None
 none_among element es none = without es (no_position (λ e. e.block == element) es none)
   where
-    without : (xs : List Element) → count_by (λ e. e.block == element) xs ≡ 0 → block_among element (map element_block xs) ≡ None
+    without : (xs : List Element) → count_by (λ e. e.block == element) xs ≡ 0 → block_among element (map block_for_element xs) ≡ None
     without [] zero = refl
     without (x ∷ xs) zero = step (without xs) (x.block == element) refl
       where
-        step : (count_by (λ e. e.block == element) xs ≡ 0 → block_among element (map element_block xs) ≡ None) → (b : Bool)
+        step : (count_by (λ e. e.block == element) xs ≡ 0 → block_among element (map block_for_element xs) ≡ None) → (b : Bool)
             → (x.block == element) ≡ b
-            → block_among element (map element_block (x ∷ xs)) ≡ None
+            → block_among element (map block_for_element (x ∷ xs)) ≡ None
         step rest true is = absurd (omega (arith, zero, ap weight is, count_by-cons (λ e. e.block == element) x xs))
         step rest false is =
-            ap (λ b. cond b (Some (element_block x)) (block_among element (map element_block xs))) is
+            ap (λ b. cond b (Some (block_for_element x)) (block_among element (map block_for_element xs))) is
             ∙ rest (omega (arith, zero, count_by-cons (λ e. e.block == element) x xs))
 
 -- a block is no element's
-abbrev IsOther : Block → Type 0
+abbrev IsOther : UsedBlock → Type 0
 IsOther b = b.kind ≢ kinds.Element
 
 -- where none is found in a thing, no block inside it is an element's
@@ -110,7 +110,7 @@ other_among element (e ∷ es) none b is =
     neither (Some x) r is = absurd cc
 
 -- a block of the kind of elements is an element's of a list
-spot_of_block : (w : World) (element : ℕ) (b : Block) → block_at w element ≡ Some b → b.kind ≡ kinds.Element
+spot_of_block : (w : World) (element : ℕ) (b : UsedBlock) → block_at w element ≡ Some b → b.kind ≡ kinds.Element
     → spot_of w element ≢ None
 spot_of_block w element b is kind none = by (thing_at w element) is
   where
@@ -132,10 +132,10 @@ spot_of_block w element b is kind none = by (thing_at w element) is
     by None here = others b here kind
     by (Some thing) here =
         let same : own_block element thing ≡ b = cc in
-        own thing (ap (λ (x : Block). x.kind) same ∙ kind)
+        own thing (ap (λ (x : UsedBlock). x.kind) same ∙ kind)
 
 -- a block in use of the kind of elements is an element's
-pub spot_is_at : (heap : Heap) (w : World) (element : ℕ) → HeapStandsFor heap w → IsServed w → IsSmall heap
+pub spot_is_at : (heap : Heap) (w : World) (element : ℕ) → HeapStandsFor heap w → IsReady w → IsSmall heap
     → IsKind (heap.blocks element) kinds.Element → IsSpotAt heap w element
 spot_is_at heap w element s served small kind = by (spot_of w element) refl
   where
@@ -146,7 +146,7 @@ spot_is_at heap w element s served small kind = by (spot_of w element) refl
     by (Some spot) found = spot_stands heap w element spot s served small found
 
 -- and where there is none, no list has it
-pub no_spot : (heap : Heap) (w : World) (element : ℕ) → HeapStandsFor heap w → IsServed w → IsSmall heap
+pub no_spot : (heap : Heap) (w : World) (element : ℕ) → HeapStandsFor heap w → IsReady w → IsSmall heap
     → ¬ IsKind (heap.blocks element) kinds.Element → spot_of w element ≡ None
 no_spot heap w element s served small other = by (spot_of w element) refl
   where

@@ -3,7 +3,7 @@ use Rattle.std.proofs.Common.{◌≡◌, ◌∙◌, ◌≤◌, ℕ, List, [], �
 use Rattle.std.proofs.lemmas.Bool.Decides.{nat_tests}
 use Rattle.sdr_answers.proofs.RowLemmas.{looked, misnamed_refused, short_refused, thing_made}
 use Rattle.sdr_answers.proofs.TextLemmas.{no_text, text_is_at}
-use Rattle.sdr_answers.specs.Answering.{Answered, IsRefused, IsServed}
+use Rattle.sdr_answers.specs.Answering.{Answered, IsRefused, IsReady}
 use Rattle.sdr_audit.specs.Standing.{HeapStandsFor, with_taken_marked}
 use Rattle.sdr_base.specs.Objects.{Heap, Misses}
 use Rattle.sdr_base.specs.declared.kind.Kind.TheVariants as kinds
@@ -38,7 +38,7 @@ string_row w text addr short =
     on_false _ _ _ fits (refl, (refl, refl))
 
 pub string_answered : (text : List ℕ) (addr : ℕ) (old new : Heap) (w : World) → old.moves ≡ [] → MakesString text addr old new
-    → HeapStandsFor old w → IsServed w → Answered w (calls.String text) new [] (replies.At addr)
+    → HeapStandsFor old w → IsReady w → Answered w (calls.String text) new [] (replies.At addr)
 string_answered text addr old new w unmoved makes s served =
     thing_made w (calls.String text) (text_need (length text)) addr (things.Text text) old new unmoved s served.whole.valid tt
     makes.makes
@@ -64,7 +64,7 @@ string_refused text old new w was refusal unmoved m =
 
 pub string_length_answered : (addr value : ℕ) (old new : Heap) (w : World) → old.moves ≡ [] → new ≡ old
     → TellsLength (old.blocks addr) value
-    → HeapStandsFor old w → IsServed w → Answered w (calls.StringLength addr) new [] (replies.Value value)
+    → HeapStandsFor old w → IsReady w → Answered w (calls.StringLength addr) new [] (replies.Value value)
 string_length_answered addr value old new w unmoved same told s served =
     let t = text_is_at old w addr s served.whole.valid told.kind in
     looked w (calls.StringLength addr) addr (as_text (thing_at w addr)) (λ text. []) (λ text. replies.Value (length text)) t.text
@@ -74,14 +74,14 @@ string_length_answered addr value old new w unmoved same told s served =
 
 pub string_length_refused : (addr : ℕ) (old new : Heap) (w : World) (was : List ℕ) (refusal : Refusal) → old.moves ≡ []
     → new ≡ old
-    → HeapStandsFor old w → IsServed w → Misses (old.blocks addr) addr kinds.Text (stops.Refused refusal)
+    → HeapStandsFor old w → IsReady w → Misses (old.blocks addr) addr kinds.Text (stops.Refused refusal)
     → IsRefused w (calls.StringLength addr) old new was was refusal
 string_length_refused addr old new w was refusal unmoved same s served m =
     misnamed_refused w (calls.StringLength addr) addr kinds.Text (as_text (thing_at w addr)) _ old new was (λ o h. h)
     (no_text old w addr s served.whole.valid) unmoved same s served.whole.valid refusal m
 
 pub string_read_answered : (addr count : ℕ) (into : List ℕ) (old new : Heap) (w : World) → old.moves ≡ [] → new ≡ old
-    → ReadsString (old.blocks addr) count into → HeapStandsFor old w → IsServed w
+    → ReadsString (old.blocks addr) count into → HeapStandsFor old w → IsReady w
     → Answered w (calls.StringRead addr) new (take count into) (replies.Bytes count)
 string_read_answered addr count into old new w unmoved same reads s served =
     let t = text_is_at old w addr s served.whole.valid reads.kind in
@@ -93,7 +93,7 @@ string_read_answered addr count into old new w unmoved same reads s served =
     same s)
 
 pub string_read_refused : (addr : ℕ) (old new : Heap) (w : World) (was : List ℕ) (refusal : Refusal) → old.moves ≡ [] → new ≡ old
-    → HeapStandsFor old w → IsServed w → Misses (old.blocks addr) addr kinds.Text (stops.Refused refusal)
+    → HeapStandsFor old w → IsReady w → Misses (old.blocks addr) addr kinds.Text (stops.Refused refusal)
     → IsRefused w (calls.StringRead addr) old new was was refusal
 string_read_refused addr old new w was refusal unmoved same s served m =
     misnamed_refused w (calls.StringRead addr) addr kinds.Text (as_text (thing_at w addr)) _ old new was (λ o h. h)
@@ -106,7 +106,7 @@ dup_row w string text addr there = on_some _ _ (as_text (thing_at w string)) tex
 
 pub string_dup_answered : (string addr : ℕ) (old new : Heap) (w : World) → old.moves ≡ []
     → DupsString (old.blocks string) addr old new
-    → HeapStandsFor old w → IsServed w → Answered w (calls.StringDup string) new [] (replies.At addr)
+    → HeapStandsFor old w → IsReady w → Answered w (calls.StringDup string) new [] (replies.At addr)
 string_dup_answered string addr old new w unmoved dups s served =
     let t = text_is_at old w string s served.whole.valid dups.kind in
     thing_made w (calls.StringDup string) (text_need (length t.text)) addr (things.Text t.text) old new unmoved s
@@ -114,7 +114,7 @@ string_dup_answered string addr old new w unmoved dups s served =
     (dups.makes t.text t.keeps).makes (dup_row w string t.text addr t.there)
 
 pub string_dup_refused : (string : ℕ) (old new : Heap) (w : World) (was : List ℕ) (refusal : Refusal) → old.moves ≡ []
-    → HeapStandsFor old w → IsServed w → DupStops (old.blocks string) string old new (stops.Refused refusal)
+    → HeapStandsFor old w → IsReady w → DupStops (old.blocks string) string old new (stops.Refused refusal)
     → IsRefused w (calls.StringDup string) old new was was refusal
 string_dup_refused string old new w was (refusals.BadAddress bad) unmoved s served m =
     misnamed_refused w (calls.StringDup string) string kinds.Text (as_text (thing_at w string)) _ old new was (λ o h. h)

@@ -6,7 +6,7 @@ use Rattle.sdr_audit.specs.Ties.{ties_of}
 use Rattle.sdr_base.proofs.StandingLemmas.{written_at}
 use Rattle.sdr_base.specs.Blocks as base
 use Rattle.sdr_base.specs.Blocks.{IsKind, overwritten, with_block}
-use Rattle.sdr_base.specs.Entries.{Changes, Stands}
+use Rattle.sdr_base.specs.Entries.{Changes, BlocksAre}
 use Rattle.sdr_base.specs.Making.{besides}
 use Rattle.sdr_base.specs.Objects.{Heap, with_bytes}
 use Rattle.sdr_base.specs.Parts.{overwrite}
@@ -62,7 +62,7 @@ raw_changes heap new w addr place from r is =
     ∙ ap (λ (bytes : List ℕ). Some (record { kind = kinds.Raw; bytes = bytes })) (overwrite_raw named place from r.bytes) in
     record {
       kept = λ rest s.
-          subst (λ (b : base.Blocks). Stands b (raw_entries addr named (overwrite place from r.bytes) ++ rest))
+          subst (λ (b : base.Blocks). BlocksAre b (raw_entries addr named (overwrite place from r.bytes) ++ rest))
           (ap (λ o. with_block heap.blocks addr o) (sym becomes) ∙ sym (ap (λ (h : Heap). h.blocks) is))
           (written_at heap.blocks addr (raw_block named r.bytes) (raw_block named (overwrite place from r.bytes)) [] rest s);
     }

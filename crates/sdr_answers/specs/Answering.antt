@@ -10,7 +10,7 @@ use Rattle.sdr_base.specs.declared.stop.Stop.TheVariants as stops
 use Rattle.sdr_cat.specs.Kept.{SomeNames}
 use Rattle.sdr_hash.specs.Destroying.{entries_in}
 use Rattle.sdr_hash.specs.Kept.{IsHash}
-use Rattle.sdr_heap.specs.Raw.{IsWhole}
+use Rattle.sdr_heap.specs.Raw.{HasSourceWord}
 use Rattle.sdr_laws.specs.Fresh.{AreFresh}
 use Rattle.sdr_list.specs.Kept.{IsElement, IsList, elements_in}
 use Rattle.sdr_model.specs.Blocks.{addresses_of, blocks_of}
@@ -29,14 +29,14 @@ use Rattle.sdr_string.specs.Calls.{IsString}
 use Rattle.sdr_table.specs.Kept.{IsTable}
 
 -- a world in which calls are served: it is whole, and its numbers fit the fields of blocks
-pub record IsServed (w : World) : Type 0 where
+pub record IsReady (w : World) : Type 0 where
   pub whole : model.IsWhole w
   pub fits : FitsFields w
 
 -- What is of a kind is kept: a raw object's block has its source word, a string's has its text and a table's its rows, a list is
 -- kept for the block of a list and for that of an element, and a hash for the block of one. A catalogue is kept.
 pub record IsGood (heap : Heap) : Type 0 where
-  pub raws : (addr : ℕ) → IsWhole (heap.blocks addr)
+  pub raws : (addr : ℕ) → HasSourceWord (heap.blocks addr)
   pub strings : (addr : ℕ) → IsString (heap.blocks addr)
   pub lists : (addr : ℕ) → IsList heap.blocks addr
   pub elements : (addr : ℕ) → IsElement heap.blocks addr
@@ -187,5 +187,5 @@ ComesIn w call old new was shown (Err (stops.Refused refusal)) = IsRefused w cal
 ComesIn w call old new was shown (Err stop) = ⊤
 
 -- what a call comes to in each world in which calls are served and for which the heap stood
-pub record Comes (call : Call) (old new : Heap) (was shown : List ℕ) (result : Result Reply Stop) : Type 0 where
-  pub each : (w : World) → HeapStandsFor old w → IsServed w → ComesIn w call old new was shown result
+pub record ComesInEach (call : Call) (old new : Heap) (was shown : List ℕ) (result : Result Reply Stop) : Type 0 where
+  pub each : (w : World) → HeapStandsFor old w → IsReady w → ComesIn w call old new was shown result

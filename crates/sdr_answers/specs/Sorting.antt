@@ -1,7 +1,7 @@
 -- The order of a list that a call names.
 use Rattle.std.specs.Prelude.{◌≡◌}
-use Rattle.sdr_list.specs.declared.orders.Keys.{Keys as Order}
-use Rattle.sdr_list.specs.declared.orders.Keys.TheVariants as orders
+use Rattle.sdr_list.specs.declared.orders.ListKeys.{ListKeys as Order}
+use Rattle.sdr_list.specs.declared.orders.ListKeys.TheVariants as orders
 use Rattle.sdr_model.specs.declared.keys.Keys.{Keys}
 use Rattle.sdr_model.specs.declared.keys.Keys.TheVariants as keys
 

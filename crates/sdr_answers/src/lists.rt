@@ -1,9 +1,9 @@
 // The calls on lists and on their elements, as steps of the machine.
 ghost use Rattle.std.specs.Prelude.{[], true, ◌*◌, ◌+◌, ◌/◌, ◌≡◌, ◌≤◌};
-ghost use Rattle.sdr_answers.specs.Answering.{Comes, IsGood, call_lines, is_list_call};
+ghost use Rattle.sdr_answers.specs.Answering.{ComesInEach, IsGood, call_lines, is_list_call};
 ghost use Rattle.sdr_answers.specs.Sorting.{Sorts};
 ghost use Rattle.sdr_base.specs.Moves.{KeepsSome};
-ghost use Rattle.sdr_base.specs.Works.{Works};
+ghost use Rattle.sdr_base.specs.Works.{Spends};
 ghost use Rattle.sdr_list.specs.Kept.{IsElement, IsList, elements_in};
 ghost use Rattle.sdr_model.specs.Fields.{FitsCall, IsWord};
 ghost use Rattle.sdr_model.specs.declared.call.Call.TheVariants as calls;
@@ -14,12 +14,12 @@ use sdr_list::Collation;
 use sdr_model::{Call, Keys, Reply};
 
 // The order that a call names, with the fact that it is one.
-fn collation(keys: Keys) -> Collation<sdr_list::Keys>
+fn collation(keys: Keys) -> Collation<sdr_list::ListKeys>
     ensures { Sorts keys result.by }
 {
     match keys {
-        Keys::ByBytes => Collation::new(sdr_list::Keys::ByBytes),
-        Keys::ByLength => Collation::new(sdr_list::Keys::ByLength),
+        Keys::ByBytes => Collation::new(sdr_list::ListKeys::ByBytes),
+        Keys::ByLength => Collation::new(sdr_list::ListKeys::ByLength),
     }
 }
 
@@ -28,8 +28,8 @@ fn list<O: Objects>(o: &mut O, user: u64, page: &mut Page) -> Result<Reply, Stop
     requires kept { KeepsSome (O.keeps o.old) }
     requires spare { 1 ≤ (O.heap o.old).spare }
     requires unmoved { (O.heap o.old).moves ≡ [] }
-    ensures comes { Comes (calls.List user) (O.heap o.old) (O.heap o.new) page.old page.new result }
-    ensures works { Works O.HasHeap 29 o.old o.new result }
+    ensures comes { ComesInEach (calls.List user) (O.heap o.old) (O.heap o.new) page.old page.new result }
+    ensures works { Spends O.HasHeap 29 o.old o.new result }
     ensures word { IsWord user }
 {
     let addr = sdr_list::create(o, user)?;
@@ -43,9 +43,9 @@ fn list_destroy<O: Objects>(o: &mut O, list: Addr, page: &mut Page) -> Result<Re
     requires spare { (O.heap o.old).size / 4 + 4 ≤ (O.heap o.old).spare }
     requires list { IsList (O.heap o.old).blocks list }
     requires unmoved { (O.heap o.old).moves ≡ [] }
-    ensures comes { Comes (calls.ListDestroy list) (O.heap o.old) (O.heap o.new) page.old page.new
+    ensures comes { ComesInEach (calls.ListDestroy list) (O.heap o.old) (O.heap o.new) page.old page.new
         result }
-    ensures works { Works O.HasHeap (24 * (elements_in ((O.heap o.old).blocks list) + 1)) o.old
+    ensures works { Spends O.HasHeap (24 * (elements_in ((O.heap o.old).blocks list) + 1)) o.old
         o.new result }
 {
     sdr_list::destroy(o, list)?;
@@ -58,9 +58,9 @@ fn list_length<O: Objects>(o: &mut O, list: Addr, page: &mut Page) -> Result<Rep
     requires kept { KeepsSome (O.keeps o.old) }
     requires list { IsList (O.heap o.old).blocks list }
     requires unmoved { (O.heap o.old).moves ≡ [] }
-    ensures comes { Comes (calls.ListLength list) (O.heap o.old) (O.heap o.new) page.old page.new
+    ensures comes { ComesInEach (calls.ListLength list) (O.heap o.old) (O.heap o.new) page.old page.new
         result }
-    ensures works { Works O.HasHeap 0 o.old o.new result }
+    ensures works { Spends O.HasHeap 0 o.old o.new result }
 {
     let value = sdr_list::length(o, list)?;
     page.clear();
@@ -72,9 +72,9 @@ fn list_user<O: Objects>(o: &mut O, list: Addr, page: &mut Page) -> Result<Reply
     requires kept { KeepsSome (O.keeps o.old) }
     requires list { IsList (O.heap o.old).blocks list }
     requires unmoved { (O.heap o.old).moves ≡ [] }
-    ensures comes { Comes (calls.ListUser list) (O.heap o.old) (O.heap o.new) page.old page.new
+    ensures comes { ComesInEach (calls.ListUser list) (O.heap o.old) (O.heap o.new) page.old page.new
         result }
-    ensures works { Works O.HasHeap 0 o.old o.new result }
+    ensures works { Spends O.HasHeap 0 o.old o.new result }
 {
     let value = sdr_list::user_data(o, list)?;
     page.clear();
@@ -91,9 +91,9 @@ fn set_list_user<O: Objects>(
     requires kept { KeepsSome (O.keeps o.old) }
     requires list { IsList (O.heap o.old).blocks list }
     requires unmoved { (O.heap o.old).moves ≡ [] }
-    ensures comes { Comes (calls.SetListUser list user) (O.heap o.old) (O.heap o.new) page.old
+    ensures comes { ComesInEach (calls.SetListUser list user) (O.heap o.old) (O.heap o.new) page.old
         page.new result }
-    ensures works { Works O.HasHeap 2 o.old o.new result }
+    ensures works { Spends O.HasHeap 2 o.old o.new result }
     ensures word { IsWord user }
 {
     sdr_list::set_user_data(o, list, user)?;
@@ -112,9 +112,9 @@ fn insert_first<O: Objects>(
     requires spare { 1 ≤ (O.heap o.old).spare }
     requires list { IsList (O.heap o.old).blocks list }
     requires unmoved { (O.heap o.old).moves ≡ [] }
-    ensures comes { Comes (calls.InsertFirst list datum) (O.heap o.old) (O.heap o.new) page.old
+    ensures comes { ComesInEach (calls.InsertFirst list datum) (O.heap o.old) (O.heap o.new) page.old
         page.new result }
-    ensures works { Works O.HasHeap 35 o.old o.new result }
+    ensures works { Spends O.HasHeap 35 o.old o.new result }
     ensures word { IsWord datum }
 {
     let addr = sdr_list::insert_first(o, list, datum)?;
@@ -133,9 +133,9 @@ fn insert_last<O: Objects>(
     requires spare { 1 ≤ (O.heap o.old).spare }
     requires list { IsList (O.heap o.old).blocks list }
     requires unmoved { (O.heap o.old).moves ≡ [] }
-    ensures comes { Comes (calls.InsertLast list datum) (O.heap o.old) (O.heap o.new) page.old
+    ensures comes { ComesInEach (calls.InsertLast list datum) (O.heap o.old) (O.heap o.new) page.old
         page.new result }
-    ensures works { Works O.HasHeap 35 o.old o.new result }
+    ensures works { Spends O.HasHeap 35 o.old o.new result }
     ensures word { IsWord datum }
 {
     let addr = sdr_list::insert_last(o, list, datum)?;
@@ -154,9 +154,9 @@ fn insert_before<O: Objects>(
     requires spare { 1 ≤ (O.heap o.old).spare }
     requires element { IsElement (O.heap o.old).blocks element }
     requires unmoved { (O.heap o.old).moves ≡ [] }
-    ensures comes { Comes (calls.InsertBefore element datum) (O.heap o.old) (O.heap o.new) page.old
+    ensures comes { ComesInEach (calls.InsertBefore element datum) (O.heap o.old) (O.heap o.new) page.old
         page.new result }
-    ensures works { Works O.HasHeap 35 o.old o.new result }
+    ensures works { Spends O.HasHeap 35 o.old o.new result }
     ensures word { IsWord datum }
 {
     let addr = sdr_list::insert_before(o, element, datum)?;
@@ -175,9 +175,9 @@ fn insert_after<O: Objects>(
     requires spare { 1 ≤ (O.heap o.old).spare }
     requires element { IsElement (O.heap o.old).blocks element }
     requires unmoved { (O.heap o.old).moves ≡ [] }
-    ensures comes { Comes (calls.InsertAfter element datum) (O.heap o.old) (O.heap o.new) page.old
+    ensures comes { ComesInEach (calls.InsertAfter element datum) (O.heap o.old) (O.heap o.new) page.old
         page.new result }
-    ensures works { Works O.HasHeap 35 o.old o.new result }
+    ensures works { Spends O.HasHeap 35 o.old o.new result }
     ensures word { IsWord datum }
 {
     let addr = sdr_list::insert_after(o, element, datum)?;
@@ -197,9 +197,9 @@ fn insert_ordered<O: Objects>(
     requires spare { 1 ≤ (O.heap o.old).spare }
     requires list { IsList (O.heap o.old).blocks list }
     requires unmoved { (O.heap o.old).moves ≡ [] }
-    ensures comes { Comes (calls.InsertOrdered list datum keys) (O.heap o.old) (O.heap o.new)
+    ensures comes { ComesInEach (calls.InsertOrdered list datum keys) (O.heap o.old) (O.heap o.new)
         page.old page.new result }
-    ensures works { Works O.HasHeap 35 o.old o.new result }
+    ensures works { Spends O.HasHeap 35 o.old o.new result }
     ensures word { IsWord datum }
 {
     let addr = sdr_list::insert_ordered(o, list, datum, &collation(keys))?;
@@ -218,9 +218,9 @@ fn search<O: Objects>(
     requires kept { KeepsSome (O.keeps o.old) }
     requires list { IsList (O.heap o.old).blocks list }
     requires unmoved { (O.heap o.old).moves ≡ [] }
-    ensures comes { Comes (calls.Search list datum keys) (O.heap o.old) (O.heap o.new) page.old
+    ensures comes { ComesInEach (calls.Search list datum keys) (O.heap o.old) (O.heap o.new) page.old
         page.new result }
-    ensures works { Works O.HasHeap 0 o.old o.new result }
+    ensures works { Spends O.HasHeap 0 o.old o.new result }
 {
     let addr = sdr_list::search(o, list, datum, &collation(keys))?;
     page.clear();
@@ -233,9 +233,9 @@ fn delete<O: Objects>(o: &mut O, element: Addr, page: &mut Page) -> Result<Reply
     requires spare { 1 ≤ (O.heap o.old).spare }
     requires element { IsElement (O.heap o.old).blocks element }
     requires unmoved { (O.heap o.old).moves ≡ [] }
-    ensures comes { Comes (calls.Delete element) (O.heap o.old) (O.heap o.new) page.old page.new
+    ensures comes { ComesInEach (calls.Delete element) (O.heap o.old) (O.heap o.new) page.old page.new
         result }
-    ensures works { Works O.HasHeap 30 o.old o.new result }
+    ensures works { Spends O.HasHeap 30 o.old o.new result }
 {
     sdr_list::delete(o, element)?;
     page.clear();
@@ -247,9 +247,9 @@ fn first<O: Objects>(o: &mut O, list: Addr, page: &mut Page) -> Result<Reply, St
     requires kept { KeepsSome (O.keeps o.old) }
     requires list { IsList (O.heap o.old).blocks list }
     requires unmoved { (O.heap o.old).moves ≡ [] }
-    ensures comes { Comes (calls.First list) (O.heap o.old) (O.heap o.new) page.old page.new
+    ensures comes { ComesInEach (calls.First list) (O.heap o.old) (O.heap o.new) page.old page.new
         result }
-    ensures works { Works O.HasHeap 0 o.old o.new result }
+    ensures works { Spends O.HasHeap 0 o.old o.new result }
 {
     let addr = sdr_list::first(o, list)?;
     page.clear();
@@ -261,8 +261,8 @@ fn last<O: Objects>(o: &mut O, list: Addr, page: &mut Page) -> Result<Reply, Sto
     requires kept { KeepsSome (O.keeps o.old) }
     requires list { IsList (O.heap o.old).blocks list }
     requires unmoved { (O.heap o.old).moves ≡ [] }
-    ensures comes { Comes (calls.Last list) (O.heap o.old) (O.heap o.new) page.old page.new result }
-    ensures works { Works O.HasHeap 0 o.old o.new result }
+    ensures comes { ComesInEach (calls.Last list) (O.heap o.old) (O.heap o.new) page.old page.new result }
+    ensures works { Spends O.HasHeap 0 o.old o.new result }
 {
     let addr = sdr_list::last(o, list)?;
     page.clear();
@@ -274,9 +274,9 @@ fn next<O: Objects>(o: &mut O, element: Addr, page: &mut Page) -> Result<Reply, 
     requires kept { KeepsSome (O.keeps o.old) }
     requires element { IsElement (O.heap o.old).blocks element }
     requires unmoved { (O.heap o.old).moves ≡ [] }
-    ensures comes { Comes (calls.Next element) (O.heap o.old) (O.heap o.new) page.old page.new
+    ensures comes { ComesInEach (calls.Next element) (O.heap o.old) (O.heap o.new) page.old page.new
         result }
-    ensures works { Works O.HasHeap 0 o.old o.new result }
+    ensures works { Spends O.HasHeap 0 o.old o.new result }
 {
     let addr = sdr_list::next(o, element)?;
     page.clear();
@@ -288,9 +288,9 @@ fn prev<O: Objects>(o: &mut O, element: Addr, page: &mut Page) -> Result<Reply, 
     requires kept { KeepsSome (O.keeps o.old) }
     requires element { IsElement (O.heap o.old).blocks element }
     requires unmoved { (O.heap o.old).moves ≡ [] }
-    ensures comes { Comes (calls.Prev element) (O.heap o.old) (O.heap o.new) page.old page.new
+    ensures comes { ComesInEach (calls.Prev element) (O.heap o.old) (O.heap o.new) page.old page.new
         result }
-    ensures works { Works O.HasHeap 0 o.old o.new result }
+    ensures works { Spends O.HasHeap 0 o.old o.new result }
 {
     let addr = sdr_list::prev(o, element)?;
     page.clear();
@@ -302,9 +302,9 @@ fn datum<O: Objects>(o: &mut O, element: Addr, page: &mut Page) -> Result<Reply,
     requires kept { KeepsSome (O.keeps o.old) }
     requires element { IsElement (O.heap o.old).blocks element }
     requires unmoved { (O.heap o.old).moves ≡ [] }
-    ensures comes { Comes (calls.Datum element) (O.heap o.old) (O.heap o.new) page.old page.new
+    ensures comes { ComesInEach (calls.Datum element) (O.heap o.old) (O.heap o.new) page.old page.new
         result }
-    ensures works { Works O.HasHeap 0 o.old o.new result }
+    ensures works { Spends O.HasHeap 0 o.old o.new result }
 {
     let value = sdr_list::datum(o, element)?;
     page.clear();
@@ -321,9 +321,9 @@ fn set_datum<O: Objects>(
     requires kept { KeepsSome (O.keeps o.old) }
     requires element { IsElement (O.heap o.old).blocks element }
     requires unmoved { (O.heap o.old).moves ≡ [] }
-    ensures comes { Comes (calls.SetDatum element datum) (O.heap o.old) (O.heap o.new) page.old
+    ensures comes { ComesInEach (calls.SetDatum element datum) (O.heap o.old) (O.heap o.new) page.old
         page.new result }
-    ensures works { Works O.HasHeap 2 o.old o.new result }
+    ensures works { Spends O.HasHeap 2 o.old o.new result }
     ensures word { IsWord datum }
 {
     sdr_list::set_datum(o, element, datum)?;
@@ -338,8 +338,8 @@ pub fn answer<O: Objects>(o: &mut O, call: &Call, page: &mut Page) -> Result<Rep
     requires good { IsGood (O.heap o.old) }
     requires unmoved { (O.heap o.old).moves ≡ [] }
     requires one { is_list_call call.now ≡ true }
-    ensures comes { Comes call.now (O.heap o.old) (O.heap o.new) page.old page.new result }
-    ensures works { Works O.HasHeap (call_lines (O.heap o.old) call.now) o.old o.new result }
+    ensures comes { ComesInEach call.now (O.heap o.old) (O.heap o.new) page.old page.new result }
+    ensures works { Spends O.HasHeap (call_lines (O.heap o.old) call.now) o.old o.new result }
     ensures fits { FitsCall call.now }
 {
     match call {

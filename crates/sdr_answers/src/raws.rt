@@ -1,11 +1,11 @@
 // The calls on raw objects, as steps of the machine.
 ghost use Rattle.std.specs.Prelude.{IfErr, OnOk, [], length, true, ℕ, ◌+◌, ◌/◌, ◌<◌, ◌≡◌, ◌≤◌};
 ghost use Rattle.sdr_base.specs.Moves.{KeepsSome};
-ghost use Rattle.sdr_base.specs.Works.{Looks, Works};
-ghost use Rattle.sdr_heap.specs.Raw.{IsWhole, ReadStops};
+ghost use Rattle.sdr_base.specs.Works.{Looks, Spends};
+ghost use Rattle.sdr_heap.specs.Raw.{HasSourceWord, ReadStops};
 ghost use Rattle.sdr_model.specs.Fields.{AreBytes, FitsCall};
 ghost use Rattle.sdr_model.specs.declared.call.Call.TheVariants as calls;
-ghost use Rattle.sdr_answers.specs.Answering.{Comes, IsGood, call_lines, is_raw_call};
+ghost use Rattle.sdr_answers.specs.Answering.{ComesInEach, IsGood, call_lines, is_raw_call};
 
 use crate::page::{PAGE, Page};
 use sdr_base::{Addr, Kind, Objects, Refusal, Stop, expect_kind};
@@ -17,9 +17,9 @@ fn malloc<O: Objects>(o: &mut O, bytes: u64, page: &mut Page) -> Result<Reply, S
     requires kept { KeepsSome (O.keeps o.old) }
     requires spare { 1 ≤ (O.heap o.old).spare }
     requires unmoved { (O.heap o.old).moves ≡ [] }
-    ensures comes { Comes (calls.Malloc bytes) (O.heap o.old) (O.heap o.new) page.old page.new
+    ensures comes { ComesInEach (calls.Malloc bytes) (O.heap o.old) (O.heap o.new) page.old page.new
         result }
-    ensures works { Works O.HasHeap (24 + (8 + bytes) / 64) o.old o.new result }
+    ensures works { Spends O.HasHeap (24 + (8 + bytes) / 64) o.old o.new result }
 {
     let addr = sdr_heap::malloc(o, bytes)?;
     page.clear();
@@ -30,9 +30,9 @@ fn malloc<O: Objects>(o: &mut O, bytes: u64, page: &mut Page) -> Result<Reply, S
 fn length<O: Objects>(o: &mut O, addr: Addr, page: &mut Page) -> Result<Reply, Stop>
     requires kept { KeepsSome (O.keeps o.old) }
     requires unmoved { (O.heap o.old).moves ≡ [] }
-    ensures comes { Comes (calls.Length addr) (O.heap o.old) (O.heap o.new) page.old page.new
+    ensures comes { ComesInEach (calls.Length addr) (O.heap o.old) (O.heap o.new) page.old page.new
         result }
-    ensures works { Works O.HasHeap 0 o.old o.new result }
+    ensures works { Spends O.HasHeap 0 o.old o.new result }
 {
     let value = sdr_heap::length(o, addr)?;
     page.clear();
@@ -65,13 +65,13 @@ fn read_into<O: Objects>(
     page: &mut Page,
 ) -> Result<Reply, Stop>
     requires kept { KeepsSome (O.keeps o.old) }
-    requires whole { IsWhole ((O.heap o.old).blocks addr) }
+    requires whole { HasSourceWord ((O.heap o.old).blocks addr) }
     requires unmoved { (O.heap o.old).moves ≡ [] }
     requires count { length into.old ≡ count }
     requires few { count ≤ LONGEST_READ }
-    ensures comes { Comes (calls.Read addr place count) (O.heap o.old) (O.heap o.new) page.old
+    ensures comes { ComesInEach (calls.Read addr place count) (O.heap o.old) (O.heap o.new) page.old
         page.new result }
-    ensures works { Works O.HasHeap 0 o.old o.new result }
+    ensures works { Spends O.HasHeap 0 o.old o.new result }
 {
     sdr_heap::read(o, addr, place, into)?;
     page.show(into);
@@ -87,11 +87,11 @@ fn read<O: Objects>(
     page: &mut Page,
 ) -> Result<Reply, Stop>
     requires kept { KeepsSome (O.keeps o.old) }
-    requires whole { IsWhole ((O.heap o.old).blocks addr) }
+    requires whole { HasSourceWord ((O.heap o.old).blocks addr) }
     requires unmoved { (O.heap o.old).moves ≡ [] }
-    ensures comes { Comes (calls.Read addr place count) (O.heap o.old) (O.heap o.new) page.old
+    ensures comes { ComesInEach (calls.Read addr place count) (O.heap o.old) (O.heap o.new) page.old
         page.new result }
-    ensures works { Works O.HasHeap 0 o.old o.new result }
+    ensures works { Spends O.HasHeap 0 o.old o.new result }
 {
     if count > LONGEST_READ {
         return refuse_count(o, addr, count);
@@ -109,13 +109,13 @@ fn stage_into<O: Objects>(
     page: &mut Page,
 ) -> Result<Reply, Stop>
     requires kept { KeepsSome (O.keeps o.old) }
-    requires whole { IsWhole ((O.heap o.old).blocks addr) }
+    requires whole { HasSourceWord ((O.heap o.old).blocks addr) }
     requires unmoved { (O.heap o.old).moves ≡ [] }
     requires count { length into.old ≡ count }
     requires few { count ≤ LONGEST_READ }
-    ensures comes { Comes (calls.Stage addr count) (O.heap o.old) (O.heap o.new) page.old page.new
+    ensures comes { ComesInEach (calls.Stage addr count) (O.heap o.old) (O.heap o.new) page.old page.new
         result }
-    ensures works { Works O.HasHeap 0 o.old o.new result }
+    ensures works { Spends O.HasHeap 0 o.old o.new result }
 {
     sdr_heap::stage(o, addr, into)?;
     page.show(into);
@@ -125,11 +125,11 @@ fn stage_into<O: Objects>(
 // Reads the first bytes of a raw object, which may be written in this transaction from now on.
 fn stage<O: Objects>(o: &mut O, addr: Addr, count: u64, page: &mut Page) -> Result<Reply, Stop>
     requires kept { KeepsSome (O.keeps o.old) }
-    requires whole { IsWhole ((O.heap o.old).blocks addr) }
+    requires whole { HasSourceWord ((O.heap o.old).blocks addr) }
     requires unmoved { (O.heap o.old).moves ≡ [] }
-    ensures comes { Comes (calls.Stage addr count) (O.heap o.old) (O.heap o.new) page.old page.new
+    ensures comes { ComesInEach (calls.Stage addr count) (O.heap o.old) (O.heap o.new) page.old page.new
         result }
-    ensures works { Works O.HasHeap 0 o.old o.new result }
+    ensures works { Spends O.HasHeap 0 o.old o.new result }
 {
     if count > LONGEST_READ {
         return refuse_count(o, addr, count);
@@ -147,11 +147,11 @@ fn write<O: Objects>(
     page: &mut Page,
 ) -> Result<Reply, Stop>
     requires kept { KeepsSome (O.keeps o.old) }
-    requires whole { IsWhole ((O.heap o.old).blocks addr) }
+    requires whole { HasSourceWord ((O.heap o.old).blocks addr) }
     requires unmoved { (O.heap o.old).moves ≡ [] }
-    ensures comes { Comes (calls.Write addr place from.now) (O.heap o.old) (O.heap o.new) page.old
+    ensures comes { ComesInEach (calls.Write addr place from.now) (O.heap o.old) (O.heap o.new) page.old
         page.new result }
-    ensures works { Works O.HasHeap (2 + length from.now / 64) o.old o.new result }
+    ensures works { Spends O.HasHeap (2 + length from.now / 64) o.old o.new result }
     ensures bytes { AreBytes from.now }
 {
     sdr_heap::write(o, addr, place, from)?;
@@ -166,8 +166,8 @@ pub fn answer<O: Objects>(o: &mut O, call: &Call, page: &mut Page) -> Result<Rep
     requires good { IsGood (O.heap o.old) }
     requires unmoved { (O.heap o.old).moves ≡ [] }
     requires one { is_raw_call call.now ≡ true }
-    ensures comes { Comes call.now (O.heap o.old) (O.heap o.new) page.old page.new result }
-    ensures works { Works O.HasHeap (call_lines (O.heap o.old) call.now) o.old o.new result }
+    ensures comes { ComesInEach call.now (O.heap o.old) (O.heap o.new) page.old page.new result }
+    ensures works { Spends O.HasHeap (call_lines (O.heap o.old) call.now) o.old o.new result }
     ensures fits { FitsCall call.now }
 {
     match call {

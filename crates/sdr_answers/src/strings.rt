@@ -1,8 +1,8 @@
 // The calls on strings, as steps of the machine.
 ghost use Rattle.std.specs.Prelude.{[], length, true, ◌+◌, ◌/◌, ◌≡◌, ◌≤◌};
-ghost use Rattle.sdr_answers.specs.Answering.{Comes, IsGood, call_lines, is_string_call};
+ghost use Rattle.sdr_answers.specs.Answering.{ComesInEach, IsGood, call_lines, is_string_call};
 ghost use Rattle.sdr_base.specs.Moves.{KeepsSome};
-ghost use Rattle.sdr_base.specs.Works.{Works};
+ghost use Rattle.sdr_base.specs.Works.{Spends};
 ghost use Rattle.sdr_model.specs.Fields.{AreBytes, FitsCall};
 ghost use Rattle.sdr_model.specs.declared.call.Call.TheVariants as calls;
 ghost use Rattle.sdr_string.specs.Calls.{IsString};
@@ -17,9 +17,9 @@ fn string<O: Objects>(o: &mut O, text: &[u8], page: &mut Page) -> Result<Reply, 
     requires kept { KeepsSome (O.keeps o.old) }
     requires spare { 1 ≤ (O.heap o.old).spare }
     requires unmoved { (O.heap o.old).moves ≡ [] }
-    ensures comes { Comes (calls.String text.now) (O.heap o.old) (O.heap o.new) page.old page.new
+    ensures comes { ComesInEach (calls.String text.now) (O.heap o.old) (O.heap o.new) page.old page.new
         result }
-    ensures works { Works O.HasHeap (26 + (1 + length text.now) / 32) o.old o.new result }
+    ensures works { Spends O.HasHeap (26 + (1 + length text.now) / 32) o.old o.new result }
     ensures bytes { AreBytes text.now }
 {
     let addr = sdr_string::create(o, text)?;
@@ -32,9 +32,9 @@ fn string_length<O: Objects>(o: &mut O, addr: Addr, page: &mut Page) -> Result<R
     requires kept { KeepsSome (O.keeps o.old) }
     requires string { IsString ((O.heap o.old).blocks addr) }
     requires unmoved { (O.heap o.old).moves ≡ [] }
-    ensures comes { Comes (calls.StringLength addr) (O.heap o.old) (O.heap o.new) page.old page.new
+    ensures comes { ComesInEach (calls.StringLength addr) (O.heap o.old) (O.heap o.new) page.old page.new
         result }
-    ensures works { Works O.HasHeap 0 o.old o.new result }
+    ensures works { Spends O.HasHeap 0 o.old o.new result }
 {
     let value = sdr_string::length(o, addr)?;
     page.clear();
@@ -46,9 +46,9 @@ fn string_read<O: Objects>(o: &mut O, addr: Addr, page: &mut Page) -> Result<Rep
     requires kept { KeepsSome (O.keeps o.old) }
     requires string { IsString ((O.heap o.old).blocks addr) }
     requires unmoved { (O.heap o.old).moves ≡ [] }
-    ensures comes { Comes (calls.StringRead addr) (O.heap o.old) (O.heap o.new) page.old page.new
+    ensures comes { ComesInEach (calls.StringRead addr) (O.heap o.old) (O.heap o.new) page.old page.new
         result }
-    ensures works { Works O.HasHeap 0 o.old o.new result }
+    ensures works { Spends O.HasHeap 0 o.old o.new result }
 {
     let mut text = [0; LONGEST_STRING];
     let count = sdr_string::read(o, addr, &mut text)?;
@@ -62,9 +62,9 @@ fn string_dup<O: Objects>(o: &mut O, addr: Addr, page: &mut Page) -> Result<Repl
     requires spare { 1 ≤ (O.heap o.old).spare }
     requires string { IsString ((O.heap o.old).blocks addr) }
     requires unmoved { (O.heap o.old).moves ≡ [] }
-    ensures comes { Comes (calls.StringDup addr) (O.heap o.old) (O.heap o.new) page.old page.new
+    ensures comes { ComesInEach (calls.StringDup addr) (O.heap o.old) (O.heap o.new) page.old page.new
         result }
-    ensures works { Works O.HasHeap 34 o.old o.new result }
+    ensures works { Spends O.HasHeap 34 o.old o.new result }
 {
     let copy = sdr_string::dup(o, addr)?;
     page.clear();
@@ -78,8 +78,8 @@ pub fn answer<O: Objects>(o: &mut O, call: &Call, page: &mut Page) -> Result<Rep
     requires good { IsGood (O.heap o.old) }
     requires unmoved { (O.heap o.old).moves ≡ [] }
     requires one { is_string_call call.now ≡ true }
-    ensures comes { Comes call.now (O.heap o.old) (O.heap o.new) page.old page.new result }
-    ensures works { Works O.HasHeap (call_lines (O.heap o.old) call.now) o.old o.new result }
+    ensures comes { ComesInEach call.now (O.heap o.old) (O.heap o.new) page.old page.new result }
+    ensures works { Spends O.HasHeap (call_lines (O.heap o.old) call.now) o.old o.new result }
     ensures fits { FitsCall call.now }
 {
     match call {

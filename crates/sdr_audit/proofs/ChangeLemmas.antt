@@ -4,7 +4,7 @@ use Rattle.std.specs.List.{list_any}
 use Rattle.std.proofs.lemmas.Bool.{eq-eqb, eqb-true, ne_eqb}
 use Rattle.std.proofs.lemmas.List.Folds.{list_any-append}
 use Rattle.sdr_base.specs.Blocks.{Block, with_at}
-use Rattle.sdr_base.specs.Entries.{Among, Entries, Stands, Changes, Swaps}
+use Rattle.sdr_base.specs.Entries.{Among, Entries, BlocksAre, Changes, Swaps}
 use Rattle.sdr_base.specs.Making.{MakesThing, Made, marked_by}
 use Rattle.sdr_base.specs.Objects.{Heap}
 use Rattle.sdr_base.specs.declared.moves.Move.{Move}
@@ -50,7 +50,7 @@ in_use {heap} {w} addr thing s is free =
     let h = heads (ties_of w) addr thing in
     let here : heap.blocks addr ≡ Some h.block =
     found heap.blocks addr h.block [] (h.rest ++ a.rest)
-    (subst (λ es. Stands heap.blocks (es ++ a.rest)) h.is a.stands) in
+    (subst (λ es. BlocksAre heap.blocks (es ++ a.rest)) h.is a.stands) in
     let d : None ≡ Some h.block = sym free ∙ here in cc
 
 -- so nothing is where no block is

@@ -6,7 +6,7 @@ use Rattle.std.specs.List.{Contains, IsDistinct, flat_map, sum_by}
 use Rattle.std.specs.Prelude.{IfSome, nat_eq}
 use Rattle.std.proofs.lemmas.List.Elements.{All-nil}
 use Rattle.std.specs.Ordering.{nat_cmp}
-use Rattle.sdr_base.specs.Entries.{Stands, at, times}
+use Rattle.sdr_base.specs.Entries.{BlocksAre, at, times}
 use Rattle.sdr_base.specs.FreshHeap.{fresh_heap}
 use Rattle.sdr_base.specs.KeptHeap.{block_in}
 use Rattle.sdr_base.specs.Linked.{linked}
@@ -68,7 +68,7 @@ pub fresh_stands : (lines : ℕ) → 32 ≤ lines → lines ≤ 262144 →
 unfolding at times
 fresh_stands lines least most = record {
   heap = fresh_keeps_heap lines least most;
-  blocks = subst (λ es. Stands (block_in (fresh_heap lines)) es) (sym (no_entries (32 * lines))) (record {
+  blocks = subst (λ es. BlocksAre (block_in (fresh_heap lines)) es) (sym (no_entries (32 * lines))) (record {
     same = λ addr. fresh_block lines addr least;
     once = λ addr. lit≤ tt;
     null = refl;

@@ -13,19 +13,19 @@ use Rattle.sdr_base.specs.Blocks as base
 use Rattle.sdr_base.specs.Blocks.{kind_length}
 use Rattle.sdr_base.specs.Catalogue.{NameRow, name_addr, name_bytes}
 use Rattle.sdr_base.specs.Catalogue as catalogue
-use Rattle.sdr_base.specs.Entries.{Entries, Stands, at}
+use Rattle.sdr_base.specs.Entries.{Entries, BlocksAre, at}
 use Rattle.sdr_base.specs.declared.account.Acct.TheVariants as accts
-use Rattle.sdr_model.specs.Accounts.{ticket_block, ticket_blocks}
+use Rattle.sdr_model.specs.Accounts.{block_for_ticket, ticket_blocks}
 use Rattle.sdr_model.specs.Blocks.{blocks_of, thing_blocks}
-use Rattle.sdr_model.specs.Things.{block_among, name_block}
+use Rattle.sdr_model.specs.Things.{block_among, block_for_name}
 use Rattle.sdr_model.specs.Valid.{IsBetween, IsValid, IsValidThing}
 use Rattle.sdr_model.specs.Limits.{longest_name}
 use Rattle.sdr_model.specs.World.{World}
 use Rattle.sdr_model.specs.declared.name.Name.{Name}
-use Rattle.sdr_model.specs.declared.things.Block.{Block}
+use Rattle.sdr_model.specs.declared.things.UsedBlock.{UsedBlock}
 use Rattle.sdr_model.specs.declared.things.Thing.{Thing}
 use Rattle.sdr_audit.specs.Rows.{name_row}
-use Rattle.sdr_audit.specs.Shape.{shape, told_of}
+use Rattle.sdr_audit.specs.Shape.{shape, shape_of}
 use Rattle.sdr_audit.specs.Standing.{entries_of, other_entries, queue_entries, thing_entries}
 use Rattle.sdr_audit.specs.Ties.{Ties, ties_of}
 use Rattle.sdr_audit.proofs.GroupLemmas.{each_of}
@@ -79,9 +79,9 @@ section_shapes : (ties : Ties) (es : List (ℕ × Thing)) → AllByRecursion (λ
 section_shapes ties [] all = refl
 section_shapes ties (e ∷ es) all =
     map-append shape (thing_entries ties e.0 e.1) (flat_map (λ e. thing_entries ties e.0 e.1) es)
-    ∙ ap (λ (t : List Block). t ++ map shape (flat_map (λ e. thing_entries ties e.0 e.1) es))
+    ∙ ap (λ (t : List UsedBlock). t ++ map shape (flat_map (λ e. thing_entries ties e.0 e.1) es))
     (thing_shapes ties e.0 e.1 all.0)
-    ∙ ap (λ (t : List Block). thing_blocks e.0 e.1 ++ t) (section_shapes ties es all.1)
+    ∙ ap (λ (t : List UsedBlock). thing_blocks e.0 e.1 ++ t) (section_shapes ties es all.1)
 
 -- the names of a valid world are short
 short_names : (w : World) → IsValid w → AllByRecursion (λ (n : Name). length n.name ≤ 31) w.names
@@ -92,17 +92,17 @@ short_names w v = by w.names (each_of (λ (n : Name). n.name) (λ name. IsBetwee
     by [] all = tt
     by (n ∷ ns) all = (all.0.1, by ns all.1)
 
-other_shapes : (w : World) → IsValid w → map shape (other_entries w) ≡ map name_block w.names ++ ticket_blocks w.accounts
+other_shapes : (w : World) → IsValid w → map shape (other_entries w) ≡ map block_for_name w.names ++ ticket_blocks w.accounts
 other_shapes w v =
     let ns = catalogue.catalogue_entries (map name_row w.names) in
     let ins = queue_entries w.accounts accts.Inbound in
     let outs = queue_entries w.accounts accts.Outbound in
     map-append shape ns (ins ++ outs)
-    ∙ ap (λ (t : List Block). t ++ map shape (ins ++ outs)) (name_shapes w.names (short_names w v))
-    ∙ ap (λ (t : List Block). map name_block w.names ++ t)
+    ∙ ap (λ (t : List UsedBlock). t ++ map shape (ins ++ outs)) (name_shapes w.names (short_names w v))
+    ∙ ap (λ (t : List UsedBlock). map block_for_name w.names ++ t)
     (map-append shape ins outs
-    ∙ ap (λ (t : List Block). t ++ map shape outs) (ticket_shapes accts.Inbound w.accounts.inbound.tickets)
-    ∙ ap (λ (t : List Block). map ticket_block w.accounts.inbound.tickets ++ t)
+    ∙ ap (λ (t : List UsedBlock). t ++ map shape outs) (ticket_shapes accts.Inbound w.accounts.inbound.tickets)
+    ∙ ap (λ (t : List UsedBlock). map block_for_ticket w.accounts.inbound.tickets ++ t)
     (ticket_shapes accts.Outbound w.accounts.outbound.tickets))
 
 -- the entries of a valid world have the shapes of its blocks, in their order
@@ -112,23 +112,23 @@ shapes w v =
     (λ q. subst (λ o. IfSome o IsValidThing) (finite.get-entries w.things q) (v.things q)) in
     let own = flat_map (λ e. thing_blocks e.0 e.1) (finite.entries w.things) in
     map-append shape (flat_map (λ e. thing_entries (ties_of w) e.0 e.1) (finite.entries w.things)) (other_entries w)
-    ∙ ap (λ (t : List Block). t ++ map shape (other_entries w)) (section_shapes (ties_of w) (finite.entries w.things) all)
-    ∙ ap (λ (t : List Block). own ++ t) (other_shapes w v)
-    ∙ sym (append_assoc own (map name_block w.names) (ticket_blocks w.accounts))
+    ∙ ap (λ (t : List UsedBlock). t ++ map shape (other_entries w)) (section_shapes (ties_of w) (finite.entries w.things) all)
+    ∙ ap (λ (t : List UsedBlock). own ++ t) (other_shapes w v)
+    ∙ sym (append_assoc own (map block_for_name w.names) (ticket_blocks w.accounts))
 
-told_at : (q : ℕ) (es : Entries) → kind_length (at es q) ≡ told_of (block_among q (map shape es))
+told_at : (q : ℕ) (es : Entries) → kind_length (at es q) ≡ shape_of (block_among q (map shape es))
 unfolding at
 told_at q [] = refl
 told_at q (e ∷ es) =
     elim (e.0 == q) as
-    (λ v. kind_length (cond v (Some e.1) (at es q)) ≡ told_of (cond v (Some (shape e)) (block_among q (map shape es)))) [
+    (λ v. kind_length (cond v (Some e.1) (at es q)) ≡ shape_of (cond v (Some (shape e)) (block_among q (map shape es)))) [
       | true ↦ refl
       | false ↦ told_at q es
     ]
 
 -- the blocks in use are the world's, by kind and length
-pub told : (blocks : base.Blocks) (w : World) (addr : ℕ) → Stands blocks (entries_of w) → IsValid w →
-    kind_length (blocks addr) ≡ told_of (block_among addr (blocks_of w))
+pub told : (blocks : base.Blocks) (w : World) (addr : ℕ) → BlocksAre blocks (entries_of w) → IsValid w →
+    kind_length (blocks addr) ≡ shape_of (block_among addr (blocks_of w))
 told blocks w addr s v =
     ap kind_length (s.same addr) ∙ told_at addr (entries_of w)
-    ∙ ap (λ bs. told_of (block_among addr bs)) (shapes w v)
+    ∙ ap (λ bs. shape_of (block_among addr bs)) (shapes w v)

@@ -22,16 +22,16 @@ use Rattle.sdr_base.specs.declared.account.Acct.{Acct}
 use Rattle.sdr_base.specs.declared.kind.Kind.{Kind}
 use Rattle.sdr_base.specs.declared.kind.Kind.TheVariants as kinds
 use Rattle.sdr_base.proofs.LayoutLemmas.{length-layout}
-use Rattle.sdr_model.specs.Accounts.{ticket_block}
+use Rattle.sdr_model.specs.Accounts.{block_for_ticket}
 use Rattle.sdr_model.specs.Blocks.{thing_blocks}
 use Rattle.sdr_model.specs.HashSteps.{bucket_of}
 use Rattle.sdr_model.specs.Hashes.{Hash}
-use Rattle.sdr_model.specs.Things.{capsule_block, element_block, entry_block, extent_block, name_block, own_block, object_blocks, path_length}
+use Rattle.sdr_model.specs.Things.{block_for_capsule, block_for_element, entry_block, block_for_extent, block_for_name, own_block, object_blocks, path_length}
 use Rattle.sdr_model.specs.TicketRows.{ticket_row}
 use Rattle.sdr_model.specs.Valid.{IsValidHash, IsValidThing}
 use Rattle.sdr_model.specs.declared.accounts.Ticket.{Ticket}
 use Rattle.sdr_model.specs.declared.name.Name.{Name}
-use Rattle.sdr_model.specs.declared.things.Block.{Block}
+use Rattle.sdr_model.specs.declared.things.UsedBlock.{UsedBlock}
 use Rattle.sdr_model.specs.declared.things.Element.{Element}
 use Rattle.sdr_model.specs.declared.things.HashEntry.{HashEntry}
 use Rattle.sdr_model.specs.declared.things.Thing.{Thing}
@@ -53,16 +53,16 @@ of_length : (addr : ℕ) (kind : Kind) (bytes : List ℕ) {n : ℕ} → length b
 of_length addr kind bytes is = ap (λ (n : ℕ). record { addr = addr; kind = kind; bytes = n }) is
 
 -- the shapes of a chain, by those of its blocks
-module _ {X Y : Type 0} (addr : X → ℕ) (block : ℕ → ℕ → X → base.Block) (row : Y → X) (s : Y → Block) where
+module _ {X Y : Type 0} (addr : X → ℕ) (block : ℕ → ℕ → X → base.Block) (row : Y → X) (s : Y → UsedBlock) where
   linked_shapes : (prev next : ℕ) (ys : List Y) →
       AllByRecursion (λ y. (p n : ℕ) → shape (addr (row y), block p n (row y)) ≡ s y) ys →
       map shape (linked addr block prev next (map row ys)) ≡ map s ys
   unfolding linked
   linked_shapes prev next [] all = refl
   linked_shapes prev next (y ∷ ys) all =
-      ap (λ (b : Block). b ∷ map shape (linked addr block (addr (row y)) next (map row ys)))
+      ap (λ (b : UsedBlock). b ∷ map shape (linked addr block (addr (row y)) next (map row ys)))
       (all.0 prev (first_of addr next (map row ys)))
-      ∙ ap (λ (bs : List Block). s y ∷ bs) (linked_shapes (addr (row y)) next ys all.1)
+      ∙ ap (λ (bs : List UsedBlock). s y ∷ bs) (linked_shapes (addr (row y)) next ys all.1)
 
 -- what holds of all holds of each
 each : {X : Type 0} (P : X → Type 0) → ((x : X) → P x) → (xs : List X) → AllByRecursion P xs
@@ -77,19 +77,20 @@ words_and : (ws rest : List ℕ) (n : ℕ) → 8 * length ws ≡ n → length (l
 words_and ws rest n is = let l = length-layout ws rest in omega (arith, l, is)
 
 element_shapes : (list : ℕ) (es : List Element) →
-    map shape (linked addr_of (lists.element_block list) 0 0 (map element_row es)) ≡ map element_block es
+    map shape (linked addr_of (lists.element_block list) 0 0 (map element_row es)) ≡ map block_for_element es
 element_shapes list es =
-    linked_shapes addr_of (lists.element_block list) element_row element_block 0 0 es
+    linked_shapes addr_of (lists.element_block list) element_row block_for_element 0 0 es
     (each _ (λ e p n. of_length e.block kinds.Element _ (words_only _ 32 refl)) es)
 
-capsule_shapes : (cs : List Capsule) → map shape (objects.capsule_entries (map capsule_row cs)) ≡ map capsule_block cs
+capsule_shapes : (cs : List Capsule) → map shape (objects.capsule_entries (map capsule_row cs))
+    ≡ map block_for_capsule cs
 capsule_shapes cs =
-    linked_shapes capsule_addr objects.capsule_block capsule_row capsule_block 0 0 cs
+    linked_shapes capsule_addr objects.capsule_block capsule_row block_for_capsule 0 0 cs
     (each _ (λ c p n. of_length c.block kinds.Capsule _ (words_and (n ∷ []) c.text 8 refl)) cs)
 
-extent_shapes : (es : List Extent) → map shape (objects.extent_entries (map extent_row es)) ≡ map extent_block es
+extent_shapes : (es : List Extent) → map shape (objects.extent_entries (map extent_row es)) ≡ map block_for_extent es
 extent_shapes es =
-    linked_shapes extent_addr objects.extent_block extent_row extent_block 0 0 es
+    linked_shapes extent_addr objects.extent_block extent_row block_for_extent 0 0 es
     (each _ (λ e p n. of_length e.block kinds.Extent _ (words_only _ 32 refl)) es)
 
 item_shapes : (es : List HashEntry) → map shape (bucket_entries (map item_row es)) ≡ map entry_block es
@@ -98,9 +99,9 @@ item_shapes es =
     (each _ (λ e p n. of_length e.block kinds.HashEntry _ (words_and (n ∷ e.value ∷ []) e.key 16 refl)) es)
 
 pub ticket_shapes : (acct : Acct) (ts : List Ticket) →
-    map shape (tickets.ticket_entries acct (map ticket_row ts)) ≡ map ticket_block ts
+    map shape (tickets.ticket_entries acct (map ticket_row ts)) ≡ map block_for_ticket ts
 ticket_shapes acct ts =
-    linked_shapes ticket_addr (tickets.ticket_block acct) ticket_row ticket_block 0 0 ts
+    linked_shapes ticket_addr (tickets.ticket_block acct) ticket_row block_for_ticket 0 0 ts
     (each _ (λ t p n. of_length t.block kinds.Ticket _ (words_only (ticket_words acct n (ticket_row t)) 96 refl)) ts)
 
 -- a name fills 32 bytes
@@ -110,13 +111,13 @@ length-name_bytes name short =
     omega (arith, short, length-append name (replicate zeros 0), length-replicate {A = ℕ} zeros 0)
 
 pub name_shapes : (ns : List Name) → AllByRecursion (λ (n : Name). length n.name ≤ 31) ns →
-    map shape (catalogue.catalogue_entries (map name_row ns)) ≡ map name_block ns
+    map shape (catalogue.catalogue_entries (map name_row ns)) ≡ map block_for_name ns
 name_shapes ns short =
-    linked_shapes name_addr catalogue.name_block name_row name_block 0 0 ns (lengths ns short)
+    linked_shapes name_addr catalogue.name_block name_row block_for_name 0 0 ns (lengths ns short)
   where
     lengths : (ns : List Name) → AllByRecursion (λ (n : Name). length n.name ≤ 31) ns →
         AllByRecursion (λ n. (p next : ℕ) →
-        shape (n.block, catalogue.name_block p next (name_row n)) ≡ name_block n) ns
+        shape (n.block, catalogue.name_block p next (name_row n)) ≡ block_for_name n) ns
     lengths [] all = tt
     lengths (n ∷ ns) all = (
       (λ p next. of_length n.block kinds.Name _
@@ -133,9 +134,9 @@ bucket_shapes hash [] = refl
 bucket_shapes hash (b ∷ bs) =
     let g = λ (e : HashEntry). bucket_of hash.buckets e.key in
     map-append shape (bucket_entries (bucket_row hash b)) (flat_map bucket_entries (map (bucket_row hash) bs))
-    ∙ ap (λ (t : List Block). t ++ map shape (flat_map bucket_entries (map (bucket_row hash) bs)))
+    ∙ ap (λ (t : List UsedBlock). t ++ map shape (flat_map bucket_entries (map (bucket_row hash) bs)))
     (item_shapes (group g b hash.entries))
-    ∙ ap (λ (t : List Block). map entry_block (group g b hash.entries) ++ t) (bucket_shapes hash bs)
+    ∙ ap (λ (t : List UsedBlock). map entry_block (group g b hash.entries) ++ t) (bucket_shapes hash bs)
     ∙ sym (map-append entry_block (group g b hash.entries) (flat_map (λ b. group g b hash.entries) bs))
 
 -- keys by rising buckets
@@ -174,43 +175,43 @@ object_shapes z =
     let es = objects.extent_entries (map extent_row z.extents) in
     let ts = objects.capsule_entries (map capsule_row z.trailers) in
     map-append shape (hs ++ es) ts
-    ∙ ap (λ (t : List Block). t ++ map shape ts) (map-append shape hs es)
-    ∙ ap (λ (t : List Block). (t ++ map shape es) ++ map shape ts) (capsule_shapes z.headers)
-    ∙ ap (λ (t : List Block). (map capsule_block z.headers ++ t) ++ map shape ts) (extent_shapes z.extents)
-    ∙ ap (λ (t : List Block). (map capsule_block z.headers ++ map extent_block z.extents) ++ t) (capsule_shapes z.trailers)
+    ∙ ap (λ (t : List UsedBlock). t ++ map shape ts) (map-append shape hs es)
+    ∙ ap (λ (t : List UsedBlock). (t ++ map shape es) ++ map shape ts) (capsule_shapes z.headers)
+    ∙ ap (λ (t : List UsedBlock). (map block_for_capsule z.headers ++ t) ++ map shape ts) (extent_shapes z.extents)
+    ∙ ap (λ (t : List UsedBlock). (map block_for_capsule z.headers ++ map block_for_extent z.extents) ++ t) (capsule_shapes z.trailers)
 
 -- the blocks of a thing
 pub thing_shapes : (ties : Ties) (addr : ℕ) (thing : Thing) → IsValidThing thing →
     map shape (thing_entries ties addr thing) ≡ thing_blocks addr thing
 thing_shapes ties addr (things.Raw bytes) v =
-    ap (λ (b : Block). b ∷ []) (of_length addr kinds.Raw _ (words_and (ties.named_by addr ∷ []) bytes 8 refl))
+    ap (λ (b : UsedBlock). b ∷ []) (of_length addr kinds.Raw _ (words_and (ties.named_by addr ∷ []) bytes 8 refl))
 thing_shapes ties addr (things.Text text) v =
     let n : suc (length text) ≡ 1 + length text = omega arith in
     ap (λ (n : ℕ). record { addr = addr; kind = kinds.Text; bytes = n } ∷ []) n
 thing_shapes ties addr (things.List list) v =
     let es = linked addr_of (lists.element_block addr) 0 0 (map element_row list.elements) in
-    ap (λ (b : Block). b ∷ map shape es) (of_length addr kinds.List _ (words_only _ 32 refl))
-    ∙ ap (λ (t : List Block). own_block addr (things.List list) ∷ t) (element_shapes addr list.elements)
+    ap (λ (b : UsedBlock). b ∷ map shape es) (of_length addr kinds.List _ (words_only _ 32 refl))
+    ∙ ap (λ (t : List UsedBlock). own_block addr (things.List list) ∷ t) (element_shapes addr list.elements)
 thing_shapes ties addr (things.Table table) v =
-    ap (λ (b : Block). b ∷ [])
+    ap (λ (b : UsedBlock). b ∷ [])
     (of_length addr kinds.Table _ (words_and (table.user ∷ table.size ∷ table.rows ∷ []) table.bytes 24 refl))
 thing_shapes ties addr (things.Hash hash) v =
     let buckets = map (bucket_row hash) (range_with_len 0 hash.buckets) in
     let count : length (map (first_of item_addr 0) buckets) ≡ hash.buckets =
     length-map buckets (first_of item_addr 0) ∙ length-map (range_with_len 0 hash.buckets) (bucket_row hash)
     ∙ length-range_with_len 0 hash.buckets in
-    ap (λ (b : Block). b ∷ map shape (flat_map bucket_entries buckets))
+    ap (λ (b : UsedBlock). b ∷ map shape (flat_map bucket_entries buckets))
     (of_length addr kinds.Hash _
     (words_only
     (hash.key_length ∷ length buckets ∷ sum_by length buckets ∷ map (first_of item_addr 0) buckets)
     (24 + 8 * hash.buckets) (omega (arith, count))))
-    ∙ ap (λ (t : List Block). own_block addr (things.Hash hash) ∷ t) (hash_shapes hash v)
+    ∙ ap (λ (t : List UsedBlock). own_block addr (things.Hash hash) ∷ t) (hash_shapes hash v)
 thing_shapes ties addr (things.Source source) v =
-    ap (λ (b : Block). b ∷ [])
+    ap (λ (b : UsedBlock). b ∷ [])
     (of_length addr kinds.Source _
     (words_and _ (path_of source.subject) 48 refl ∙ ap (λ n. 48 + n) (path_shape source.subject)))
 thing_shapes ties addr (things.Object z) v =
     let inner = objects.capsule_entries (map capsule_row z.headers) ++ objects.extent_entries (map extent_row z.extents)
     ++ objects.capsule_entries (map capsule_row z.trailers) in
-    ap (λ (b : Block). b ∷ map shape inner) (of_length addr kinds.Object _ (words_only _ 72 refl))
-    ∙ ap (λ (t : List Block). own_block addr (things.Object z) ∷ t) (object_shapes z)
+    ap (λ (b : UsedBlock). b ∷ map shape inner) (of_length addr kinds.Object _ (words_only _ 72 refl))
+    ∙ ap (λ (t : List UsedBlock). own_block addr (things.Object z) ∷ t) (object_shapes z)

@@ -1,7 +1,7 @@
 -- When bytes stand for a world: their blocks in use are just the world's, each with the bytes of what it keeps.
 use Rattle.std.specs.Prelude.{◌≡◌, ◌≤◌, ℕ, List, [], ◌++◌, map}
 use Rattle.sdr_base.specs.Catalogue.{catalogue_entries, name_addr}
-use Rattle.sdr_base.specs.Entries.{Entries, Stands}
+use Rattle.sdr_base.specs.Entries.{Entries, BlocksAre}
 use Rattle.sdr_base.specs.Hashes.{hash_entries}
 use Rattle.sdr_base.specs.KeptHeap.{KeepsHeap, block_in, root_in}
 use Rattle.sdr_base.specs.Linked.{first_of, last_of}
@@ -77,7 +77,7 @@ roots_of w =
 -- words are the world's, and it has no mark, shows no bytes, and counts no block taken.
 pub record StandsFor (bytes : List ℕ) (w : World) (P : Pools) : Type 0 where
   pub heap : KeepsHeap bytes P
-  pub blocks : Stands (block_in bytes) (entries_of w)
+  pub blocks : BlocksAre (block_in bytes) (entries_of w)
   pub roots : root_in bytes ≡ roots_of w
   pub marks : w.marks ≡ []
   pub shown : w.shown ≡ []
@@ -93,7 +93,7 @@ pub record StandsForWhole (bytes : List ℕ) (w : World) (P : Pools) : Type 0 wh
 
 -- A heap in a transaction stands for the current world: its blocks in use, control words and marks are the world's.
 pub record HeapStandsFor (heap : Heap) (w : World) : Type 0 where
-  pub blocks : Stands heap.blocks (entries_of w)
+  pub blocks : BlocksAre heap.blocks (entries_of w)
   pub roots : heap.roots ≡ roots_of w
   pub marks : (addr : ℕ) → heap.marks addr ≡ is_marked w addr
 

@@ -2,7 +2,7 @@
 use Rattle.std.specs.Prelude.{◌≡◌, ℕ, Bool, false, Option, None, Some}
 use Rattle.sdr_base.specs.declared.account.Acct.{Acct}
 use Rattle.sdr_model.specs.World.{World}
-use Rattle.sdr_model.specs.Zco.{count_of, names_raw, source_on, uses_in}
+use Rattle.sdr_model.specs.Zco.{count_of, names_raw, source_naming, uses_in}
 use Rattle.sdr_model.specs.declared.things.Thing.{Thing}
 use Rattle.sdr_model.specs.declared.things.Thing.TheVariants as things
 
@@ -19,7 +19,7 @@ or_null (Some addr) = addr
 
 -- how the things of a world are tied
 abbrev pub ties_of : World → Ties
-ties_of w = record { named_by = λ raw. or_null (source_on w raw); counts = count_of w }
+ties_of w = record { named_by = λ raw. or_null (source_naming w raw); counts = count_of w }
 
 -- a thing that is neither a source nor a zero-copy object
 abbrev pub IsUntied : Thing → Type 0

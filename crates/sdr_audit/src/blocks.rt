@@ -1,6 +1,6 @@
 // The blocks in use.
 ghost use Rattle.std.specs.Prelude.{◌≡◌, ℕ, List, map};
-ghost use Rattle.sdr_audit.specs.Shape.{shape, told_of};
+ghost use Rattle.sdr_audit.specs.Shape.{shape, shape_of};
 ghost use Rattle.sdr_audit.specs.Standing.{HeapStandsFor, StandsFor, entries_of};
 ghost use Rattle.sdr_base.specs.Blocks.{kind_length};
 ghost use Rattle.sdr_base.specs.KeptHeap.{block_in};
@@ -17,8 +17,8 @@ pub fn no_block_leaks()
     ensures shapes { (w : World) → IsValid w → map shape (entries_of w) ≡ blocks_of w }
     ensures at_rest { (bytes : List ℕ) (w : World) (P : Pools) (addr : ℕ) →
         StandsFor bytes w P → IsValid w →
-        kind_length (block_in bytes addr) ≡ told_of (block_among addr (blocks_of w)) }
+        kind_length (block_in bytes addr) ≡ shape_of (block_among addr (blocks_of w)) }
     ensures in_transaction { (heap : Heap) (w : World) (addr : ℕ) →
         HeapStandsFor heap w → IsValid w →
-        kind_length (heap.blocks addr) ≡ told_of (block_among addr (blocks_of w)) }
+        kind_length (heap.blocks addr) ≡ shape_of (block_among addr (blocks_of w)) }
 {}

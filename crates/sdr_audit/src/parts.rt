@@ -6,7 +6,7 @@ ghost use Rattle.sdr_audit.specs.Standing.{entries_of, queue_entries, roots_of, 
 ghost use Rattle.sdr_audit.specs.Ties.{NoneIsTied, TieAlike, Ties, ties_of};
 ghost use Rattle.sdr_base.specs.Blocks.{Blocks};
 ghost use Rattle.sdr_base.specs.Catalogue.{catalogue_entries};
-ghost use Rattle.sdr_base.specs.Entries.{Changes, Entries, Stands, Swaps};
+ghost use Rattle.sdr_base.specs.Entries.{Changes, Entries, BlocksAre, Swaps};
 ghost use Rattle.sdr_base.specs.Section.{section};
 ghost use Rattle.sdr_base.specs.Tickets.{ticket_entries};
 ghost use Rattle.sdr_base.specs.declared.account.Acct.{Acct};
@@ -23,10 +23,10 @@ ghost use Rattle.sdr_model.specs.declared.things.Thing.{Thing};
 /// did; and so where two parts do. It does nothing.
 pub fn parts_change()
     ensures one { (old new : Blocks) (es es' part part' : Entries) →
-        Stands old es → Swaps es es' part part' → Changes old new part part' → Stands new es' }
+        BlocksAre old es → Swaps es es' part part' → Changes old new part part' → BlocksAre new es' }
     ensures two { (old new : Blocks) (xs xs' ys ys' p p' q q' : Entries) →
-        Stands old (xs ++ ys) → Swaps xs xs' p p' → Swaps ys ys' q q' →
-        Changes old new (p ++ q) (p' ++ q') → Stands new (xs' ++ ys') }
+        BlocksAre old (xs ++ ys) → Swaps xs xs' p p' → Swaps ys ys' q q' →
+        Changes old new (p ++ q) (p' ++ q') → BlocksAre new (xs' ++ ys') }
 {}
 
 /// A law: where a thing comes to an address, changes or goes, its blocks are the part of the things' blocks that

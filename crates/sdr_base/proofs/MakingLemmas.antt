@@ -3,7 +3,7 @@ use Rattle.std.proofs.Common.{◌≡◌, ℕ, ◌+◌, ◌-◌, List, [], ◌∷
 use Rattle.std.specs.Prelude.{Option, replicate, true}
 use Rattle.std.proofs.lemmas.List.{length-replicate, drop-replicate}
 use Rattle.sdr_base.specs.Blocks.{Block, Blocks, overwritten, with_at, with_block}
-use Rattle.sdr_base.specs.Entries.{Stands}
+use Rattle.sdr_base.specs.Entries.{BlocksAre}
 use Rattle.sdr_base.specs.Making.{MakesThing, besides}
 use Rattle.sdr_base.specs.Objects.{Heap, TakesZeros, with_bytes, with_move}
 use Rattle.sdr_base.specs.Parts.{overwrite}
@@ -23,7 +23,7 @@ taken_makes {kind} {bytes} {addr} {old} {new} t = record {
     fresh = t.fresh;
     changes = record {
       kept = λ rest s.
-          subst (λ (b : Blocks). Stands b ((addr, record { kind = kind; bytes = bytes }) ∷ rest))
+          subst (λ (b : Blocks). BlocksAre b ((addr, record { kind = kind; bytes = bytes }) ∷ rest))
           (sym (ap (λ (h : Heap). h.blocks) t.taken))
           (came old.blocks addr (record { kind = kind; bytes = bytes }) [] rest t.nonzero t.fresh s);
     };

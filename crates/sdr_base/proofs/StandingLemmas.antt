@@ -3,7 +3,7 @@ use Rattle.std.proofs.Common.{◌≡◌, ◌≢◌, ℕ, zero, suc, ◌+◌, ◌
 use Rattle.std.proofs.Common.{Some, None, refl, sym, ap, ◌∙◌, arith, subst, append_assoc, eq-eqb}
 use Rattle.std.proofs.lemmas.Bool.{eqb-true, ne_eqb}
 use Rattle.sdr_base.specs.Blocks.{Block, Blocks, with_block}
-use Rattle.sdr_base.specs.Entries.{Entries, at, times, Stands, Changes, Swaps, entry}
+use Rattle.sdr_base.specs.Entries.{Entries, at, times, BlocksAre, Changes, Swaps, entry}
 use Rattle.sdr_base.proofs.ObjectsLemmas.{with_block-here, with_block-apart}
 
 pub times-append : (q : ℕ) (xs ys : Entries) → times q (xs ++ ys) ≡ times q xs + times q ys
@@ -58,7 +58,7 @@ swapped : (q : ℕ) (xs part ys : Entries) → times q xs + (times q part + time
 swapped q xs part ys few = swapped_at q xs part ys (times q xs) refl (omega arith)
 
 -- a part may stand in front of the others, or where it stood
-pub moved : {b : Blocks} (xs part ys : Entries) → Stands b (xs ++ (part ++ ys)) → Stands b (part ++ (xs ++ ys))
+pub moved : {b : Blocks} (xs part ys : Entries) → BlocksAre b (xs ++ (part ++ ys)) → BlocksAre b (part ++ (xs ++ ys))
 moved xs part ys s =
     let few : (q : ℕ) → times q xs + (times q part + times q ys) ≤ 1 =
     λ q. let l = times-append q xs (part ++ ys) in let r = times-append q part ys in let o = s.once q in omega arith in
@@ -70,7 +70,8 @@ moved xs part ys s =
           let l2 = times-append 0 xs (part ++ ys) in let r2 = times-append 0 part ys in let z = s.null in omega arith;
     }
 
-pub moved_back : {b : Blocks} (xs part ys : Entries) → Stands b (part ++ (xs ++ ys)) → Stands b (xs ++ (part ++ ys))
+pub moved_back : {b : Blocks} (xs part ys : Entries) → BlocksAre b (part ++ (xs ++ ys)) →
+    BlocksAre b (xs ++ (part ++ ys))
 moved_back xs part ys s = moved part xs ys s
 
 none_before : (q p : ℕ) (x : Block) → (es : Entries) → eqb p q ≡ false → at ((p, x) ∷ es) q ≡ at es q
@@ -97,7 +98,7 @@ counted true t = omega arith
 counted false t = cc
 
 -- with no block or one at p, no other entry is at p
-alone : (b : Blocks) (p : ℕ) (xs ys : Entries) (o : Option Block) → b p ≡ o → Stands b (xs ++ (entry p o ++ ys)) →
+alone : (b : Blocks) (p : ℕ) (xs ys : Entries) (o : Option Block) → b p ≡ o → BlocksAre b (xs ++ (entry p o ++ ys)) →
     (q : ℕ) → eqb p q ≡ true → times q xs + times q ys ≡ 0
 unfolding times at
 alone b p xs ys None e s q t =
@@ -114,7 +115,7 @@ differs p q f e = let t : true ≡ false = sym (eq-eqb p q (sym e)) ∙ f in cc
 
 -- what `put`, `take` and `give` do: the entry at p is another one, comes or goes
 pub changed : (b : Blocks) (p : ℕ) (new : Option Block) (xs ys : Entries) → p ≢ 0 →
-    Stands b (xs ++ (entry p (b p) ++ ys)) → Stands (with_block b p new) (xs ++ (entry p new ++ ys))
+    BlocksAre b (xs ++ (entry p (b p) ++ ys)) → BlocksAre (with_block b p new) (xs ++ (entry p new ++ ys))
 changed b p new xs ys nz s = record {
   same = λ q. elim (eqb p q) as (λ v. eqb p q ≡ v → with_block b p new q ≡ at (xs ++ (entry p new ++ ys)) q) [
     | true ↦ λ t. let z = alone b p xs ys (b p) refl s q t in
@@ -145,7 +146,7 @@ changed b p new xs ys nz s = record {
 }
 
 -- an entry is what stands at its address
-pub found : (b : Blocks) (p : ℕ) (x : Block) (xs ys : Entries) → Stands b (xs ++ ((p, x) ∷ ys)) → b p ≡ Some x
+pub found : (b : Blocks) (p : ℕ) (x : Block) (xs ys : Entries) → BlocksAre b (xs ++ ((p, x) ∷ ys)) → b p ≡ Some x
 unfolding times at
 found b p x xs ys s =
     let o : times p (xs ++ ((p, x) ∷ ys)) ≤ 1 = s.once p in
@@ -156,43 +157,43 @@ found b p x xs ys s =
     s.same p ∙ at-none p xs ((p, x) ∷ ys) z ∙ ap (λ v. cond v (Some x) (at ys p)) (eq-eqb p p refl)
 
 -- so its address is not 0
-pub nonzero : (b : Blocks) (p : ℕ) (x : Block) (xs ys : Entries) → Stands b (xs ++ ((p, x) ∷ ys)) → p ≢ 0
+pub nonzero : (b : Blocks) (p : ℕ) (x : Block) (xs ys : Entries) → BlocksAre b (xs ++ ((p, x) ∷ ys)) → p ≢ 0
 nonzero b p x xs ys s e =
     let n : b 0 ≡ None = s.same 0 ∙ at-nowhere 0 (xs ++ ((p, x) ∷ ys)) s.null in
     let h : b p ≡ Some x = found b p x xs ys s in
     let k : None ≡ Some x = sym n ∙ ap b (sym e) ∙ h in cc
 
 -- another block at the address of an entry
-pub written_at : (b : Blocks) (p : ℕ) (x y : Block) (xs ys : Entries) → Stands b (xs ++ ((p, x) ∷ ys)) →
-    Stands (with_block b p (Some y)) (xs ++ ((p, y) ∷ ys))
+pub written_at : (b : Blocks) (p : ℕ) (x y : Block) (xs ys : Entries) → BlocksAre b (xs ++ ((p, x) ∷ ys)) →
+    BlocksAre (with_block b p (Some y)) (xs ++ ((p, y) ∷ ys))
 written_at b p x y xs ys s =
     changed b p (Some y) xs ys (nonzero b p x xs ys s)
-    (subst (λ o. Stands b (xs ++ (entry p o ++ ys))) (sym (found b p x xs ys s)) s)
+    (subst (λ o. BlocksAre b (xs ++ (entry p o ++ ys))) (sym (found b p x xs ys s)) s)
 
 -- a new block
-pub came : (b : Blocks) (p : ℕ) (y : Block) (xs ys : Entries) → p ≢ 0 → b p ≡ None → Stands b (xs ++ ys) →
-    Stands (with_block b p (Some y)) (xs ++ ((p, y) ∷ ys))
-came b p y xs ys nz e s = changed b p (Some y) xs ys nz (subst (λ o. Stands b (xs ++ (entry p o ++ ys))) (sym e) s)
+pub came : (b : Blocks) (p : ℕ) (y : Block) (xs ys : Entries) → p ≢ 0 → b p ≡ None → BlocksAre b (xs ++ ys) →
+    BlocksAre (with_block b p (Some y)) (xs ++ ((p, y) ∷ ys))
+came b p y xs ys nz e s = changed b p (Some y) xs ys nz (subst (λ o. BlocksAre b (xs ++ (entry p o ++ ys))) (sym e) s)
 
 -- a block that is given back
-pub went : (b : Blocks) (p : ℕ) (x : Block) (xs ys : Entries) → Stands b (xs ++ ((p, x) ∷ ys)) →
-    Stands (with_block b p None) (xs ++ ys)
+pub went : (b : Blocks) (p : ℕ) (x : Block) (xs ys : Entries) → BlocksAre b (xs ++ ((p, x) ∷ ys)) →
+    BlocksAre (with_block b p None) (xs ++ ys)
 went b p x xs ys s =
     changed b p None xs ys (nonzero b p x xs ys s)
-    (subst (λ o. Stands b (xs ++ (entry p o ++ ys))) (sym (found b p x xs ys s)) s)
+    (subst (λ o. BlocksAre b (xs ++ (entry p o ++ ys))) (sym (found b p x xs ys s)) s)
 
 -- under one entry that stays in front
-pub rotated : (b : Blocks) (h : ℕ × Block) (xs ys zs : Entries) → Stands b (h ∷ (xs ++ (ys ++ zs))) →
-    Stands b (h ∷ (ys ++ (xs ++ zs)))
+pub rotated : (b : Blocks) (h : ℕ × Block) (xs ys zs : Entries) → BlocksAre b (h ∷ (xs ++ (ys ++ zs))) →
+    BlocksAre b (h ∷ (ys ++ (xs ++ zs)))
 rotated b h xs ys zs s = moved ys (h ∷ []) (xs ++ zs) (moved (h ∷ xs) ys zs s)
 
 -- a change of one part, wherever it stands
-pub stands_swapped : {b b' : Blocks} {es es' part part' : Entries} → Stands b es → Swaps es es' part part' →
-    Changes b b' part part' → Stands b' es'
+pub stands_swapped : {b b' : Blocks} {es es' part part' : Entries} → BlocksAre b es → Swaps es es' part part' →
+    Changes b b' part part' → BlocksAre b' es'
 stands_swapped {b} {b'} {es} {es'} {part} {part'} s w c =
-    subst (λ xs. Stands b' xs) (sym w.is)
+    subst (λ xs. BlocksAre b' xs) (sym w.is)
     (moved_back w.before part' w.behind
-    (c.kept (w.before ++ w.behind) (moved w.before part w.behind (subst (λ xs. Stands b xs) w.was s))))
+    (c.kept (w.before ++ w.behind) (moved w.before part w.behind (subst (λ xs. BlocksAre b xs) w.was s))))
 
 -- other entries may stand before and behind
 pub swaps_after : {es es' part part' : Entries} (xs : Entries) → Swaps es es' part part' →
@@ -216,38 +217,39 @@ swaps_before {part = part} {part' = part'} ys w = record {
 }
 
 -- a part in front, and back
-pub focused : {b : Blocks} {es es' part part' : Entries} (w : Swaps es es' part part') → Stands b es →
-    Stands b (part ++ (w.before ++ w.behind))
-focused {b} {part = part} w s = moved w.before part w.behind (subst (λ xs. Stands b xs) w.was s)
+pub focused : {b : Blocks} {es es' part part' : Entries} (w : Swaps es es' part part') → BlocksAre b es →
+    BlocksAre b (part ++ (w.before ++ w.behind))
+focused {b} {part = part} w s = moved w.before part w.behind (subst (λ xs. BlocksAre b xs) w.was s)
 
 pub unfocused : {b : Blocks} {es es' part part' : Entries} (w : Swaps es es' part part') →
-    Stands b (part' ++ (w.before ++ w.behind)) → Stands b es'
-unfocused {b} {part' = part'} w s = subst (λ xs. Stands b xs) (sym w.is) (moved_back w.before part' w.behind s)
+    BlocksAre b (part' ++ (w.before ++ w.behind)) → BlocksAre b es'
+unfocused {b} {part' = part'} w s = subst (λ xs. BlocksAre b xs) (sym w.is) (moved_back w.before part' w.behind s)
 
 -- one call may change two parts of two sections
-pub stands_swapped_two : {b b' : Blocks} {xs xs' ys ys' p p' q q' : Entries} → Stands b (xs ++ ys) → Swaps xs xs' p p' →
-    Swaps ys ys' q q' → Changes b b' (p ++ q) (p' ++ q') → Stands b' (xs' ++ ys')
+pub stands_swapped_two : {b b' : Blocks} {xs xs' ys ys' p p' q q' : Entries} → BlocksAre b (xs ++ ys) →
+    Swaps xs xs' p p' →
+    Swaps ys ys' q q' → Changes b b' (p ++ q) (p' ++ q') → BlocksAre b' (xs' ++ ys')
 unfolding swaps_before swaps_after
 stands_swapped_two {b} {b'} {xs} {xs'} {ys} {ys'} {p} {p'} {q} {q'} s u v c =
     let z = u.before ++ u.behind in
     let r = v.before ++ v.behind in
-    let one : Stands b (p ++ (u.before ++ (u.behind ++ ys))) = focused (swaps_before ys u) s in
-    let two : Stands b ((p ++ z) ++ ys) =
-    subst (λ es. Stands b es)
+    let one : BlocksAre b (p ++ (u.before ++ (u.behind ++ ys))) = focused (swaps_before ys u) s in
+    let two : BlocksAre b ((p ++ z) ++ ys) =
+    subst (λ es. BlocksAre b es)
     (ap (λ t. p ++ t) (sym (append_assoc u.before u.behind ys)) ∙ sym (append_assoc p z ys)) one in
-    let three : Stands b (q ++ (((p ++ z) ++ v.before) ++ v.behind)) = focused (swaps_after (p ++ z) v) two in
+    let three : BlocksAre b (q ++ (((p ++ z) ++ v.before) ++ v.behind)) = focused (swaps_after (p ++ z) v) two in
     let line : ((p ++ z) ++ v.before) ++ v.behind ≡ p ++ (z ++ r) =
     append_assoc (p ++ z) v.before v.behind ∙ append_assoc p z r in
     let line' : ((p' ++ z) ++ v.before) ++ v.behind ≡ p' ++ (z ++ r) =
     append_assoc (p' ++ z) v.before v.behind ∙ append_assoc p' z r in
-    let four : Stands b ((p ++ q) ++ (z ++ r)) =
-    subst (λ es. Stands b es) (sym (append_assoc p q (z ++ r)))
-    (moved_back p q (z ++ r) (subst (λ es. Stands b (q ++ es)) line three)) in
-    let five : Stands b' (p' ++ (q' ++ (z ++ r))) =
-    subst (λ es. Stands b' es) (append_assoc p' q' (z ++ r)) (c.kept (z ++ r) four) in
-    let six : Stands b' (q' ++ (((p' ++ z) ++ v.before) ++ v.behind)) =
-    subst (λ es. Stands b' (q' ++ es)) (sym line') (moved p' q' (z ++ r) five) in
-    let seven : Stands b' ((p' ++ z) ++ ys') = unfocused (swaps_after (p' ++ z) v) six in
+    let four : BlocksAre b ((p ++ q) ++ (z ++ r)) =
+    subst (λ es. BlocksAre b es) (sym (append_assoc p q (z ++ r)))
+    (moved_back p q (z ++ r) (subst (λ es. BlocksAre b (q ++ es)) line three)) in
+    let five : BlocksAre b' (p' ++ (q' ++ (z ++ r))) =
+    subst (λ es. BlocksAre b' es) (append_assoc p' q' (z ++ r)) (c.kept (z ++ r) four) in
+    let six : BlocksAre b' (q' ++ (((p' ++ z) ++ v.before) ++ v.behind)) =
+    subst (λ es. BlocksAre b' (q' ++ es)) (sym line') (moved p' q' (z ++ r) five) in
+    let seven : BlocksAre b' ((p' ++ z) ++ ys') = unfocused (swaps_after (p' ++ z) v) six in
     unfocused (swaps_before ys' u)
-    (subst (λ es. Stands b' es)
+    (subst (λ es. BlocksAre b' es)
     (append_assoc p' z ys' ∙ ap (λ t. p' ++ t) (append_assoc u.before u.behind ys')) seven)

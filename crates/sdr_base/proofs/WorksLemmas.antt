@@ -2,7 +2,7 @@
 use Rattle.std.proofs.Common.{◌+◌, ◌≤◌, ℕ, ◌∙◌, rules, arith}
 use Rattle.std.specs.Prelude.{Result, Ok, Err}
 use Rattle.sdr_base.specs.Objects.{Settled}
-use Rattle.sdr_base.specs.Works.{Looks, Works}
+use Rattle.sdr_base.specs.Works.{Looks, Spends}
 use Rattle.sdr_base.specs.declared.has_heap.HasHeap.{Ghosts}
 use Rattle.sdr_base.specs.declared.refusal.Refusal.TheVariants.{LogFull}
 use Rattle.sdr_base.specs.declared.stop.Stop.{Stop}
@@ -12,7 +12,7 @@ use Rattle.sdr_base.proofs.TransactionLemmas.{reason_stopped, reason_then, touch
 
 -- a call after another
 pub works_then : {S T U : Type 0} {m : Ghosts S} {i j : ℕ} {a b c : S} {v : U} {r : Result T Stop} →
-    Works m i a b (Ok v) → Works m j b c r → Works m (i + j) a c r
+    Spends m i a b (Ok v) → Spends m j b c r → Spends m (i + j) a c r
 works_then {S} {T} {U} {m} {i} {j} {a} {b} {c} {v} {r} f s = record {
   kept = s.kept;
   moved = Settled-then r (λ go begin led. go begin (f.moved begin led)) s.moved;
@@ -28,7 +28,7 @@ always (Err (Refused refusal)) P p = p
 always (Err stop) P p = search rules
 
 -- a call that only reads, as one that touches no line
-pub looks_works : {S T : Type 0} {m : Ghosts S} {a b : S} {r : Result T Stop} → Looks m a b r → Works m 0 a b r
+pub looks_works : {S T : Type 0} {m : Ghosts S} {a b : S} {r : Result T Stop} → Looks m a b r → Spends m 0 a b r
 looks_works {S} {T} {m} {a} {b} {r} l = record {
   kept = always r _ l.kept;
   moved = always r _ l.moved;
@@ -38,8 +38,8 @@ looks_works {S} {T} {m} {a} {b} {r} l = record {
 }
 
 -- so many lines at most are more at most
-pub works_more : {S T : Type 0} {m : Ghosts S} {i j : ℕ} {a b : S} {r : Result T Stop} → Works m i a b r → i ≤ j →
-    Works m j a b r
+pub works_more : {S T : Type 0} {m : Ghosts S} {i j : ℕ} {a b : S} {r : Result T Stop} → Spends m i a b r → i ≤ j →
+    Spends m j a b r
 works_more {S} {T} {m} {i} {j} {a} {b} {r} w le = record {
   kept = w.kept;
   moved = w.moved;
@@ -50,11 +50,11 @@ works_more {S} {T} {m} {i} {j} {a} {b} {r} w le = record {
 
 -- a call after one that only read
 pub looks_then : {S T U : Type 0} {m : Ghosts S} {j : ℕ} {a b c : S} {v : U} {r : Result T Stop} →
-    Looks m a b (Ok v) → Works m j b c r → Works m j a c r
+    Looks m a b (Ok v) → Spends m j b c r → Spends m j a c r
 looks_then l w = works_more (works_then (looks_works l) w) (omega arith)
 
 -- an answer's value doesn't matter
-pub works_ok : {S T U : Type 0} {m : Ghosts S} {lines : ℕ} {a b : S} {v : T} {u : U} → Works m lines a b (Ok v) → Works m lines a b (Ok u)
+pub works_ok : {S T U : Type 0} {m : Ghosts S} {lines : ℕ} {a b : S} {v : T} {u : U} → Spends m lines a b (Ok v) → Spends m lines a b (Ok u)
 works_ok w = record {
   kept = w.kept;
   moved = w.moved;
@@ -92,8 +92,8 @@ pub looks_on : {S T U V : Type 0} {m : Ghosts S} {a b c : S} {v : T} {w : U} {x 
 looks_on f s = looks_ok (looks_looks f s)
 
 -- what a stop touches and keeps doesn't depend on what would have been answered
-pub works_stopped : {S T U : Type 0} {m : Ghosts S} {lines : ℕ} {a b : S} (stop : Stop) → Works {T = T} m lines a b (Err stop) →
-    Works {T = U} m lines a b (Err stop)
+pub works_stopped : {S T U : Type 0} {m : Ghosts S} {lines : ℕ} {a b : S} (stop : Stop) → Spends {T = T} m lines a b (Err stop) →
+    Spends {T = U} m lines a b (Err stop)
 works_stopped {S} {T} {U} {m} {lines} {a} {b} stop w = record {
   kept = w.kept;
   moved = w.moved;

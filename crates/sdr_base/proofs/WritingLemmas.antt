@@ -6,7 +6,7 @@ use Rattle.sdr_base.specs.declared.kind.Kind.{Kind}
 use Rattle.sdr_base.specs.Blocks.{Block, Blocks, with_block, overwritten, Reaches}
 use Rattle.sdr_base.specs.Stored.{number_at}
 use Rattle.sdr_base.specs.Words.{layout, HasWord}
-use Rattle.sdr_base.specs.Entries.{Entries, Stands}
+use Rattle.sdr_base.specs.Entries.{Entries, BlocksAre}
 use Rattle.sdr_base.proofs.LayoutLemmas.{overwrite-layout, number_at-layout, length-layout}
 use Rattle.sdr_base.proofs.StandingLemmas.{found, written_at}
 
@@ -28,11 +28,11 @@ word_is o kind ws rest n value e h fits is =
 
 pub word_set : (b b' : Blocks) (p : ℕ) (kind : Kind) (ws rest : List ℕ) (n value : ℕ) (xs ys : Entries)
     → b' ≡ with_block b p (overwritten (b p) (8 * n) (big_bytes 8 value)) → n < length ws
-    → Stands b (xs ++ ((p, block kind (layout ws rest)) ∷ ys)) →
-    Stands b' (xs ++ ((p, block kind (layout (set ws n value) rest)) ∷ ys))
+    → BlocksAre b (xs ++ ((p, block kind (layout ws rest)) ∷ ys)) →
+    BlocksAre b' (xs ++ ((p, block kind (layout (set ws n value) rest)) ∷ ys))
 word_set b b' p kind ws rest n value xs ys e h s =
     let o = found b p _ xs ys s in
-    subst (λ c. Stands c (xs ++ ((p, block kind (layout (set ws n value) rest)) ∷ ys)))
+    subst (λ c. BlocksAre c (xs ++ ((p, block kind (layout (set ws n value) rest)) ∷ ys)))
     (ap (λ bytes. with_block b p (Some (block kind bytes))) (sym (overwrite-layout ws rest n value h))
     ∙ ap (λ x. with_block b p (overwritten x (8 * n) (big_bytes 8 value))) (sym o) ∙ sym e)
     (written_at b p _ (block kind (layout (set ws n value) rest)) xs ys s)

@@ -1,7 +1,7 @@
 -- The blocks that keep a list: the list's own, and a chain of elements.
 use Rattle.std.specs.Prelude.{◌<◌, ◌^◌, ℕ, List, [], ◌∷◌, ◌++◌, length, All}
 use Rattle.sdr_base.specs.Blocks.{Block, Blocks}
-use Rattle.sdr_base.specs.Entries.{Entries, Stands}
+use Rattle.sdr_base.specs.Entries.{Entries, BlocksAre}
 use Rattle.sdr_base.specs.Linked.{first_of, last_of, linked}
 use Rattle.sdr_base.specs.Words.{layout}
 use Rattle.sdr_base.specs.declared.kind.Kind.TheVariants as kinds
@@ -53,6 +53,6 @@ pub record RowFits (row : ListRow) : Type 0 where
 -- a list is kept among these blocks
 pub record KeepsList (blocks : Blocks) (list : ℕ) (row : ListRow) : Type 0 where
   pub rest : Entries
-  pub stands : Stands blocks (list_entries list row ++ rest)
+  pub stands : BlocksAre blocks (list_entries list row ++ rest)
   pub few : length row.elements < 2 ^ 32
   pub fits : RowFits row

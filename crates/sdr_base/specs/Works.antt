@@ -16,7 +16,7 @@ StaysQuiet m old new = (begin : _) → m.quiet begin old → m.quiet begin new
 
 -- the call touches so many lines more at most, and each of its answers has its cause; unless it was stopped for want of
 -- log room or by a fault, there is a heap still, and its moves fit the pools
-pub record Works {S T : Type 0} (m : Ghosts S) (lines : ℕ) (old new : S) (result : Result T Stop) : Type 0 where
+pub record Spends {S T : Type 0} (m : Ghosts S) (lines : ℕ) (old new : S) (result : Result T Stop) : Type 0 where
   pub kept : Settled result (KeepsSome (m.keeps new))
   pub moved : Settled result (LeadsOn m old new)
   pub room : TouchesAtMost lines (m.transaction old) (m.transaction new) result

@@ -5,7 +5,7 @@ ghost use Rattle.sdr_base.specs.Moves.{KeepsSome, Moves};
 ghost use Rattle.sdr_base.specs.Objects.{TakesZeros, with_given, with_bytes, with_root, with_mark};
 ghost use Rattle.sdr_base.specs.Objects.{OnlyUnmoved, OnlyFault, OnlyShort};
 ghost use Rattle.sdr_base.specs.Entries.{Few};
-ghost use Rattle.sdr_base.specs.Works.{Works, Looks, LeadsOn, StaysQuiet};
+ghost use Rattle.sdr_base.specs.Works.{Spends, Looks, LeadsOn, StaysQuiet};
 ghost use Rattle.sdr_base.specs.declared.control.TheConstants as control;
 ghost use Rattle.sdr_base.specs.declared.line.TheConstants.{LINE, MOST_LINES};
 
@@ -25,7 +25,7 @@ pub trait Objects: HasHeap {
         ensures taken { IfOk result (λ addr.
             TakesZeros kind need addr (Self.heap self.old) (Self.heap self.new)) }
         ensures refused { IfErr result (OnlyShort need (Self.heap self.old) (Self.heap self.new)) }
-        ensures works { Works Self.HasHeap (24 + need / 64) self.old self.new result };
+        ensures works { Spends Self.HasHeap (24 + need / 64) self.old self.new result };
 
     /// Gives the block at an address back. Its mark stays.
     fn give(&mut self, addr: Addr) -> Result<(), Stop>
@@ -34,7 +34,7 @@ pub trait Objects: HasHeap {
         requires used { Uses (Self.heap self.old).blocks addr }
         ensures given { OnOk result (Self.heap self.new ≡ with_given (Self.heap self.old) addr) }
         ensures refused { IfErr result (OnlyUnmoved (Self.heap self.old) (Self.heap self.new)) }
-        ensures works { Works Self.HasHeap 24 self.old self.new result };
+        ensures works { Spends Self.HasHeap 24 self.old self.new result };
 
     /// The kind of the block in use at an address, and how many bytes it has; `None` where none
     /// begins there.
@@ -61,7 +61,7 @@ pub trait Objects: HasHeap {
         ensures written { OnOk result
             (Self.heap self.new ≡ with_bytes (Self.heap self.old) addr place from.now) }
         ensures refused { IfErr result (OnlyUnmoved (Self.heap self.old) (Self.heap self.new)) }
-        ensures works { Works Self.HasHeap (2 + length from.now / 64) self.old self.new result };
+        ensures works { Spends Self.HasHeap (2 + length from.now / 64) self.old self.new result };
 
     /// The number in a control word that belongs to what the blocks keep: the catalogue, the
     /// accounts, the next ticket.
@@ -81,7 +81,7 @@ pub trait Objects: HasHeap {
         ensures written { OnOk result (Self.heap self.new
             ≡ with_root (Self.heap self.old) word value) }
         ensures refused { IfErr result (OnlyUnmoved (Self.heap self.old) (Self.heap self.new)) }
-        ensures works { Works Self.HasHeap 1 self.old self.new result };
+        ensures works { Spends Self.HasHeap 1 self.old self.new result };
 
     /// Marks a block in use for this transaction.
     fn mark(&mut self, addr: Addr)

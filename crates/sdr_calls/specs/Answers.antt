@@ -16,7 +16,7 @@ use Rattle.sdr_model.specs.declared.call.Call.{Call}
 
 -- the call is one step of the world now, in which blocks have the next addresses; want of memory leaves the
 -- world, and what it was at the begin stays
-pub record Answers (call : Call) (old new : Draft) (result : Result Reply AllocError) : Type 0 where
+pub record CallsMemory (call : Call) (old new : Draft) (result : Result Reply AllocError) : Type 0 where
   pub step : IfOk result (λ reply. StepsDry old.now call (dry_moves old.now call reply) new.now reply)
   pub begun : new.begun ≡ old.begun
   pub same : OnErr result (new.now ≡ old.now)

@@ -1,6 +1,6 @@
 // What calls on accounts and their tickets do to a world.
 ghost use Rattle.std.specs.Prelude.{◌≡◌};
-ghost use Rattle.sdr_calls.specs.Answers.{Answers};
+ghost use Rattle.sdr_calls.specs.Answers.{CallsMemory};
 ghost use Rattle.sdr_draft.specs.Calling.{MayCall};
 ghost use Rattle.sdr_model.specs.AccountSteps.{is_granted};
 ghost use Rattle.sdr_model.specs.Accounts.{pending_in};
@@ -23,7 +23,7 @@ pub struct Asking {
 
 pub fn occupancy(world: &mut Undoable, acct: Acct, space: Space) -> Result<Reply, NoMemory>
     requires may { MayCall world.old.now }
-    ensures { Answers (Call.Occupancy acct space) world.old world.new result }
+    ensures { CallsMemory (Call.Occupancy acct space) world.old world.new result }
 {
     let value = amount(&world.occupied(acct), space);
     world.hide();
@@ -31,7 +31,7 @@ pub fn occupancy(world: &mut Undoable, acct: Acct, space: Space) -> Result<Reply
 }
 
 pub fn maximum(world: &mut Undoable, acct: Acct, space: Space) -> Result<Reply, NoMemory>
-    ensures { Answers (Call.Maximum acct space) world.old world.new result }
+    ensures { CallsMemory (Call.Maximum acct space) world.old world.new result }
 {
     let value = amount(&world.accounts().account(acct).maxima, space);
     world.hide();
@@ -58,7 +58,7 @@ pub fn set_maximum(
     space: Space,
     value: u64,
 ) -> Result<Reply, NoMemory>
-    ensures { Answers (Call.SetMaximum acct space value) world.old world.new result }
+    ensures { CallsMemory (Call.SetMaximum acct space value) world.old world.new result }
 {
     if value > MOST_AMOUNT {
         return Ok(too_large(space, value, MOST_AMOUNT));
@@ -80,7 +80,7 @@ fn is_granted(world: &Undoable, acct: Acct, number: u64) -> bool
 pub fn request(world: &mut Undoable, acct: Acct, asking: Asking) -> Result<Reply, NoMemory>
     requires may { MayCall world.old.now }
     ensures { let asked = asking.amounts in
-        Answers (Call.Request acct asked.file asked.bulk asked.heap asking.coarse asking.fine) world.old world.new result }
+        CallsMemory (Call.Request acct asked.file asked.bulk asked.heap asking.coarse asking.fine) world.old world.new result }
 {
     let maxima = world.accounts().account(acct).maxima;
     if let Some(space) = first_above(&asking.amounts, &maxima) {
@@ -97,7 +97,7 @@ pub fn request(world: &mut Undoable, acct: Acct, asking: Asking) -> Result<Reply
 }
 
 pub fn awarded(world: &mut Undoable, ticket: u64) -> Result<Reply, NoMemory>
-    ensures { Answers (Call.Awarded ticket) world.old world.new result }
+    ensures { CallsMemory (Call.Awarded ticket) world.old world.new result }
 {
     let Some(pending) = world.accounts().pending(ticket) else {
         return Ok(bad_ticket(ticket));
@@ -110,7 +110,7 @@ pub fn awarded(world: &mut Undoable, ticket: u64) -> Result<Reply, NoMemory>
 }
 
 pub fn shred(world: &mut Undoable, ticket: u64) -> Result<Reply, NoMemory>
-    ensures { Answers (Call.Shred ticket) world.old world.new result }
+    ensures { CallsMemory (Call.Shred ticket) world.old world.new result }
 {
     let Some(pending) = world.accounts().pending(ticket) else {
         return Ok(bad_ticket(ticket));

@@ -1,6 +1,6 @@
 // What calls on the catalogue do to a world.
 ghost use Rattle.std.specs.Prelude.{◌≡◌, ◌<◌, ◌^◌, length};
-ghost use Rattle.sdr_calls.specs.Answers.{Answers};
+ghost use Rattle.sdr_calls.specs.Answers.{CallsMemory};
 ghost use Rattle.sdr_model.specs.Limits.{is_no_name};
 
 use crate::raw_calls::bad_length;
@@ -20,7 +20,7 @@ fn is_no_name(name: &Bytes) -> bool
 
 pub fn catlg(world: &mut Undoable, name: &Bytes, kind: u32, object: u64) -> Result<Reply, NoMemory>
     requires taken { world.old.now.taken < 2 ^ 60 }
-    ensures { Answers (Call.Catlg name.now kind object) world.old world.new result }
+    ensures { CallsMemory (Call.Catlg name.now kind object) world.old world.new result }
 {
     if is_no_name(name) {
         return Ok(bad_length(name.len() as u64, LONGEST_NAME));
@@ -34,7 +34,7 @@ pub fn catlg(world: &mut Undoable, name: &Bytes, kind: u32, object: u64) -> Resu
 }
 
 pub fn find(world: &mut Undoable, name: &Bytes) -> Result<Reply, NoMemory>
-    ensures { Answers (Call.Find name.now) world.old world.new result }
+    ensures { CallsMemory (Call.Find name.now) world.old world.new result }
 {
     if is_no_name(name) {
         return Ok(bad_length(name.len() as u64, LONGEST_NAME));
@@ -50,7 +50,7 @@ pub fn find(world: &mut Undoable, name: &Bytes) -> Result<Reply, NoMemory>
 }
 
 pub fn uncatlg(world: &mut Undoable, name: &Bytes) -> Result<Reply, NoMemory>
-    ensures { Answers (Call.Uncatlg name.now) world.old world.new result }
+    ensures { CallsMemory (Call.Uncatlg name.now) world.old world.new result }
 {
     if is_no_name(name) {
         return Ok(bad_length(name.len() as u64, LONGEST_NAME));
@@ -63,7 +63,7 @@ pub fn uncatlg(world: &mut Undoable, name: &Bytes) -> Result<Reply, NoMemory>
 }
 
 pub fn entry(alloc: Global, world: &mut Undoable, place: u64) -> Result<Reply, NoMemory>
-    ensures { Answers (Call.Entry place) world.old world.new result }
+    ensures { CallsMemory (Call.Entry place) world.old world.new result }
 {
     let Some((name, entry)) = world.names().at(place as usize) else {
         return Ok(Reply::Refused(Refusal::NotFound));

@@ -1,6 +1,6 @@
 // What calls on raw objects do to a world.
 ghost use Rattle.std.specs.Prelude.{◌≡◌, ◌<◌, ◌+◌, ◌^◌, OnErr, OnOk, length, nat_lt};
-ghost use Rattle.sdr_calls.specs.Answers.{Answers, HasRoom, Overwrites};
+ghost use Rattle.sdr_calls.specs.Answers.{CallsMemory, HasRoom, Overwrites};
 ghost use Rattle.sdr_draft.specs.Calling.{IsBound, MayCall};
 ghost use Rattle.sdr_model.specs.World.{as_raw, misnamed, thing_at};
 ghost use Rattle.sdr_model.specs.Zco.{uses_of};
@@ -33,7 +33,7 @@ pub fn misnamed(world: &Undoable, addr: Addr) -> Reply
 
 pub fn malloc(alloc: Global, world: &mut Undoable, bytes: u64) -> Result<Reply, NoMemory>
     requires taken { world.old.now.taken < 2 ^ 60 }
-    ensures { Answers (Call.Malloc bytes) world.old world.new result }
+    ensures { CallsMemory (Call.Malloc bytes) world.old world.new result }
 {
     if bytes > LONGEST_RAW {
         return Ok(bad_length(bytes, LONGEST_RAW));
@@ -56,7 +56,7 @@ pub fn in_use(world: &Undoable, raw: Addr, source: Addr) -> Reply
 
 pub fn free(world: &mut Undoable, addr: Addr) -> Result<Reply, NoMemory>
     requires may { MayCall world.old.now }
-    ensures { Answers (Call.Free addr) world.old world.new result }
+    ensures { CallsMemory (Call.Free addr) world.old world.new result }
 {
     match world.thing(addr) {
         Some(Thing::Raw(_)) => {
@@ -72,7 +72,7 @@ pub fn free(world: &mut Undoable, addr: Addr) -> Result<Reply, NoMemory>
 }
 
 pub fn length(world: &mut Undoable, addr: Addr) -> Result<Reply, NoMemory>
-    ensures { Answers (Call.Length addr) world.old world.new result }
+    ensures { CallsMemory (Call.Length addr) world.old world.new result }
 {
     let Some(block) = world.block(addr) else {
         return Ok(misnamed(world, addr));
@@ -102,7 +102,7 @@ pub fn read(
     place: u64,
     count: u64,
 ) -> Result<Reply, NoMemory>
-    ensures { Answers (Call.Read addr place count) world.old world.new result }
+    ensures { CallsMemory (Call.Read addr place count) world.old world.new result }
 {
     let Some(bytes) = world.raw(addr) else {
         return Ok(misnamed(world, addr));
@@ -144,7 +144,7 @@ fn overwrite(world: &mut Undoable, addr: Addr, place: usize, from: &[u8]) -> Res
 }
 
 pub fn write(world: &mut Undoable, addr: Addr, place: u64, from: &Bytes) -> Result<Reply, NoMemory>
-    ensures { Answers (Call.Write addr place from.now) world.old world.new result }
+    ensures { CallsMemory (Call.Write addr place from.now) world.old world.new result }
 {
     let Some(bytes) = world.raw(addr) else {
         return Ok(misnamed(world, addr));
@@ -165,7 +165,7 @@ pub fn write(world: &mut Undoable, addr: Addr, place: u64, from: &Bytes) -> Resu
 }
 
 pub fn stage(alloc: Global, world: &mut Undoable, addr: Addr, count: u64) -> Result<Reply, NoMemory>
-    ensures { Answers (Call.Stage addr count) world.old world.new result }
+    ensures { CallsMemory (Call.Stage addr count) world.old world.new result }
 {
     let Some(bytes) = world.raw(addr) else {
         return Ok(misnamed(world, addr));

@@ -1,7 +1,7 @@
 // What calls on strings do to a world.
 ghost use Rattle.std.specs.Option.{option_copied};
 ghost use Rattle.std.specs.Prelude.{◌≡◌, ◌<◌, ◌^◌};
-ghost use Rattle.sdr_calls.specs.Answers.{Answers};
+ghost use Rattle.sdr_calls.specs.Answers.{CallsMemory};
 ghost use Rattle.sdr_model.specs.World.{as_text, thing_at};
 
 use crate::raw_calls::{bad_length, misnamed};
@@ -23,7 +23,7 @@ fn text(world: &Undoable, addr: Addr) -> Option<&Bytes>
 
 pub fn string(alloc: Global, world: &mut Undoable, text: &Bytes) -> Result<Reply, NoMemory>
     requires taken { world.old.now.taken < 2 ^ 60 }
-    ensures { Answers (Call.String text.now) world.old world.new result }
+    ensures { CallsMemory (Call.String text.now) world.old world.new result }
 {
     let length = text.len() as u64;
     if length > LONGEST_STRING {
@@ -35,7 +35,7 @@ pub fn string(alloc: Global, world: &mut Undoable, text: &Bytes) -> Result<Reply
 }
 
 pub fn string_length(world: &mut Undoable, addr: Addr) -> Result<Reply, NoMemory>
-    ensures { Answers (Call.StringLength addr) world.old world.new result }
+    ensures { CallsMemory (Call.StringLength addr) world.old world.new result }
 {
     let Some(text) = text(world, addr) else {
         return Ok(misnamed(world, addr));
@@ -46,7 +46,7 @@ pub fn string_length(world: &mut Undoable, addr: Addr) -> Result<Reply, NoMemory
 }
 
 pub fn string_read(alloc: Global, world: &mut Undoable, addr: Addr) -> Result<Reply, NoMemory>
-    ensures { Answers (Call.StringRead addr) world.old world.new result }
+    ensures { CallsMemory (Call.StringRead addr) world.old world.new result }
 {
     let Some(text) = text(world, addr) else {
         return Ok(misnamed(world, addr));
@@ -59,7 +59,7 @@ pub fn string_read(alloc: Global, world: &mut Undoable, addr: Addr) -> Result<Re
 
 pub fn string_dup(alloc: Global, world: &mut Undoable, addr: Addr) -> Result<Reply, NoMemory>
     requires taken { world.old.now.taken < 2 ^ 60 }
-    ensures { Answers (Call.StringDup addr) world.old world.new result }
+    ensures { CallsMemory (Call.StringDup addr) world.old world.new result }
 {
     let Some(text) = text(world, addr) else {
         return Ok(misnamed(world, addr));

@@ -8,7 +8,7 @@ use Rattle.sdr_base.proofs.HeapLemmas.{short_after}
 use Rattle.std.specs.Prelude.{replicate}
 use Rattle.sdr_base.specs.Blocks.{Blocks, Reaches, with_at}
 use Rattle.sdr_base.specs.Catalogue.{NameRow, catalogue_entries, name_addr, name_block, name_bytes}
-use Rattle.sdr_base.specs.Entries.{Entries, Stands}
+use Rattle.sdr_base.specs.Entries.{Entries, BlocksAre}
 use Rattle.sdr_base.specs.Linked.{first_of, last_of, linked}
 use Rattle.sdr_base.specs.Making.{Made, besides, with_moves}
 use Rattle.sdr_base.specs.Objects.{Heap, with_root}
@@ -23,7 +23,7 @@ use Rattle.sdr_base.proofs.StandingLemmas.{came}
 use Rattle.sdr_base.proofs.ChainLemmas.{last_holds}
 use Rattle.sdr_cat.specs.Changes.{AddsLast, with_last}
 use Rattle.sdr_cat.specs.Kept.{KeepsNames}
-use Rattle.sdr_cat.specs.Links.{Chain, LinksNext}
+use Rattle.sdr_cat.specs.Links.{CatalogueChain, LinksNext}
 use Rattle.sdr_cat.proofs.NameLemmas.{length-name_bytes, words}
 
 -- what is said of a stop goes by the moves and by the room for more
@@ -51,7 +51,7 @@ at_least name =
     let z = length-replicate {A = ℕ} (31 - length name) 0 in omega (arith, a, z)
 
 -- the last entry of some first ones is there
-pub last_reaches : {heap : Heap} {prev was : ℕ} {rest : Entries} (rows : List NameRow) → Chain heap rows was rest → prev ≡ last_of name_addr 0 rows → prev ≢ 0 →
+pub last_reaches : {heap : Heap} {prev was : ℕ} {rest : Entries} (rows : List NameRow) → CatalogueChain heap rows was rest → prev ≡ last_of name_addr 0 rows → prev ≢ 0 →
     Reaches (heap.blocks prev) 56
 last_reaches [] c e n = absurd (n e)
 last_reaches {heap} {prev} {was} {rest} (x ∷ xs) c e n =
@@ -61,18 +61,19 @@ last_reaches {heap} {prev} {was} {rest} (x ∷ xs) c e n =
 
 -- a block that was taken stands behind them
 pub came_behind : {addr next : ℕ} {old mid : Heap} {rows : List NameRow} {rest : Entries} (name : List ℕ) (kind object : ℕ) →
-    TakesBytes kinds.Name (layout (0 ∷ kind ∷ object ∷ []) (name_bytes name)) addr old mid → Chain old rows next rest →
-    Chain mid rows next ((addr, name_block 0 0 (last_row addr name kind object)) ∷ rest)
+    TakesBytes kinds.Name (layout (0 ∷ kind ∷ object ∷ []) (name_bytes name)) addr old mid → CatalogueChain old rows
+        next rest →
+    CatalogueChain mid rows next ((addr, name_block 0 0 (last_row addr name kind object)) ∷ rest)
 came_behind {addr} {next} {old} {mid} {rows} {rest} name kind object t c = record {
   stands =
-      subst (λ (b : Blocks). Stands b (linked name_addr name_block 0 next rows ++ ((addr, name_block 0 0 (last_row addr name kind object)) ∷ rest)))
+      subst (λ (b : Blocks). BlocksAre b (linked name_addr name_block 0 next rows ++ ((addr, name_block 0 0 (last_row addr name kind object)) ∷ rest)))
       (sym (ap (λ (h : Heap). h.blocks) t.taken))
       (came old.blocks addr (name_block 0 0 (last_row addr name kind object)) (linked name_addr name_block 0 next rows) rest t.nonzero t.fresh c.stands);
   first = ap (λ (h : Heap). h.roots 89) t.taken ∙ c.first;
 }
 
 -- the catalogue as a chain
-pub chain_of : {heap : Heap} {names : List NameRow} → KeepsNames heap names → (rest : Entries) → Stands heap.blocks (catalogue_entries names ++ rest) → Chain heap names 0 rest
+pub chain_of : {heap : Heap} {names : List NameRow} → KeepsNames heap names → (rest : Entries) → BlocksAre heap.blocks (catalogue_entries names ++ rest) → CatalogueChain heap names 0 rest
 chain_of k rest s = record { stands = s; first = k.first }
 
 -- an entry that is linked behind the last one is the last one
@@ -105,8 +106,8 @@ adds_last {name} {kind} {object} {last} {addr} {old} {mid} {linked_to} {new} is_
     fresh = t.fresh;
     changes = record {
       kept = λ rest s.
-          subst (λ (b : Blocks). Stands b (catalogue_entries (with_last names addr name kind object) ++ rest)) (sym (heap_blocks w))
-          (subst (λ (es : Entries). Stands linked_to.blocks es) (linked_last names (last_row addr name kind object) rest)
+          subst (λ (b : Blocks). BlocksAre b (catalogue_entries (with_last names addr name kind object) ++ rest)) (sym (heap_blocks w))
+          (subst (λ (es : Entries). BlocksAre linked_to.blocks es) (linked_last names (last_row addr name kind object) rest)
           (chain names k rest s).stands);
     };
   };
@@ -124,8 +125,8 @@ adds_last {name} {kind} {object} {last} {addr} {old} {mid} {linked_to} {new} is_
   };
 }
   where
-    chain : (names : List NameRow) → (k : KeepsNames old names) → (rest : Entries) → Stands old.blocks (catalogue_entries names ++ rest) →
-        Chain linked_to names addr ((addr, name_block 0 0 (last_row addr name kind object)) ∷ rest)
+    chain : (names : List NameRow) → (k : KeepsNames old names) → (rest : Entries) → BlocksAre old.blocks (catalogue_entries names ++ rest) →
+        CatalogueChain linked_to names addr ((addr, name_block 0 0 (last_row addr name kind object)) ∷ rest)
     chain names k rest s =
         l.links names 0 ((addr, name_block 0 0 (last_row addr name kind object)) ∷ rest) (is_last ∙ k.last) (came_behind name kind object t (chain_of k rest s))
 

@@ -5,7 +5,7 @@ use Rattle.sdr_base.specs.Catalogue.{name_addr}
 use Rattle.sdr_base.specs.Linked.{first_of}
 use Rattle.sdr_base.specs.Objects.{Heap}
 use Rattle.sdr_base.specs.Words.{HasWord}
-use Rattle.sdr_cat.specs.Calls.{FindsName, LacksName, told_of}
+use Rattle.sdr_cat.specs.Calls.{FindsName, LacksName, row_told}
 use Rattle.sdr_cat.specs.Kept.{KeepsEntry, SomeEntry}
 use Rattle.sdr_cat.specs.Names.{IsName}
 use Rattle.sdr_cat.specs.Walks.{Searches, TellsEntry}
@@ -33,7 +33,7 @@ finds {heap} {name} {place} {value} is s t = record {
   tells = λ names k.
       let f = s.searched names k in
       let e = subst (λ p. KeepsEntry (heap.blocks p) f.row (first_of name_addr 0 f.behind)) (sym f.at_addr) (here k f.before f.row f.behind f.whole) in
-      ap told_of (place_found f) ∙ ap (λ (v : ℕ × ℕ). Some v) (sym (t.tells f.row (first_of name_addr 0 f.behind) e));
+      ap row_told (place_found f) ∙ ap (λ (v : ℕ × ℕ). Some v) (sym (t.tells f.row (first_of name_addr 0 f.behind) e));
 }
 
 -- or it isn't there

@@ -4,7 +4,7 @@ use Rattle.std.proofs.lemmas.Bool.{eq-eqb, eqb-true}
 use Rattle.byteorder.specs.Endian.{big_bytes}
 use Rattle.sdr_base.specs.Blocks.{Blocks, with_at}
 use Rattle.sdr_base.specs.Catalogue.{NameRow, name_addr, name_block, name_bytes}
-use Rattle.sdr_base.specs.Entries.{Entries, Stands}
+use Rattle.sdr_base.specs.Entries.{Entries, BlocksAre}
 use Rattle.sdr_base.specs.Linked.{last_of, linked}
 use Rattle.sdr_base.specs.Making.{besides}
 use Rattle.sdr_base.specs.Objects.{Heap, with_root}
@@ -13,7 +13,7 @@ use Rattle.sdr_base.specs.declared.kind.Kind.TheVariants as kinds
 use Rattle.sdr_base.proofs.HeapLemmas.{heap_blocks}
 use Rattle.sdr_base.proofs.LayoutLemmas.{overwrite-layout}
 use Rattle.sdr_base.proofs.LinkedLemmas.{last_nonzero, relinked_next}
-use Rattle.sdr_cat.specs.Links.{Chain, LinksNext}
+use Rattle.sdr_cat.specs.Links.{CatalogueChain, LinksNext}
 use Rattle.sdr_cat.proofs.NameLemmas.{words}
 
 -- a value that is put at a place again, and the one that is there
@@ -30,17 +30,17 @@ at-same values place = λ i other. same other (other == place) refl i
     same other false e = refl
 
 first_linked : {old new : Heap} {prev next : ℕ} → prev ≡ 0 → new ≡ with_root old 89 next → (rows : List NameRow) (was : ℕ) (rest : Entries) →
-    prev ≡ last_of name_addr 0 rows → Chain old rows was rest → Chain new rows next rest
+    prev ≡ last_of name_addr 0 rows → CatalogueChain old rows was rest → CatalogueChain new rows next rest
 unfolding linked
 first_linked {old} {new} {prev} {next} z w [] was rest e c = record {
-  stands = subst (λ (b : Blocks). Stands b rest) (sym (heap_blocks w)) c.stands;
+  stands = subst (λ (b : Blocks). BlocksAre b rest) (sym (heap_blocks w)) c.stands;
   first = ap (λ (h : Heap). h.roots 89) w ∙ at-here old.roots 89 next;
 }
 first_linked {old} z w (x ∷ xs) was rest e c =
     absurd (last_nonzero name_addr name_block old.blocks [] rest 0 was x xs c.stands (sym e ∙ z))
 
 next_linked : {old new : Heap} {prev next : ℕ} → prev ≢ 0 → new ≡ with_word old prev 0 next → (rows : List NameRow) (was : ℕ) (rest : Entries) →
-    prev ≡ last_of name_addr 0 rows → Chain old rows was rest → Chain new rows next rest
+    prev ≡ last_of name_addr 0 rows → CatalogueChain old rows was rest → CatalogueChain new rows next rest
 next_linked n w [] was rest e c = absurd (n e)
 next_linked {old} {new} {prev} {next} n w (x ∷ xs) was rest e c = record {
   stands =

@@ -3,7 +3,7 @@ use Rattle.std.proofs.Common.{◌≡◌, ◌≢◌, ℕ, zero, suc, ◌-◌, tru
 use Rattle.std.specs.Prelude.{find}
 use Rattle.sdr_base.specs.Blocks.{Blocks, Reaches, with_at, with_block}
 use Rattle.sdr_base.specs.Catalogue.{NameRow, catalogue_entries, name_addr, name_block, name_bytes}
-use Rattle.sdr_base.specs.Entries.{Entries, Stands}
+use Rattle.sdr_base.specs.Entries.{Entries, BlocksAre}
 use Rattle.sdr_base.specs.Linked.{first_of, last_of, linked}
 use Rattle.sdr_base.specs.Making.{besides, with_moves}
 use Rattle.sdr_base.specs.Objects.{Heap, with_given}
@@ -17,7 +17,7 @@ use Rattle.sdr_base.proofs.WritingLemmas.{reaches}
 use Rattle.sdr_base.proofs.ChainLemmas.{linked-around}
 use Rattle.sdr_cat.specs.Changes.{LinksLast, SomeFirst, TakesOut, last_if}
 use Rattle.sdr_cat.specs.Kept.{KeepsEntry, KeepsNames, SomeEntry}
-use Rattle.sdr_cat.specs.Links.{Chain, LinksNext}
+use Rattle.sdr_cat.specs.Links.{CatalogueChain, LinksNext}
 use Rattle.sdr_cat.specs.Names.{is_named, without_name}
 use Rattle.sdr_cat.specs.Walks.{IsFirst}
 use Rattle.sdr_cat.specs.declared.searching.Place.{Place}
@@ -52,10 +52,10 @@ from_it xs x ys rest = (x.addr, name_block 0 (first_of name_addr 0 ys) x) ∷ (l
 
 -- the catalogue is opened at it
 pub opened : {heap : Heap} {names : List NameRow} → KeepsNames heap names → (xs : List NameRow) (x : NameRow) (ys : List NameRow) → names ≡ xs ++ (x ∷ ys) →
-    (rest : Entries) → Stands heap.blocks (catalogue_entries names ++ rest) → Chain heap xs x.addr (from_it xs x ys rest)
+    (rest : Entries) → BlocksAre heap.blocks (catalogue_entries names ++ rest) → CatalogueChain heap xs x.addr (from_it xs x ys rest)
 opened {heap} {names} k xs x ys e rest s = record {
   stands =
-      subst (λ (es : Entries). Stands heap.blocks es)
+      subst (λ (es : Entries). BlocksAre heap.blocks es)
       (ap (λ (rows : List NameRow). linked name_addr name_block 0 0 rows ++ rest) e
       ∙ ap (λ (es : Entries). es ++ rest) (linked-around name_addr name_block 0 0 xs x ys)
       ∙ append_assoc (linked name_addr name_block 0 x.addr xs)
@@ -103,7 +103,7 @@ module _ {place : Place} {next : ℕ} {old mid last : Heap} (h : HasWord (old.bl
       next_is (first_of name_addr 0 f.behind) f.row t.small (ap old.blocks f.at_addr ∙ t.block) h
 
   linked_past : {name : List ℕ} {names : List NameRow} → KeepsNames old names → (f : IsFirst name names place) → (rest : Entries) →
-      Stands old.blocks (catalogue_entries names ++ rest) → Chain mid f.before next (from_it f.before f.row f.behind rest)
+      BlocksAre old.blocks (catalogue_entries names ++ rest) → CatalogueChain mid f.before next (from_it f.before f.row f.behind rest)
   linked_past k f rest s =
       l.links f.before f.row.addr (from_it f.before f.row f.behind rest) f.at_previous (opened k f.before f.row f.behind f.whole rest s)
 
@@ -125,9 +125,9 @@ module _ {place : Place} {next : ℕ} {old mid last : Heap} (h : HasWord (old.bl
           let gone : new.blocks ≡ with_block mid.blocks f.row.addr None =
           given_blocks place.addr last new w ∙ ap (λ p. with_block last.blocks p None) f.at_addr
           ∙ ap (λ (b : Blocks). with_block b f.row.addr None) (same_blocks e) in
-          subst (λ (rows : List NameRow). Stands new.blocks (catalogue_entries rows ++ rest)) (sym (without_is f))
+          subst (λ (rows : List NameRow). BlocksAre new.blocks (catalogue_entries rows ++ rest)) (sym (without_is f))
           (taken_out name_addr name_block mid.blocks new.blocks [] rest 0 0 f.before (name_block 0 (first_of name_addr 0 f.behind) f.row) f.row.addr f.behind gone
-          (subst (λ n. Stands mid.blocks (linked name_addr name_block 0 n f.before ++ from_it f.before f.row f.behind rest)) (next_at k f) c.stands));
+          (subst (λ n. BlocksAre mid.blocks (linked name_addr name_block 0 n f.before ++ from_it f.before f.row f.behind rest)) (next_at k f) c.stands));
     };
     renamed = λ names name k f. record {
       all =

@@ -8,7 +8,7 @@ use Rattle.sdr_base.specs.declared.refusal.Refusal.TheVariants.{LogFull, NoBlock
 use Rattle.sdr_base.specs.declared.stop.Stop.{Stop}
 use Rattle.sdr_base.specs.declared.stop.Stop.TheVariants.{Refused, DiskFault, MediaFault, Failed}
 use Rattle.sdr_cat.specs.Calls.{LacksName}
-use Rattle.sdr_cat.specs.Changes.{AddsLast, CataloguesName, CatlgStops, HasName, IsThere, SomeFirst, TakesOut, UncataloguesName, UncatlgStops, addr_of, object_of}
+use Rattle.sdr_cat.specs.Changes.{AddsLast, CataloguesName, CatlgStops, HasName, IsThere, SomeFirst, TakesOut, UncataloguesName, UncatlgStops, row_addr, object_of}
 use Rattle.sdr_cat.specs.Kept.{KeepsEntry, SomeNames}
 use Rattle.sdr_cat.specs.Names.{IsName}
 use Rattle.sdr_cat.specs.Walks.{Searches}
@@ -46,7 +46,7 @@ is_there {place = place} is s = record {
   is = is;
   addr = place.addr;
   entry = λ names k.
-      let f = s.searched names k in ap addr_of (place_found f) ∙ ap (λ (v : ℕ). Some v) (sym f.at_addr);
+      let f = s.searched names k in ap row_addr (place_found f) ∙ ap (λ (v : ℕ). Some v) (sym f.at_addr);
 }
 
 pub some_first : {heap : Heap} {name : List ℕ} {place : Place} → SomeNames heap → Searches heap name (Some place) → SomeFirst place heap

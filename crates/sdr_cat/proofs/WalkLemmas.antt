@@ -6,7 +6,7 @@ use Rattle.std.proofs.lemmas.List.Elements.{All-head, All-tail}
 use Rattle.std.proofs.lemmas.List.Folds.{find-append}
 use Rattle.sdr_base.specs.Blocks.{Block, Reaches}
 use Rattle.sdr_base.specs.Catalogue.{NameRow, catalogue_entries, name_addr, name_block, name_bytes}
-use Rattle.sdr_base.specs.Entries.{Few, Stands}
+use Rattle.sdr_base.specs.Entries.{Few, BlocksAre}
 use Rattle.sdr_base.specs.Linked.{first_of}
 use Rattle.sdr_base.specs.Objects.{Heap}
 use Rattle.sdr_base.specs.Words.{HasWord}
@@ -53,7 +53,7 @@ here {heap} {names} k xs x ys e =
     record {
       block =
           linked_found name_addr name_block heap.blocks [] k.rest 0 0 xs x ys
-          (subst (λ (rows : List NameRow). Stands heap.blocks (catalogue_entries rows ++ k.rest)) e k.stands);
+          (subst (λ (rows : List NameRow). BlocksAre heap.blocks (catalogue_entries rows ++ k.rest)) e k.stands);
       fits = All-head NameFits x ys f;
       small = first_fits ys (All-tail NameFits x ys f);
     }

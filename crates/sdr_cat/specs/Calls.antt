@@ -9,14 +9,14 @@ use Rattle.sdr_cat.specs.Kept.{KeepsNames}
 use Rattle.sdr_cat.specs.Names.{IsBadName, IsName, is_named}
 
 -- the type and the object of an entry
-abbrev pub told_of : Option NameRow → Option (ℕ × ℕ)
-told_of None = None
-told_of (Some row) = Some (row.type_number, row.object)
+abbrev pub row_told : Option NameRow → Option (ℕ × ℕ)
+row_told None = None
+row_told (Some row) = Some (row.type_number, row.object)
 
 -- the name was found in whichever catalogue is kept
 pub record FindsName (name : List ℕ) (heap : Heap) (value : ℕ × ℕ) : Type 0 where
   pub is : IsName name
-  pub tells : (names : List NameRow) → KeepsNames heap names → told_of (find (is_named name) names) ≡ Some value
+  pub tells : (names : List NameRow) → KeepsNames heap names → row_told (find (is_named name) names) ≡ Some value
 
 -- the name isn't in whichever catalogue is kept
 pub record LacksName (name : List ℕ) (heap : Heap) : Type 0 where

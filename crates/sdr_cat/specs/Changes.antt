@@ -88,15 +88,15 @@ pub record TakesOut (place : Place) (old new : Heap) : Type 0 where
       Renamed (Gave place.addr ∷ []) (without_name name names) old new
 
 -- the address of an entry
-abbrev pub addr_of : Option NameRow → Option ℕ
-addr_of None = None
-addr_of (Some row) = Some row.addr
+abbrev pub row_addr : Option NameRow → Option ℕ
+row_addr None = None
+row_addr (Some row) = Some row.addr
 
 -- the name is in whichever catalogue is kept, with an entry at this address
 pub record IsThere (name : List ℕ) (heap : Heap) : Type 0 where
   pub is : IsName name
   pub addr : ℕ
-  pub entry : (names : List NameRow) → KeepsNames heap names → addr_of (find (is_named name) names) ≡ Some addr
+  pub entry : (names : List NameRow) → KeepsNames heap names → row_addr (find (is_named name) names) ≡ Some addr
 
 -- the name was taken out of whichever catalogue is kept, and its entry given back, and all else stays
 pub record UncataloguesName (name : List ℕ) (old new : Heap) : Type 0 where

@@ -2,7 +2,7 @@
 use Rattle.std.specs.Prelude.{◌≡◌, ◌≤◌, ◌<◌, ◌^◌, ℕ, List, ◌++◌, length, All, Option, Some}
 use Rattle.sdr_base.specs.Blocks.{Block}
 use Rattle.sdr_base.specs.Catalogue.{NameRow, catalogue_entries, name_addr, name_block}
-use Rattle.sdr_base.specs.Entries.{Entries, Stands}
+use Rattle.sdr_base.specs.Entries.{Entries, BlocksAre}
 use Rattle.sdr_base.specs.Linked.{first_of, last_of}
 use Rattle.sdr_base.specs.Objects.{Heap}
 use Rattle.sdr_base.specs.declared.control.TheConstants.{FIRST_NAME, LAST_NAME}
@@ -18,7 +18,7 @@ pub record NameFits (row : NameRow) : Type 0 where
 -- the heap keeps this catalogue
 pub record KeepsNames (heap : Heap) (names : List NameRow) : Type 0 where
   pub rest : Entries
-  pub stands : Stands heap.blocks (catalogue_entries names ++ rest)
+  pub stands : BlocksAre heap.blocks (catalogue_entries names ++ rest)
   pub first : heap.roots FIRST_NAME ≡ first_of name_addr 0 names
   pub last : heap.roots LAST_NAME ≡ last_of name_addr 0 names
   pub fits : All NameFits names

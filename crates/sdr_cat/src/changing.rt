@@ -2,7 +2,7 @@
 ghost use Rattle.std.specs.Prelude.{◌≡◌, ◌≢◌, ◌≤◌, length, IfOk, IfErr, OnOk};
 ghost use Rattle.sdr_base.specs.Moves.{KeepsSome};
 ghost use Rattle.sdr_base.specs.Objects.{OnlyShort, OnlyUnmoved};
-ghost use Rattle.sdr_base.specs.Works.{Works};
+ghost use Rattle.sdr_base.specs.Works.{Spends};
 ghost use Rattle.sdr_cat.specs.Changes.{AddsLast, CataloguesName, CatlgStops, LinksLast, SomeFirst};
 ghost use Rattle.sdr_cat.specs.Changes.{TakesOut, UncataloguesName, UncatlgStops};
 ghost use Rattle.sdr_cat.specs.Kept.{SomeNames};
@@ -22,7 +22,7 @@ pub fn catlg<O: Objects>(o: &mut O, name: &[u8], kind: u32, object: u64) -> Resu
     ensures catalogued { OnOk result
         (CataloguesName name.now kind object (O.heap o.old) (O.heap o.new)) }
     ensures refused { IfErr result (CatlgStops name.now (O.heap o.old) (O.heap o.new)) }
-    ensures works { Works O.HasHeap 30 o.old o.new result }
+    ensures works { Spends O.HasHeap 30 o.old o.new result }
 {
     check_failed(o)?;
     check_name(name)?;
@@ -43,7 +43,7 @@ fn add_last<O: Objects>(o: &mut O, name: &[u8], kind: u32, object: u64) -> Resul
     requires short { length name.now ≤ LONGEST_NAME }
     ensures added { OnOk result (AddsLast name.now kind object (O.heap o.old) (O.heap o.new)) }
     ensures refused { IfErr result (OnlyShort 56 (O.heap o.old) (O.heap o.new)) }
-    ensures works { Works O.HasHeap 30 o.old o.new result }
+    ensures works { Spends O.HasHeap 30 o.old o.new result }
 {
     let last = o.root(LAST_NAME)?;
     let added = take_entry(o, kind, object, name)?;
@@ -58,7 +58,7 @@ pub fn uncatlg<O: Objects>(o: &mut O, name: &[u8]) -> Result<(), Stop>
     requires names { SomeNames (O.heap o.old) }
     ensures uncatalogued { OnOk result (UncataloguesName name.now (O.heap o.old) (O.heap o.new)) }
     ensures refused { IfErr result (UncatlgStops name.now (O.heap o.old) (O.heap o.new)) }
-    ensures works { Works O.HasHeap 27 o.old o.new result }
+    ensures works { Spends O.HasHeap 27 o.old o.new result }
 {
     check_failed(o)?;
     check_name(name)?;
@@ -75,7 +75,7 @@ fn take_out<O: Objects>(o: &mut O, place: Place) -> Result<(), Stop>
     requires first { SomeFirst place (O.heap o.old) }
     ensures taken { OnOk result (TakesOut place (O.heap o.old) (O.heap o.new)) }
     ensures refused { IfErr result (OnlyUnmoved (O.heap o.old) (O.heap o.new)) }
-    ensures works { Works O.HasHeap 27 o.old o.new result }
+    ensures works { Spends O.HasHeap 27 o.old o.new result }
 {
     let next = word(o, place.addr, words::NEXT)?;
     link_next(o, place.previous, next)?;
@@ -88,7 +88,7 @@ fn link_last<O: Objects>(o: &mut O, next: Addr, prev: Addr) -> Result<(), Stop>
     requires kept { KeepsSome (O.keeps o.old) }
     ensures linked { OnOk result (LinksLast next prev (O.heap o.old) (O.heap o.new)) }
     ensures refused { IfErr result (OnlyUnmoved (O.heap o.old) (O.heap o.new)) }
-    ensures works { Works O.HasHeap 1 o.old o.new result }
+    ensures works { Spends O.HasHeap 1 o.old o.new result }
 {
     if next == 0 {
         o.set_root(LAST_NAME, prev)

@@ -5,7 +5,7 @@ ghost use Rattle.sdr_base.specs.Catalogue.{name_bytes};
 ghost use Rattle.sdr_base.specs.Moves.{KeepsSome};
 ghost use Rattle.sdr_base.specs.Objects.{OnlyShort, OnlyUnmoved};
 ghost use Rattle.sdr_base.specs.Words.{TakesBytes, layout};
-ghost use Rattle.sdr_base.specs.Works.{Works};
+ghost use Rattle.sdr_base.specs.Works.{Spends};
 ghost use Rattle.sdr_base.specs.declared.kind.Kind.TheVariants as kinds;
 ghost use Rattle.sdr_cat.specs.Links.{LinksNext};
 
@@ -21,7 +21,7 @@ pub fn link_next<O: Objects>(o: &mut O, prev: Addr, next: Addr) -> Result<(), St
     requires prev { prev ≢ 0 → UsesRange (O.heap o.old).blocks prev 0 56 }
     ensures linked { OnOk result (LinksNext prev next (O.heap o.old) (O.heap o.new)) }
     ensures refused { IfErr result (OnlyUnmoved (O.heap o.old) (O.heap o.new)) }
-    ensures works { Works O.HasHeap 2 o.old o.new result }
+    ensures works { Spends O.HasHeap 2 o.old o.new result }
 {
     if prev == 0 {
         o.set_root(FIRST_NAME, next)
@@ -39,7 +39,7 @@ pub fn take_entry<O: Objects>(o: &mut O, kind: u32, object: u64, name: &[u8]) ->
         (layout (0 ∷ kind ∷ object ∷ []) (name_bytes name.now)) addr
         (O.heap o.old) (O.heap o.new)) }
     ensures refused { IfErr result (OnlyShort 56 (O.heap o.old) (O.heap o.new)) }
-    ensures works { Works O.HasHeap 27 o.old o.new result }
+    ensures works { Spends O.HasHeap 27 o.old o.new result }
 {
     take_bytes(o, Kind::Name, &entry_bytes(kind, object, name))
 }

@@ -6,14 +6,14 @@ use Rattle.std.specs.List.{All}
 use Rattle.std.specs.Prelude.{Result, IfErr, IfOk, IfSome}
 use Rattle.sdr_base.specs.declared.refusal.Refusal.{Refusal}
 use Rattle.sdr_draft.specs.Allowed.{MayCharge, RefusesCharge}
-use Rattle.sdr_model.specs.Charging.{with_used}
+use Rattle.sdr_model.specs.Charging.{with_covered}
 use Rattle.sdr_model.specs.Dry.{with_blocks}
 use Rattle.sdr_model.specs.ObjectSteps.{with_object}
-use Rattle.sdr_model.specs.Things.{Owners, capsule_block, extent_block, inner_blocks}
+use Rattle.sdr_model.specs.Things.{Owners, block_for_capsule, block_for_extent, inner_blocks}
 use Rattle.sdr_model.specs.World.{World}
 use Rattle.sdr_model.specs.Zco.{object_at}
 use Rattle.sdr_model.specs.declared.accounts.Pending.{Pending}
-use Rattle.sdr_model.specs.declared.things.Block.{Block}
+use Rattle.sdr_model.specs.declared.things.UsedBlock.{UsedBlock}
 use Rattle.sdr_model.specs.declared.things.Thing.TheVariants as things
 use Rattle.sdr_model.specs.declared.zco.ZcoObject.{ZcoObject}
 use Rattle.sdr_parts.specs.Components.{Grows, block_of, component_charges, with_component}
@@ -41,34 +41,35 @@ owned-component owners next more k z component higher owns here = record { below
     raised : OwnsInside owners more k (things.Object z)
     raised = OwnsInside-raised owners next more higher k (things.Object z) owns
 
-    P : Block → Type 0
+    P : UsedBlock → Type 0
     P = Owns owners more k
 
-    headers : List Block
-    headers = map capsule_block z.headers
+    headers : List UsedBlock
+    headers = map block_for_capsule z.headers
 
-    extents : List Block
-    extents = map extent_block z.extents
+    extents : List UsedBlock
+    extents = map block_for_extent z.extents
 
-    trailers : List Block
-    trailers = map capsule_block z.trailers
+    trailers : List UsedBlock
+    trailers = map block_for_capsule z.trailers
 
     by : (component : Component) → IsOwned owners more k (block_of component)
         → All P (inner_blocks (things.Object (with_component z component)))
-    by (components.Header c) here = All-cons P (capsule_block c) (inner_blocks (things.Object z)) here raised.inside
+    by (components.Header c) here = All-cons P (block_for_capsule c) (inner_blocks (things.Object z)) here raised.inside
     by (components.Trailer c) here =
         subst (All P)
-        (append_assoc (headers ++ extents) trailers (capsule_block c ∷ [])
-        ∙ ap (λ (l : List Block). (headers ++ extents) ++ l) (sym (map-append capsule_block z.trailers (c ∷ []))))
-        (All-append P (inner_blocks (things.Object z)) (capsule_block c ∷ []) raised.inside
-        (All-cons P (capsule_block c) [] here (All-nil P)))
+        (append_assoc (headers ++ extents) trailers (block_for_capsule c ∷ [])
+        ∙ ap (λ (l : List UsedBlock). (headers ++ extents) ++ l)
+            (sym (map-append block_for_capsule z.trailers (c ∷ []))))
+        (All-append P (inner_blocks (things.Object z)) (block_for_capsule c ∷ []) raised.inside
+        (All-cons P (block_for_capsule c) [] here (All-nil P)))
     by (components.Extent e) here =
         let front = All-front P (headers ++ extents) trailers raised.inside in
-        All-append P (headers ++ map extent_block (z.extents ++ e ∷ [])) trailers
-        (All-append P headers (map extent_block (z.extents ++ e ∷ [])) (All-front P headers extents front)
-        (subst (All P) (sym (map-append extent_block z.extents (e ∷ [])))
-        (All-append P extents (extent_block e ∷ []) (All-back P headers extents front)
-        (All-cons P (extent_block e) [] here (All-nil P)))))
+        All-append P (headers ++ map block_for_extent (z.extents ++ e ∷ [])) trailers
+        (All-append P headers (map block_for_extent (z.extents ++ e ∷ [])) (All-front P headers extents front)
+        (subst (All P) (sym (map-append block_for_extent z.extents (e ∷ [])))
+        (All-append P extents (block_for_extent e ∷ []) (All-back P headers extents front)
+        (All-cons P (block_for_extent e) [] here (All-nil P)))))
         (All-back P (headers ++ extents) trailers raised.inside)
 
 -- what is told of a call that adds a component, where only notes were taken before it
@@ -98,11 +99,12 @@ module _ (w wt : World) (k number count : ℕ) (z : ZcoObject) (component made :
 
   -- the object has it
   pub grown_at : (w' : World) (r : Result (Option Pending) Refusal) (p : Option Pending) → r ≡ Ok p
-      → IfOk r (λ p. Grows (object_at wt k) k component (with_blocks (with_used wt p (component_charges wt component)) count) w')
-      → w' ≡ with_object (with_blocks (with_used w p (component_charges w made)) count) k (with_component z made)
+      → IfOk r (λ p. Grows (object_at wt k) k component (with_blocks (with_covered wt p (component_charges wt component)) count) w')
+      → w' ≡ with_object (with_blocks (with_covered w p (component_charges w made)) count) k (with_component z made)
   grown_at w' r p ok grows =
-      subst (λ o. Grows o k made (with_blocks (with_used w p (component_charges w made)) count) w') there
-      (subst (λ v. Grows (object_at v k) k made (with_blocks (with_used v p (component_charges v made)) count) w') same
-      (subst (λ m. Grows (object_at wt k) k m (with_blocks (with_used wt p (component_charges wt m)) count) w') is
-      (subst (λ r. IfOk r (λ p. Grows (object_at wt k) k component (with_blocks (with_used wt p (component_charges wt component)) count) w'))
+      subst (λ o. Grows o k made (with_blocks (with_covered w p (component_charges w made)) count) w') there
+      (subst (λ v. Grows (object_at v k) k made (with_blocks (with_covered v p (component_charges v made)) count) w')
+          same
+      (subst (λ m. Grows (object_at wt k) k m (with_blocks (with_covered wt p (component_charges wt m)) count) w') is
+      (subst (λ r. IfOk r (λ p. Grows (object_at wt k) k component (with_blocks (with_covered wt p (component_charges wt component)) count) w'))
       ok grows)))

@@ -2,7 +2,7 @@
 ghost use Rattle.std.specs.Prelude.{◌≡◌, ◌≤◌, ◌<◌, ◌+◌, ◌*◌, ◌^◌, ◌∷◌, [], ℕ, Contains, length};
 ghost use Rattle.sdr_model.specs.BondSteps.{with_bonded};
 ghost use Rattle.sdr_model.specs.Dry.{next_addr};
-ghost use Rattle.sdr_draft.specs.Keeps.{Keeps, StayTouched};
+ghost use Rattle.sdr_draft.specs.Keeps.{SameBegin, StayTouched};
 
 use sdr_base::Addr;
 use sdr_draft::Undoable;
@@ -17,7 +17,7 @@ fn put_text(world: &mut Undoable, addr: Addr, capsule: Capsule)
     ensures put { world.new.now ≡ with_bonded world.old.now (λ k. addr + 8 * k) 0 (capsule ∷ []) }
     ensures owners { world.new.owners ≡ world.old.owners }
     ensures touched { StayTouched world.old world.new }
-    ensures keeps { Keeps world.old world.new }
+    ensures keeps { SameBegin world.old world.new }
 {
     let source = ZcoSource {
         subject: Subject::Heap(addr),
@@ -38,7 +38,7 @@ pub fn put_texts(world: &mut Undoable, first: Addr, capsules: Vec<Capsule>)
     ensures put { world.new.now ≡ with_bonded world.old.now (λ k. first + 8 * k) 0 capsules.items }
     ensures owners { world.new.owners ≡ world.old.owners }
     ensures others { StayTouched world.old world.new }
-    ensures keeps { Keeps world.old world.new }
+    ensures keeps { SameBegin world.old world.new }
 {
     let mut addr = first;
     for capsule in capsules {

@@ -2,12 +2,12 @@
 ghost use Rattle.std.specs.Prelude.{◌≡◌, ◌<◌, ◌^◌, [], IfErr, IfOk, IfSome, OnErr, OnOk, length, true};
 ghost use Rattle.sdr_model.specs.AccountSteps.{new_ticket, with_maximum, with_request, without_ticket};
 ghost use Rattle.sdr_model.specs.Accounts.{IsInPlace, account_of, most_amount, tickets_of, with_account};
-ghost use Rattle.sdr_model.specs.Charging.{grant_left, with_used};
+ghost use Rattle.sdr_model.specs.Charging.{grant_left, with_covered};
 ghost use Rattle.sdr_model.specs.Dry.{with_taken, next_addr};
 ghost use Rattle.sdr_model.specs.Queue.{with_served};
 ghost use Rattle.sdr_draft.specs.Allowed.{MayCharge, RefusesCharge, with_back};
 ghost use Rattle.sdr_draft.specs.Calling.{IsBound};
-ghost use Rattle.sdr_draft.specs.Keeps.{Keeps, StayTouched};
+ghost use Rattle.sdr_draft.specs.Keeps.{SameBegin, StayTouched};
 
 use sdr_base::{Acct, Amounts, NoMemory, Refusal, Space};
 use sdr_draft::Undoable;
@@ -37,7 +37,7 @@ pub fn charge_account(
     requires bound { IsBound world.old.now }
     ensures allowed { IfOk result (λ r. IfOk r (MayCharge world.old.now acct number amounts.now)) }
     ensures charged { IfOk result (λ r. IfOk r (λ p.
-        world.new ≡ record world.old { now = with_used world.old.now p amounts.now; saved = true })) }
+        world.new ≡ record world.old { now = with_covered world.old.now p amounts.now; saved = true })) }
     ensures stands { IfOk result (λ r. IfOk r (λ p. IfSome p (λ p.
         p.place < length (tickets_of world.new.now.accounts p.acct)))) }
     ensures back { IfOk result (λ r. IfOk r (λ p. with_back world.new.now p ≡ world.old.now)) }
@@ -74,7 +74,7 @@ pub fn set_maximum(
         ≡ record (with_served (record world.old.now {
           accounts = with_account accounts acct (with_maximum (account_of accounts acct) space value);
         }) acct) { shown = [] }) }
-    ensures keeps { Keeps world.old world.new }
+    ensures keeps { SameBegin world.old world.new }
     ensures same { OnErr result (world.new.now ≡ world.old.now) }
 {
     world.save_accounts()?;
@@ -98,7 +98,7 @@ pub fn request(
     requires number { world.old.now.accounts.next < most_amount }
     ensures ok { OnOk result (let addr = next_addr world.old.now.taken in world.new.now
         ≡ with_taken (with_request world.old.now acct (new_ticket world.old.now.accounts.next addr asked coarse fine)) addr) }
-    ensures keeps { Keeps world.old world.new }
+    ensures keeps { SameBegin world.old world.new }
     ensures same { OnErr result (world.new.now ≡ world.old.now) }
 {
     world.save_accounts()?;
@@ -131,7 +131,7 @@ pub fn request(
 pub fn shred(world: &mut Undoable, pending: &Pending) -> Result<(), NoMemory>
     requires stands { IsInPlace world.old.now.accounts pending.now }
     ensures ok { OnOk result (world.new.now ≡ record (without_ticket world.old.now pending.now) { shown = [] }) }
-    ensures keeps { Keeps world.old world.new }
+    ensures keeps { SameBegin world.old world.new }
     ensures same { OnErr result (world.new.now ≡ world.old.now) }
 {
     world.save_accounts()?;

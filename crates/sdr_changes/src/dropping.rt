@@ -2,7 +2,7 @@
 ghost use Rattle.std.specs.List.{All};
 ghost use Rattle.std.specs.Prelude.{◌≡◌, Contains, OnOk};
 ghost use Rattle.sdr_model.specs.Gone.{without_things};
-ghost use Rattle.sdr_draft.specs.Keeps.{Keeps, StayTouched};
+ghost use Rattle.sdr_draft.specs.Keeps.{SameBegin, StayTouched};
 
 use sdr_base::{Addr, NoMemory};
 use sdr_draft::Undoable;
@@ -14,7 +14,7 @@ pub fn touch_all(world: &mut Undoable, addrs: &[Addr]) -> Result<(), NoMemory>
     ensures touched { OnOk result (All (Contains world.new.touched) addrs.now) }
     ensures owners { world.new.owners ≡ world.old.owners }
     ensures others { StayTouched world.old world.new }
-    ensures keeps { Keeps world.old world.new }
+    ensures keeps { SameBegin world.old world.new }
 {
     for addr in addrs {
         world.touch(*addr)?;
@@ -27,7 +27,7 @@ pub fn touch_all(world: &mut Undoable, addrs: &[Addr]) -> Result<(), NoMemory>
 pub fn drop_all(world: &mut Undoable, addrs: &[Addr])
     requires touched { All (Contains world.old.touched) addrs.now }
     ensures dropped { world.new.now ≡ without_things world.old.now addrs.now }
-    ensures keeps { Keeps world.old world.new }
+    ensures keeps { SameBegin world.old world.new }
 {
     for addr in addrs {
         world.drop(*addr);

@@ -1,13 +1,13 @@
 // Components that are added to objects, charged and with their blocks.
 ghost use Rattle.std.specs.Prelude.{◌≡◌, ◌<◌, ◌+◌, ◌^◌, IfErr, IfOk, IfSome, IsSome, OnErr, OnOk, []};
-ghost use Rattle.sdr_model.specs.Charging.{with_used};
+ghost use Rattle.sdr_model.specs.Charging.{with_covered};
 ghost use Rattle.sdr_model.specs.Dry.{addr_after, next_addr, with_blocks};
 ghost use Rattle.sdr_model.specs.Zco.{object_at};
 ghost use Rattle.sdr_parts.specs.Bounds.{IsBounded};
 ghost use Rattle.sdr_parts.specs.Components.{Grows, KeepsLimits, block_of, component_charges};
 ghost use Rattle.sdr_draft.specs.Allowed.{MayCharge, RefusesCharge};
 ghost use Rattle.sdr_draft.specs.Calling.{IsBound};
-ghost use Rattle.sdr_draft.specs.Keeps.{Keeps, StayTouched};
+ghost use Rattle.sdr_draft.specs.Keeps.{SameBegin, StayTouched};
 ghost use Rattle.sdr_undo.specs.Owners.{IsOwned};
 
 use crate::charging::charge_account;
@@ -47,7 +47,7 @@ fn put_component(
     ensures added { OnOk result (Grows (object_at world.old.now addr) addr component
         (record world.old.now { shown = []; taken = world.old.now.taken + count }) world.new.now) }
     ensures touched { StayTouched world.old world.new }
-    ensures keeps { Keeps world.old world.new }
+    ensures keeps { SameBegin world.old world.new }
     ensures same { OnErr result (world.new.now ≡ world.old.now) }
 {
     let Thing::Object(mut object) = world.take(addr)? else {
@@ -82,7 +82,7 @@ fn take_component(
     ensures added { OnOk result (Grows (object_at world.old.now addr) addr component
         (with_blocks world.old.now (before + 1)) world.new.now) }
     ensures touched { StayTouched world.old world.new }
-    ensures keeps { Keeps world.old world.new }
+    ensures keeps { SameBegin world.old world.new }
     ensures same { OnErr result (world.new.now ≡ world.old.now) }
 {
     let marks = world.marks();
@@ -117,10 +117,10 @@ pub fn add_component(
         (component_charges world.old.now component) p))) }
     ensures added { IfOk result (λ r. IfOk r (λ p.
         Grows (object_at world.old.now addr) addr component
-        (with_blocks (with_used world.old.now p (component_charges world.old.now component))
+        (with_blocks (with_covered world.old.now p (component_charges world.old.now component))
         (before + 1)) world.new.now)) }
     ensures touched { StayTouched world.old world.new }
-    ensures keeps { Keeps world.old world.new }
+    ensures keeps { SameBegin world.old world.new }
     ensures refused { IfOk result (λ r. IfErr r (λ refusal.
         IfSome (object_at world.old.now addr) (λ z. RefusesCharge world.old.now z.account number
         (component_charges world.old.now component) refusal))) }

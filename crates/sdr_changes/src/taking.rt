@@ -1,11 +1,11 @@
 // What is charged for blocks that are taken.
 ghost use Rattle.std.specs.FinMap as map;
 ghost use Rattle.std.specs.Prelude.{◌≡◌, ◌<◌, ◌+◌, ◌^◌, ℕ, Some, IfOk, IfErr, OnErr, OnOk};
-ghost use Rattle.sdr_model.specs.Charging.{with_used};
+ghost use Rattle.sdr_model.specs.Charging.{with_covered};
 ghost use Rattle.sdr_model.specs.Dry.{addr_after, next_addr, with_blocks};
 ghost use Rattle.sdr_draft.specs.Allowed.{MayCharge, RefusesCharge};
 ghost use Rattle.sdr_draft.specs.Calling.{IsBound};
-ghost use Rattle.sdr_draft.specs.Keeps.{Keeps, StayTouched};
+ghost use Rattle.sdr_draft.specs.Keeps.{SameBegin, StayTouched};
 
 use crate::charging::charge_account;
 use sdr_base::{Acct, Addr, Amounts, NoMemory, Refusal};
@@ -26,13 +26,13 @@ pub fn charge_blocks(
     requires bound { IsBound world.old.now }
     ensures allowed { IfOk result (λ r. IfOk r (MayCharge world.old.now acct number amounts.now)) }
     ensures taken { IfOk result (λ r. IfOk r (λ p.
-        world.new.now ≡ with_blocks (with_used world.old.now p amounts.now) count)) }
+        world.new.now ≡ with_blocks (with_covered world.old.now p amounts.now) count)) }
     ensures owned { IfOk result (λ r. OnOk r ((k : ℕ) → k < count
         → map.get world.new.owners (addr_after world.old.now.taken k) ≡ Some owner)) }
     ensures others { (other of : ℕ) → other < next_addr world.old.now.taken
         → map.get world.old.owners other ≡ Some of → map.get world.new.owners other ≡ Some of }
     ensures touched { StayTouched world.old world.new }
-    ensures keeps { Keeps world.old world.new }
+    ensures keeps { SameBegin world.old world.new }
     ensures refused { IfOk result (λ r. IfErr r (RefusesCharge world.old.now acct number
         amounts.now)) }
     ensures same { IfOk result (λ r. OnErr r (world.new.now ≡ world.old.now)) }

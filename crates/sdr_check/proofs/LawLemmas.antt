@@ -1,15 +1,15 @@
 -- A region that passes each check isn't wrong by any.
 use Rattle.std.proofs.Common.{ℕ, List}
 use Rattle.sdr_check.specs.Checked.{IsRight, IsWrongFirst}
-use Rattle.sdr_check.specs.declared.error.Why.{Why}
-use Rattle.sdr_check.specs.declared.error.Why.TheVariants as whys
+use Rattle.sdr_check.specs.declared.error.Check.{Check}
+use Rattle.sdr_check.specs.declared.error.Check.TheVariants as whys
 use Rattle.sdr_count.proofs.LawLemmas.{right_not_wrong as things_not_wrong}
-use Rattle.sdr_count.specs.declared.error.Why.TheVariants as things
+use Rattle.sdr_count.specs.declared.error.ThingCheck.TheVariants as things
 use Rattle.sdr_region.proofs.ExactLemmas.{sound_or_wrong}
-use Rattle.sdr_region.specs.declared.error.Why.TheVariants as parts
+use Rattle.sdr_region.specs.declared.error.StructureCheck.TheVariants as parts
 
 module _ (bytes : List ℕ) where
-  pub right_not_wrong : (why : Why) (place : ℕ) → IsRight bytes → IsWrongFirst bytes why place → ⊥
+  pub right_not_wrong : (why : Check) (place : ℕ) → IsRight bytes → IsWrongFirst bytes why place → ⊥
   right_not_wrong whys.Control place right w = sound_or_wrong bytes right.sound parts.Control place w
   right_not_wrong whys.Block place right w = sound_or_wrong bytes right.sound parts.Block place w
   right_not_wrong whys.Bits place right w = sound_or_wrong bytes right.sound parts.Bits place w

@@ -6,15 +6,15 @@ use Rattle.sdr_base.specs.Transaction.{HasReason, Transaction}
 use Rattle.sdr_base.specs.declared.stop.Stop.TheVariants as stops
 use Rattle.sdr_check.specs.declared.error.AuditError.{AuditError}
 use Rattle.sdr_check.specs.declared.error.AuditError.TheVariants as errors
-use Rattle.sdr_check.specs.declared.error.Why.{Why}
-use Rattle.sdr_check.specs.declared.error.Why.TheVariants as whys
+use Rattle.sdr_check.specs.declared.error.Check.{Check}
+use Rattle.sdr_check.specs.declared.error.Check.TheVariants as whys
 use Rattle.sdr_count.specs.Checked as count
-use Rattle.sdr_count.specs.declared.error.Why.{Why as ThingWhy}
-use Rattle.sdr_count.specs.declared.error.Why.TheVariants as things
+use Rattle.sdr_count.specs.declared.error.ThingCheck.{ThingCheck}
+use Rattle.sdr_count.specs.declared.error.ThingCheck.TheVariants as things
 use Rattle.sdr_model.specs.World.{World}
 use Rattle.sdr_owner.specs.Owned.{AreBytes}
 use Rattle.sdr_region.specs.Region as region
-use Rattle.sdr_region.specs.declared.error.Why.TheVariants as parts
+use Rattle.sdr_region.specs.declared.error.StructureCheck.TheVariants as parts
 
 -- A region passes each check: its structure is sound, and owners, counts and queues are right.
 pub record IsRight (bytes : List ℕ) : Type 0 where
@@ -23,17 +23,17 @@ pub record IsRight (bytes : List ℕ) : Type 0 where
   pub things : count.IsRightRegion bytes
 
 -- the structure is sound, and then owners, counts or queues are wrong
-pub record ThingsAreFirst (bytes : List ℕ) (why : ThingWhy) (place : ℕ) : Type 0 where
+pub record ThingsAreFirst (bytes : List ℕ) (why : ThingCheck) (place : ℕ) : Type 0 where
   pub sound : region.IsSoundRegion bytes
-  pub wrong : count.IsWrongFirst bytes why place
+  pub wrong : count.CountsAreWrongFirst bytes why place
 
 -- by this check a region is wrong first, at this place
-abbrev pub IsWrongFirst : List ℕ → Why → ℕ → Type 0
-IsWrongFirst bytes whys.Control place = region.IsWrongFirst bytes parts.Control place
-IsWrongFirst bytes whys.Block place = region.IsWrongFirst bytes parts.Block place
-IsWrongFirst bytes whys.Bits place = region.IsWrongFirst bytes parts.Bits place
-IsWrongFirst bytes whys.Free place = region.IsWrongFirst bytes parts.Free place
-IsWrongFirst bytes whys.Content place = region.IsWrongFirst bytes parts.Content place
+abbrev pub IsWrongFirst : List ℕ → Check → ℕ → Type 0
+IsWrongFirst bytes whys.Control place = region.RegionIsWrongFirst bytes parts.Control place
+IsWrongFirst bytes whys.Block place = region.RegionIsWrongFirst bytes parts.Block place
+IsWrongFirst bytes whys.Bits place = region.RegionIsWrongFirst bytes parts.Bits place
+IsWrongFirst bytes whys.Free place = region.RegionIsWrongFirst bytes parts.Free place
+IsWrongFirst bytes whys.Content place = region.RegionIsWrongFirst bytes parts.Content place
 IsWrongFirst bytes whys.Owner place = ThingsAreFirst bytes things.Owner place
 IsWrongFirst bytes whys.Count place = ThingsAreFirst bytes things.Count place
 IsWrongFirst bytes whys.Queue place = ThingsAreFirst bytes things.Queue place

@@ -4,15 +4,15 @@ use Rattle.sdr_base.specs.declared.stop.Stop.{Stop}
 use Rattle.sdr_base.specs.declared.stop.Stop.TheVariants as stops
 use Rattle.sdr_check.specs.declared.error.AuditError.{AuditError}
 use Rattle.sdr_check.specs.declared.error.AuditError.TheVariants as errors
-use Rattle.sdr_check.specs.declared.error.Why.{Why}
-use Rattle.sdr_check.specs.declared.error.Why.TheVariants as whys
+use Rattle.sdr_check.specs.declared.error.Check.{Check}
+use Rattle.sdr_check.specs.declared.error.Check.TheVariants as whys
 use Rattle.sdr_count.specs.declared.audit.Damage.{Damage}
-use Rattle.sdr_count.specs.declared.error.Why.{Why as ThingWhy}
-use Rattle.sdr_count.specs.declared.error.Why.TheVariants as things
-use Rattle.sdr_region.specs.declared.error.AuditError.{AuditError as StructureError}
-use Rattle.sdr_region.specs.declared.error.AuditError.TheVariants as breaks
-use Rattle.sdr_region.specs.declared.error.Why.{Why as StructureWhy}
-use Rattle.sdr_region.specs.declared.error.Why.TheVariants as parts
+use Rattle.sdr_count.specs.declared.error.ThingCheck.{ThingCheck}
+use Rattle.sdr_count.specs.declared.error.ThingCheck.TheVariants as things
+use Rattle.sdr_region.specs.declared.error.StructureError.{StructureError}
+use Rattle.sdr_region.specs.declared.error.StructureError.TheVariants as breaks
+use Rattle.sdr_region.specs.declared.error.StructureCheck.{StructureCheck}
+use Rattle.sdr_region.specs.declared.error.StructureCheck.TheVariants as parts
 
 -- the error tells why the cells stopped
 abbrev pub HasStop : AuditError → Stop → Type 0
@@ -20,7 +20,7 @@ HasStop error stops.DiskFault = error ≡ errors.DiskFault
 HasStop error stop = error ≡ errors.Failed
 
 -- the check of a region's structure
-abbrev pub structure_check : StructureWhy → Why
+abbrev pub structure_check : StructureCheck → Check
 structure_check parts.Control = whys.Control
 structure_check parts.Block = whys.Block
 structure_check parts.Bits = whys.Bits
@@ -28,7 +28,7 @@ structure_check parts.Free = whys.Free
 structure_check parts.Content = whys.Content
 
 -- the check of owners, counts and queues
-abbrev pub thing_check : ThingWhy → Why
+abbrev pub thing_check : ThingCheck → Check
 thing_check things.Owner = whys.Owner
 thing_check things.Count = whys.Count
 thing_check things.Queue = whys.Queue

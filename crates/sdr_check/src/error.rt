@@ -7,7 +7,7 @@ use sdr_count::Damage;
 
 /// The check that found something wrong, in the order in which they are taken.
 #[derive(Clone, Copy, Debug, PartialEq, Eq)]
-pub enum Why {
+pub enum Check {
     /// The control words.
     Control,
     /// The blocks of both pools, as their leaders tell.
@@ -30,7 +30,7 @@ pub enum Why {
 #[derive(Clone, Copy, Debug, PartialEq, Eq)]
 pub enum AuditError {
     /// The bytes stand for no world, by what is wrong first at a place in the heap region.
-    Damaged { place: u64, why: Why },
+    Damaged { place: u64, why: Check },
     /// The disk failed.
     DiskFault,
     /// It had failed before.
@@ -63,42 +63,42 @@ impl From<NoMemory> for AuditError {
 }
 
 // The check of a region's structure.
-fn structure_check(why: sdr_region::Why) -> Why
+fn structure_check(why: sdr_region::StructureCheck) -> Check
     ensures { result ≡ structure_check why }
 {
     match why {
-        sdr_region::Why::Control => Why::Control,
-        sdr_region::Why::Block => Why::Block,
-        sdr_region::Why::Bits => Why::Bits,
-        sdr_region::Why::Free => Why::Free,
-        sdr_region::Why::Content => Why::Content,
+        sdr_region::StructureCheck::Control => Check::Control,
+        sdr_region::StructureCheck::Block => Check::Block,
+        sdr_region::StructureCheck::Bits => Check::Bits,
+        sdr_region::StructureCheck::Free => Check::Free,
+        sdr_region::StructureCheck::Content => Check::Content,
     }
 }
 
 // The check of owners, counts and queues.
-fn thing_check(why: sdr_count::Why) -> Why
+fn thing_check(why: sdr_count::ThingCheck) -> Check
     ensures { result ≡ thing_check why }
 {
     match why {
-        sdr_count::Why::Owner => Why::Owner,
-        sdr_count::Why::Count => Why::Count,
-        sdr_count::Why::Queue => Why::Queue,
+        sdr_count::ThingCheck::Owner => Check::Owner,
+        sdr_count::ThingCheck::Count => Check::Count,
+        sdr_count::ThingCheck::Queue => Check::Queue,
     }
 }
 
-impl From<sdr_region::AuditError> for AuditError {
+impl From<sdr_region::StructureError> for AuditError {
     ghost use Rattle.sdr_check.specs.Errors.{structure_error};
 
     ghost from_gives = { λ error e. e ≡ structure_error error };
 
-    fn from(error: sdr_region::AuditError) -> AuditError {
+    fn from(error: sdr_region::StructureError) -> AuditError {
         match error {
-            sdr_region::AuditError::Damaged { place, why } => AuditError::Damaged {
+            sdr_region::StructureError::Damaged { place, why } => AuditError::Damaged {
                 place,
                 why: structure_check(why),
             },
-            sdr_region::AuditError::DiskFault => AuditError::DiskFault,
-            sdr_region::AuditError::Failed => AuditError::Failed,
+            sdr_region::StructureError::DiskFault => AuditError::DiskFault,
+            sdr_region::StructureError::Failed => AuditError::Failed,
         }
     }
 }

@@ -26,7 +26,7 @@ mod structure;
 
 pub use census::Census;
 pub use checking::check;
-pub use error::{AuditError, Why};
+pub use error::{AuditError, Check};
 pub use laws::right_regions_are_not_wrong;
 pub use reading::{Survey, read_survey, read_world};
 pub use structure::check_structure;

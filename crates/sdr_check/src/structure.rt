@@ -10,11 +10,11 @@ ghost use Rattle.sdr_region.specs.Spots.{AreSpots};
 use crate::census::Census;
 use sdr_base::Cells;
 use sdr_region::{
-    AuditError, Spot, check_bits, check_blocks, check_content, check_control, check_free,
+    StructureError, Spot, check_bits, check_blocks, check_content, check_control, check_free,
 };
 
 /// Checks the structure of a region, with nothing told before of what begins with its words, and takes a census of its blocks.
-pub fn check_structure<C: Cells>(c: &mut C, spots: &mut [Spot]) -> Result<Census, AuditError>
+pub fn check_structure<C: Cells>(c: &mut C, spots: &mut [Spot]) -> Result<Census, StructureError>
     requires region { IsRegionSize (length (C.bytes c.old)) }
     requires spots { length spots.old * WORD ≡ length (C.bytes c.old) }
     requires untold { AreSpots [] [] spots.old }

@@ -13,9 +13,9 @@ use Rattle.sdr_model.specs.declared.journal.Entry.{Entry}
 use Rattle.sdr_model.specs.declared.journal.Said.{Said}
 use Rattle.sdr_model.specs.declared.journal.What.{What}
 use Rattle.sdr_model.specs.declared.journal.What.TheVariants as whats
-use Rattle.sdr_lock.specs.Core.{Core, Under, all_said, closed_by, entry_of, said_by, under, what_else, what_of}
+use Rattle.sdr_lock.specs.Core.{Core, Under, all_said, closed_by, entry_of, said_by, under, what_added, what_of}
 use Rattle.sdr_lock.specs.Crash.{end_told}
-use Rattle.sdr_lock.specs.Ground.{State, kept}
+use Rattle.sdr_lock.specs.Ground.{State, committed}
 use Rattle.sdr_lock.specs.Legal.{is_fault}
 use Rattle.sdr_lock.specs.Machine.{Machine, Made}
 use Rattle.sdr_lock.specs.Roll.{daemon_of, number_of}
@@ -62,10 +62,10 @@ module _ (c : Core) (e : Made) (m' : Machine) where
   closing_adds d close found closed =
       ap (λ o. option_map_or (λ (d : Daemon). option_map (entry_of (number_of c.machine.roll d) e) (what_of (under c.machine.roll d m'.roll e.said.event) c.log.works e)) o None) found
       ∙ ap (λ o. option_map (entry_of (number_of c.machine.roll d) e)
-      (option_map_or (λ (close : Close). Some (whats.Work (all_said c.log.works e.daemon e.said) close)) o (what_else (under c.machine.roll d m'.roll e.said.event) e.said.event e.said.answer))) closed
+      (option_map_or (λ (close : Close). Some (whats.Work (all_said c.log.works e.daemon e.said) close)) o (what_added (under c.machine.roll d m'.roll e.said.event) e.said.event e.said.answer))) closed
 
 -- no look and no leave adds an entry in which the disk failed
-else_whole : (u : Under) (event : Event) (answer : Answer) (what : What) → what_else u event answer ≡ Some what → is_fault what ≡ false
+else_whole : (u : Under) (event : Event) (answer : Answer) (what : What) → what_added u event answer ≡ Some what → is_fault what ≡ false
 else_whole u (events.Look ticket) answers.Awarded what is = let s : whats.Awarded ticket ≡ what = cc in ap is_fault (sym s)
 else_whole u (events.Look ticket) answers.Stalled what is = let s : whats.Stalled ticket ≡ what = cc in ap is_fault (sym s)
 else_whole u (events.Look ticket) answers.Waits what is = by u.waited is
@@ -94,7 +94,7 @@ fault_said c e m' x a fault = by (closed_by e.said.answer) a.what_is
     faulted close is = absurd (true≢false (sym is))
 
     by : (o : Option Close)
-        → option_map_or (λ (close : Close). Some (whats.Work (all_said c.log.works e.daemon e.said) close)) o (what_else u e.said.event e.said.answer) ≡ Some a.what
+        → option_map_or (λ (close : Close). Some (whats.Work (all_said c.log.works e.daemon e.said) close)) o (what_added u e.said.event e.said.answer) ≡ Some a.what
         → a.what ≡ whats.Work (all_said c.log.works e.daemon e.said) closes.Faulted
     by None is = absurd (true≢false (sym fault ∙ else_whole u e.said.event e.said.answer a.what is))
     by (Some close) is =
@@ -106,7 +106,7 @@ pub answered_fault : (c : Core) (e : Made) (m' : Machine) (x : Entry) (a : IsAdd
 answered_fault c e m' x a told =
     let u = under c.machine.roll a.daemon m'.roll e.said.event in
     let is : Some (whats.Work (all_said c.log.works e.daemon e.said) closes.Faulted) ≡ Some a.what =
-    sym (ap (λ o. option_map_or (λ (close : Close). Some (whats.Work (all_said c.log.works e.daemon e.said) close)) o (what_else u e.said.event e.said.answer)) (ap closed_by told)) ∙ a.what_is in
+    sym (ap (λ o. option_map_or (λ (close : Close). Some (whats.Work (all_said c.log.works e.daemon e.said) close)) o (what_added u e.said.event e.said.answer)) (ap closed_by told)) ∙ a.what_is in
     let s : whats.Work (all_said c.log.works e.daemon e.said) closes.Faulted ≡ a.what = cc in
     ap is_fault (sym s)
 
@@ -119,7 +119,7 @@ end_told-last (first ∷ second ∷ more) last = ap (λ rest. first ∷ rest) (e
 -- A transaction whose outermost end met a disk fault might stand as one that ended.
 pub ends_in_vain : (told : Option Told) (daemons : List _) (first : State) (c : Core) (e : Made) → KeepsCore told daemons first c → c.machine.roll.failed ≡ None
     → (end : IsOuterEnd c.machine.roll e.daemon e.said.event) → IsAnswered e.said (answers.Reply replies.DiskFault)
-    → Runs told c.machine.before (number_of c.machine.roll end.daemon) (end_told (all_said c.log.works e.daemon e.said)) closes.Ended (kept c.machine.now)
+    → Runs told c.machine.before (number_of c.machine.roll end.daemon) (end_told (all_said c.log.works e.daemon e.said)) closes.Ended (committed c.machine.now)
 ends_in_vain told daemons first c e keeps sound end given =
     let h = end.holding in
     let works = keeps.works sound in
@@ -132,11 +132,12 @@ ends_in_vain told daemons first c e keeps sound end given =
     let is_end : is_closing (transaction_of h c.machine.now) e.said.event ≡ true = ap (is_closing (transaction_of h c.machine.now)) end.event_is ∙ end.outer in
     let how : closes.Ended ≡ closing h.nesting e.said.event =
     sym (ap (closing h.nesting) end.event_is ∙ ap (λ o. option_map_or (λ (reason : Reason). closes.Cancelled reason) o (close_of events.End h.nesting.modified)) end.undoomed) in
-    let closed : ClosesSo c.machine.before (transaction_of h c.machine.now) last closes.Ended (kept c.machine.now) =
+    let closed : ClosesSo c.machine.before (transaction_of h c.machine.now) last closes.Ended
+        (committed c.machine.now) =
     record { how = how; told = record { answer = refl; moves = given.moves; bytes = given.bytes }; left = refl } in
-    subst (λ n. Runs told c.machine.before n (end_told (all_said c.log.works e.daemon e.said)) closes.Ended (kept c.machine.now))
+    subst (λ n. Runs told c.machine.before n (end_told (all_said c.log.works e.daemon e.said)) closes.Ended (committed c.machine.now))
     (sym (ap (λ o. option_map_or (λ (k : Holding). k.number) o (c.machine.roll.drawn + 1)) end.holds))
-    (subst (λ said. Runs told c.machine.before h.number said closes.Ended (kept c.machine.now))
+    (subst (λ said. Runs told c.machine.before h.number said closes.Ended (committed c.machine.now))
     (sym (ap end_told all ∙ end_told-last (said_by c.log.works e.daemon) e.said))
-    (runs_last told c.machine.before h.number (said_by c.log.works e.daemon) (transaction_of h c.machine.now) last closes.Ended (kept c.machine.now) far.0
+    (runs_last told c.machine.before h.number (said_by c.log.works e.daemon) (transaction_of h c.machine.now) last closes.Ended (committed c.machine.now) far.0
     (Finishes.closed is_end closed)))

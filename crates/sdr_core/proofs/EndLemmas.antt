@@ -8,12 +8,12 @@ use Rattle.sdr_model.specs.declared.answer.Reply.TheVariants as replies
 use Rattle.sdr_model.specs.declared.event.Event.{Event}
 use Rattle.sdr_model.specs.declared.event.Event.TheVariants as events
 use Rattle.sdr_lock.specs.Closing.{close_of}
-use Rattle.sdr_lock.specs.Crash.{keeps_by, keeps_in, keeps_of, keeps_under}
-use Rattle.sdr_lock.specs.Ground.{kept}
-use Rattle.sdr_lock.specs.Machine.{Closes, FaultsWithin, Holds, Machine, Made, MachineStep, Serves, is_outside}
+use Rattle.sdr_lock.specs.Crash.{commits_by, commits_in, commits_of, commits_under}
+use Rattle.sdr_lock.specs.Ground.{committed}
+use Rattle.sdr_lock.specs.Machine.{Closes, FaultsWithin, Holds, Machine, Made, MachineStep, OnTurn, is_outside}
 use Rattle.sdr_lock.specs.Nesting.{closing}
 use Rattle.sdr_lock.specs.Roll.{Roll, daemon_of, served_number}
-use Rattle.sdr_lock.specs.Transaction.{IsAnswered, left_by}
+use Rattle.sdr_lock.specs.Transaction.{IsAnswered, state_left}
 use Rattle.sdr_lock.specs.declared.daemon.Daemon.{Daemon}
 use Rattle.sdr_lock.specs.declared.daemon.Holding.{Holding}
 use Rattle.sdr_lock.proofs.StepLemmas.{from_option, from_test}
@@ -48,7 +48,7 @@ pub record IsOuterEnd (r : Roll) (id : ℕ) (event : Event) : Type 0 where
   pub undoomed : holding.nesting.doom ≡ None
 
 end_under : (r : Roll) (id : ℕ) (d : Daemon) (h : Holding) → daemon_of r id ≡ Some d → d.left ≡ false → d.holds ≡ Some h
-    → (event : Event) → keeps_under r h event ≡ true → IsOuterEnd r id event
+    → (event : Event) → commits_under r h event ≡ true → IsOuterEnd r id event
 end_under r id d h found stays holds events.Request keeps = and_never _ keeps
 end_under r id d h found stays holds events.Begin keeps = and_never _ keeps
 end_under r id d h found stays holds (events.Say call) keeps = and_never _ keeps
@@ -57,7 +57,7 @@ end_under r id d h found stays holds events.Exit keeps = and_never _ keeps
 end_under r id d h found stays holds (events.Look ticket) keeps = and_never _ keeps
 end_under r id d h found stays holds (events.Leaves leave) keeps = and_never _ keeps
 end_under r id d h found stays holds events.End keeps =
-    let all = both (served_number r == h.number && not (is_outside h events.End)) (keeps_in h.nesting events.End) keeps in
+    let all = both (served_number r == h.number && not (is_outside h events.End)) (commits_in h.nesting events.End) keeps in
     let there = both (served_number r == h.number) (not (is_outside h events.End)) all.0 in
     let outer = both (nat_le h.nesting.depth 1) (is_none h.nesting.doom) all.1 in
     record {
@@ -74,23 +74,23 @@ end_under r id d h found stays holds events.End keeps =
     }
 
 -- an event that may keep its transaction is such an end
-pub outer_end : (r : Roll) (id : ℕ) (event : Event) → keeps_by r id event ≡ true → IsOuterEnd r id event
+pub outer_end : (r : Roll) (id : ℕ) (event : Event) → commits_by r id event ≡ true → IsOuterEnd r id event
 outer_end r id event keeps = by (daemon_of r id) refl keeps
   where
     held : (d : Daemon) → daemon_of r id ≡ Some d → d.left ≡ false → (o : Option Holding) → d.holds ≡ o
-        → option_map_or (λ (h : Holding). keeps_under r h event) o false ≡ true → IsOuterEnd r id event
+        → option_map_or (λ (h : Holding). commits_under r h event) o false ≡ true → IsOuterEnd r id event
     held d found stays None is keeps = absurd (true≢false (sym keeps))
     held d found stays (Some h) is keeps = end_under r id d h found stays is event keeps
 
-    by : (o : Option Daemon) → daemon_of r id ≡ o → option_map_or (λ (d : Daemon). keeps_of r d event) o false ≡ true → IsOuterEnd r id event
+    by : (o : Option Daemon) → daemon_of r id ≡ o → option_map_or (λ (d : Daemon). commits_of r d event) o false ≡ true → IsOuterEnd r id event
     by None is keeps = absurd (true≢false (sym keeps))
     by (Some d) is keeps =
-        let of = both (not d.left) (option_map_or (λ (h : Holding). keeps_under r h event) d.holds false) keeps in
+        let of = both (not d.left) (option_map_or (λ (h : Holding). commits_under r h event) d.holds false) keeps in
         held d is (is_not d.left of.0) d.holds refl of.1
 
 -- The transaction ends, and its state is kept; or the disk fails, and the state before stays.
 pub data EndsOrFaults (m : Machine) (e : Made) (m' : Machine) : Type 0 where
-  ends : e.said.answer ≡ answers.Closed closes.Ended → m'.before ≡ kept m.now → EndsOrFaults m e m'
+  ends : e.said.answer ≡ answers.Closed closes.Ended → m'.before ≡ committed m.now → EndsOrFaults m e m'
   faults : IsAnswered e.said (answers.Reply replies.DiskFault) → m'.before ≡ m.before → EndsOrFaults m e m'
 
 module _ (m : Machine) (e : Made) (m' : Machine) (d : Daemon) (h : Holding) where
@@ -100,7 +100,7 @@ module _ (m : Machine) (e : Made) (m' : Machine) (d : Daemon) (h : Holding) wher
       c.closes.how ∙ ap (λ event. closing h.nesting event) is
       ∙ ap (λ o. option_map_or (λ (reason : Reason). closes.Cancelled reason) o (close_of events.End h.nesting.modified)) none in
       EndsOrFaults.ends (c.closes.told.answer ∙ ap answers.Closed ended)
-      (ap (λ (n : Machine). n.before) c.after ∙ c.closes.left ∙ ap (λ close. left_by close m.before m.now) ended)
+      (ap (λ (n : Machine). n.before) c.after ∙ c.closes.left ∙ ap (λ close. state_left close m.before m.now) ended)
 
   end_faults : FaultsWithin m d h events.End e m' → EndsOrFaults m e m'
   end_faults f = EndsOrFaults.faults f.faults.told (ap (λ (n : Machine). n.before) f.faults.after)
@@ -113,7 +113,7 @@ module _ (m : Machine) (e : Made) (m' : Machine) (d : Daemon) (h : Holding) wher
       (λ _ rest. from_test (served_number m.roll == h.number) rest (λ _ serves. proceeds serves)
       (λ unserved _. absurd (true≢false (sym served ∙ unserved))))
     where
-      proceeds : Serves m d h events.End e m' → EndsOrFaults m e m'
+      proceeds : OnTurn m d h events.End e m' → EndsOrFaults m e m'
       proceeds (inr broken) = end_faults broken
       proceeds (inl rest) =
           from_test (nat_le h.nesting.depth 1) rest (λ _ c. end_closes is none c) (λ deep _. absurd (true≢false (sym outer ∙ deep)))

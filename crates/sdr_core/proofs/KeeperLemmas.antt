@@ -2,7 +2,7 @@
 use Rattle.std.proofs.Common.{◌≡◌, ◌∙◌, ℕ, List, [], ◌∷◌, ◌++◌, Bool, true, false, None, Some, MatchOption, refl, sym, ap, subst}
 use Rattle.std.specs.Option.{option_map, option_map_or, option_to_list}
 use Rattle.std.specs.Prelude.{if◌then◌else◌, ⊤}
-use Rattle.sdr_lock.specs.Core.{Log, Under, Work, all_said, closed_by, entry_of, was_outside, log_after, said_by, what_else, with_said, without_work, works_after}
+use Rattle.sdr_lock.specs.Core.{Log, Under, Work, all_said, closed_by, entry_of, was_outside, log_after, said_by, what_added, with_said, without_work, works_after}
 use Rattle.sdr_lock.specs.Machine.{Made}
 use Rattle.sdr_model.specs.declared.answer.Close.{Close}
 use Rattle.sdr_model.specs.declared.journal.Said.{Said}
@@ -42,7 +42,7 @@ closed_log u log log' e close closes within works journal =
     let added : log'.journal ≡ (log_after u log e).journal =
     journal
     ∙ sym (ap (λ o. log.journal ++ option_to_list (option_map (entry_of u.number e)
-    (option_map_or (λ (c : Close). Some (whats.Work (all_said log.works e.daemon e.said) c)) o (what_else u e.said.event e.said.answer)))) closes) in
+    (option_map_or (λ (c : Close). Some (whats.Work (all_said log.works e.daemon e.said) c)) o (what_added u e.said.event e.said.answer)))) closes) in
     λ i. record { works = kept i; journal = added i }
 
 -- open transactions that are each another daemon's, as core runs see it

@@ -12,9 +12,9 @@ use Rattle.sdr_model.specs.declared.event.Event.TheVariants as events
 use Rattle.sdr_model.specs.declared.event.Leave.{Leave}
 use Rattle.sdr_model.specs.declared.journal.What.{What}
 use Rattle.sdr_model.specs.declared.journal.What.TheVariants as whats
-use Rattle.sdr_lock.specs.Core.{Under, Work, all_said, closed_by, has_left, is_failed, is_passed_over, under, what_else, what_of}
+use Rattle.sdr_lock.specs.Core.{Under, Work, all_said, closed_by, has_left, is_failed, is_passed_over, under, what_added, what_of}
 use Rattle.sdr_lock.specs.Machine.{Closes, Comes, FaultsWithin, Goes, Holds, Machine, Made, MachineStep, roll_acting, roll_coming, roll_failed, roll_holding, with_roll}
-use Rattle.sdr_lock.specs.Roll.{Roll, after_entry, after_leave, daemon_of, put_daemon, served_number, with_daemon, with_drawn, with_number}
+use Rattle.sdr_lock.specs.Roll.{Roll, when_done, after_leave, daemon_of, put_daemon, served_number, with_daemon, with_drawn, with_number}
 use Rattle.sdr_lock.specs.Nesting.{nested}
 use Rattle.sdr_lock.specs.Transaction.{refused}
 use Rattle.sdr_lock.specs.declared.daemon.Daemon.{Daemon}
@@ -161,7 +161,7 @@ module _ (m : Machine) (e : Made) (m' : Machine) (leave : Leave) (is : e.said.ev
   drawn_less : d.left ≡ false → leaves_of drawn ≤ leaves_of d
   drawn_less stays = let one = leaves_staying d stays in subst (λ b. (if b then 0 else 1) ≤ leaves_of d) (sym stays) one
 
-  entered_less : d.left ≡ false → leaves_of (after_entry d) ≡ 1
+  entered_less : d.left ≡ false → leaves_of (when_done d) ≡ 1
   entered_less stays = ap (λ b. if b then 0 else 1) stays
 
   ended : {h : Holding} → d.left ≡ false → d.holds ≡ Some h → (h.nesting.depth == 0) ≡ false → m.roll.failed ≡ None
@@ -171,12 +171,12 @@ module _ (m : Machine) (e : Made) (m' : Machine) (leave : Leave) (is : e.said.ev
       two : leaves_of d ≡ 2
       two = leaves_inside d h stays holds inside
 
-      one : leaves_of (after_entry d) ≡ 1
+      one : leaves_of (when_done d) ≡ 1
       one = entered_less stays
 
-      closed : m'.roll.daemons ≡ put_daemon m.roll.daemons (after_entry d) → (closed_by e.said.answer ≡ None → ⊥) → LeaveIs m e m' d
+      closed : m'.roll.daemons ≡ put_daemon m.roll.daemons (when_done d) → (closed_by e.said.answer ≡ None → ⊥) → LeaveIs m e m' d
       closed roll never = record {
-        after = after_entry d;
+        after = when_done d;
         id = refl;
         roll = roll;
         less = omega (arith, one, two);
@@ -297,10 +297,10 @@ leave_entries m e m' leave d works is found l = by (closed_by e.said.answer) ref
         omega (arith, ahead, none)
 
     by : (o : Option Close) → closed_by e.said.answer ≡ o
-        → Fits (option_map_or (λ (close : Close). Some (whats.Work (all_said works e.daemon e.said) close)) o (what_else u e.said.event e.said.answer))
+        → Fits (option_map_or (λ (close : Close). Some (whats.Work (all_said works e.daemon e.said) close)) o (what_added u e.said.event e.said.answer))
     by (Some close) closed = let c = l.closes close closed in let less = c.4 in omega (arith, ahead)
     by None unclosed =
-        subst (λ ev. Fits (what_else u ev e.said.answer)) (sym is)
+        subst (λ ev. Fits (what_added u ev e.said.answer)) (sym is)
         (subst (λ b. Fits (if b && not d.left then Some (whats.Leaves leave) else None)) (sym left_is) (left l.after.left d.left refl refl))
 
 -- an event of no daemon of the machine's leaves the roll

@@ -8,13 +8,13 @@ use Rattle.sdr_model.specs.declared.event.Leave.{Leave}
 use Rattle.sdr_lock.specs.Core.{Under, closed_by, looks_again, under, what_of}
 use Rattle.sdr_lock.specs.Machine.{Machine, Made, MachineStep}
 use Rattle.sdr_lock.specs.Roll.{daemon_of}
-use Rattle.sdr_lock.specs.Serving.{Acts, Locked, StoodFor, Makes, machine_at, made_by, made_with}
+use Rattle.sdr_lock.specs.Serving.{Acts, Locked, IsInSomeState, MakesMachineStep, machine_at, made_by, made_with}
 use Rattle.sdr_lock.specs.declared.came.Came.{Came}
 use Rattle.sdr_lock.specs.declared.daemon.Daemon.{Daemon}
 use Rattle.sdr_lock.specs.declared.has_ground.HasGround.{Ghosts}
 use Rattle.sdr_core.proofs.LeaveLemmas.{LeaveIs, leave_entries, leave_is, leave_quiet}
 use Rattle.sdr_core.proofs.RunLemmas.{made_quiet}
-use Rattle.sdr_core.specs.CoreKept.{StandsStill}
+use Rattle.sdr_core.specs.CoreKept.{HasState}
 use Rattle.sdr_core.specs.Keeping.{AreSpacious, spoken_of, works_of}
 use Rattle.sdr_core.specs.Logging.{AddsEntries, ClosesKept, HasRoomFor, HaveSpoken, PassesUnlessClosing, entries_of, leaves_ahead}
 use Rattle.sdr_core.specs.Noting.{made_noted, under_of}
@@ -22,8 +22,8 @@ use Rattle.sdr_core.specs.declared.keeper.Keeper.{Keeper}
 use Rattle.sdr_core.specs.declared.noted.Noted.{Noted}
 
 module _ {T : Type 0} (g : Ghosts T) (keeps : Bool) (daemon line : ℕ) (event : Event) (leave : Leave) (a : Came) (old new : Locked T) (keeper : Keeper) (d : Daemon)
-    (leaves : event ≡ events.Leaves leave) (found : daemon_of old.roll daemon ≡ Some d) (acts : Acts g keeps MachineStep daemon event a old new) (stands : StandsStill g.stands old) where
-  abbrev pub stood : StoodFor g.stands new (Makes g MachineStep old new daemon event a stands.for)
+    (leaves : event ≡ events.Leaves leave) (found : daemon_of old.roll daemon ≡ Some d) (acts : Acts g keeps MachineStep daemon event a old new) (stands : HasState g.stands old) where
+  abbrev pub stood : IsInSomeState g.stands new (MakesMachineStep g MachineStep old new daemon event a stands.for)
   stood = acts.leads.each stands.for stands.stood
 
   abbrev pub made : Made

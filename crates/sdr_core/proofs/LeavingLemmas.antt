@@ -8,27 +8,27 @@ use Rattle.sdr_base.specs.Media.{Told}
 use Rattle.sdr_model.specs.declared.event.Event.TheVariants as events
 use Rattle.sdr_model.specs.declared.event.Leave.{Leave}
 use Rattle.sdr_lock.specs.Core.{Core, CoreStep, Log}
-use Rattle.sdr_lock.specs.Gaps.{Gaps, GapsLast}
+use Rattle.sdr_lock.specs.Lapses.{Lapses, LapsesLast}
 use Rattle.sdr_lock.specs.Holders.{HoldFirst, holders}
 use Rattle.sdr_lock.specs.Leaving.{AllLeave, HoldersLeave, LeaveInTurn, MakesLeave, holds_number, served_daemon, staying}
 use Rattle.sdr_lock.specs.Machine.{Made, MachineStep}
 use Rattle.sdr_lock.specs.Roll.{MayDraw, Roll, held_by, served_number}
-use Rattle.sdr_lock.specs.Serving.{Locked, StoodFor, machine_at, made_by}
-use Rattle.sdr_lock.specs.Standing.{Standing}
+use Rattle.sdr_lock.specs.Serving.{Locked, IsInSomeState, machine_at, made_by}
+use Rattle.sdr_lock.specs.Standing.{GroundState}
 use Rattle.sdr_lock.specs.declared.came.Came.{Came}
 use Rattle.sdr_lock.specs.declared.daemon.Daemon.{Daemon}
 use Rattle.sdr_lock.specs.declared.daemon.Holding.{Holding}
 use Rattle.sdr_lock.specs.declared.has_ground.HasGround.{Ghosts}
-use Rattle.sdr_lock.proofs.GroundLemmas.{gaps_same}
+use Rattle.sdr_lock.proofs.GroundLemmas.{lapses_same}
 use Rattle.sdr_lock.proofs.HolderLemmas.{IsFirst, find_first, put_fewer, put_length, served_holds}
 use Rattle.sdr_lock.proofs.WorkLemmas.{on_some}
 use Rattle.sdr_core.proofs.LeaveLemmas.{LeaveIs, leave_is}
-use Rattle.sdr_core.specs.CoreKept.{Kept, Makes, StandsStill, core_at}
+use Rattle.sdr_core.specs.CoreKept.{LoggedLock, MakesCoreStep, HasState, core_at}
 use Rattle.sdr_core.specs.Leaving.{LastsOn, RunLeads}
 
 -- counts that didn't fall, and then didn't
-gaps_then : (a b c : Gaps) → GapsLast a b → GapsLast b c → GapsLast a c
-gaps_then a b c first second = record {
+lapses_then : (a b c : Lapses) → LapsesLast a b → LapsesLast b c → LapsesLast a c
+lapses_then a b c first second = record {
   faults = omega (arith, first.faults, second.faults);
   short = omega (arith, first.short, second.short);
 }
@@ -61,8 +61,8 @@ module _ (r : Roll) (d : Daemon) (may : HoldFirst [] r.daemons) (served : served
 
 module _ {T : Type 0} (g : Ghosts T) (line : ℕ) (leave : Leave) (a : Came) (old new : Locked T) (was log : Log) where
   -- a leave that was made
-  pub one_leave : (daemon : ℕ) (told : Option Told) → told ≡ g.told old.base → Makes g daemon line (events.Leaves leave) a old was new log → (v : Standing)
-      → (s : StoodFor g.stands new (λ v'. CoreStep (g.told old.base) (core_at (record { lock = old; log = was }) v)
+  pub one_leave : (daemon : ℕ) (told : Option Told) → told ≡ g.told old.base → MakesCoreStep g daemon line (events.Leaves leave) a old was new log → (v : GroundState)
+      → (s : IsInSomeState g.stands new (λ v'. CoreStep (g.told old.base) (core_at (record { lock = old; log = was }) v)
       (made_by daemon (events.Leaves leave) a (g.moment old.base) (g.moment new.base) line v') (core_at (record { lock = new; log = log }) v')))
       → MakesLeave told leave daemon (core_at (record { lock = old; log = was }) v) (made_by daemon (events.Leaves leave) a (g.moment old.base) (g.moment new.base) line s.for)
       (core_at (record { lock = new; log = log }) s.for)
@@ -74,9 +74,9 @@ module _ {T : Type 0} (g : Ghosts T) (line : ℕ) (leave : Leave) (a : Came) (ol
   }
 
   -- the served daemon's leave gives its number up
-  module _ (d : Daemon) (makes : Makes g d.id line (events.Leaves leave) a old was new log) (stands : StandsStill g.stands old) (may : HoldFirst [] old.roll.daemons)
+  module _ (d : Daemon) (makes : MakesCoreStep g d.id line (events.Leaves leave) a old was new log) (stands : HasState g.stands old) (may : HoldFirst [] old.roll.daemons)
       (served : served_daemon old.roll ≡ Some d) where
-    abbrev stood : StoodFor g.stands new (λ v'. CoreStep (g.told old.base) (core_at (record { lock = old; log = was }) stands.for)
+    abbrev stood : IsInSomeState g.stands new (λ v'. CoreStep (g.told old.base) (core_at (record { lock = old; log = was }) stands.for)
         (made_by d.id (events.Leaves leave) a (g.moment old.base) (g.moment new.base) line v') (core_at (record { lock = new; log = log }) v'))
     stood = makes.step.each stands.for stands.stood
 
@@ -106,11 +106,11 @@ module _ {T : Type 0} (g : Ghosts T) (line : ℕ) (leave : Leave) (a : Came) (ol
     leave_many = ap (λ (ds : List Daemon). length ds) is.roll ∙ put_length is.after old.roll.daemons
 
   -- it lasts on
-  pub lasts_on : (daemon : ℕ) → Makes g daemon line (events.Leaves leave) a old was new log → LastsOn g old.base → LastsOn g new.base
+  pub lasts_on : (daemon : ℕ) → MakesCoreStep g daemon line (events.Leaves leave) a old was new log → LastsOn g old.base → LastsOn g new.base
   lasts_on daemon makes lasts n = makes.asks.kept.lasts n (lasts (suc n))
 
   -- one leaves, and then the others
-  pub holders_more : (d : Daemon) (next : Kept T) → served_daemon old.roll ≡ Some d → Makes g d.id line (events.Leaves leave) a old was new log
+  pub holders_more : (d : Daemon) (next : LoggedLock T) → served_daemon old.roll ≡ Some d → MakesCoreStep g d.id line (events.Leaves leave) a old was new log
       → RunLeads g (HoldersLeave (g.told new.base) leave) (record { lock = new; log = log }) next
       → RunLeads g (HoldersLeave (g.told old.base) leave) (record { lock = old; log = was }) next
   holders_more d next served makes rest = record {
@@ -130,10 +130,10 @@ module _ {T : Type 0} (g : Ghosts T) (line : ℕ) (leave : Leave) (a : Came) (ol
           };
         };
     media = rest.media ∙ makes.asks.kept.media;
-    gaps = gaps_then _ _ _ makes.asks.kept.gaps rest.gaps;
+    lapses = lapses_then _ _ _ makes.asks.kept.lapses rest.lapses;
   }
 
-  pub turn_more : (daemon : ℕ) (daemons : List ℕ) (next : Kept T) → Makes g daemon line (events.Leaves leave) a old was new log
+  pub turn_more : (daemon : ℕ) (daemons : List ℕ) (next : LoggedLock T) → MakesCoreStep g daemon line (events.Leaves leave) a old was new log
       → RunLeads g (LeaveInTurn (g.told new.base) leave daemons) (record { lock = new; log = log }) next
       → RunLeads g (LeaveInTurn (g.told old.base) leave (daemon ∷ daemons)) (record { lock = old; log = was }) next
   turn_more daemon daemons next makes rest = record {
@@ -153,26 +153,26 @@ module _ {T : Type 0} (g : Ghosts T) (line : ℕ) (leave : Leave) (a : Came) (ol
           };
         };
     media = rest.media ∙ makes.asks.kept.media;
-    gaps = gaps_then _ _ _ makes.asks.kept.gaps rest.gaps;
+    lapses = lapses_then _ _ _ makes.asks.kept.lapses rest.lapses;
   }
 
 -- nobody is served, or nobody is left
-pub holders_none : {T : Type 0} (g : Ghosts T) (told : Option Told) (leave : Leave) (k : Kept T) → served_daemon k.lock.roll ≡ None → RunLeads g (HoldersLeave told leave) k k
+pub holders_none : {T : Type 0} (g : Ghosts T) (told : Option Told) (leave : Leave) (k : LoggedLock T) → served_daemon k.lock.roll ≡ None → RunLeads g (HoldersLeave told leave) k k
 holders_none g told leave k none = record {
   each = λ v stood. record { for = v; stood = stood; tells = record { made = []; tells = (refl, none) } };
   media = refl;
-  gaps = gaps_same (g.gaps k.lock.base);
+  lapses = lapses_same (g.lapses k.lock.base);
 }
 
-pub turn_none : {T : Type 0} (g : Ghosts T) (told : Option Told) (leave : Leave) (k : Kept T) → RunLeads g (LeaveInTurn told leave []) k k
+pub turn_none : {T : Type 0} (g : Ghosts T) (told : Option Told) (leave : Leave) (k : LoggedLock T) → RunLeads g (LeaveInTurn told leave []) k k
 turn_none g told leave k = record {
   each = λ v stood. record { for = v; stood = stood; tells = record { made = []; tells = refl } };
   media = refl;
-  gaps = gaps_same (g.gaps k.lock.base);
+  lapses = lapses_same (g.lapses k.lock.base);
 }
 
 -- the holders leave, and then those that stay
-pub all_leave : {T : Type 0} (g : Ghosts T) (told : Option Told) (leave : Leave) (old mid new : Kept T) → RunLeads g (HoldersLeave told leave) old mid
+pub all_leave : {T : Type 0} (g : Ghosts T) (told : Option Told) (leave : Leave) (old mid new : LoggedLock T) → RunLeads g (HoldersLeave told leave) old mid
     → RunLeads g (LeaveInTurn told leave (staying mid.lock.roll)) mid new → RunLeads g (AllLeave told leave) old new
 all_leave g told leave old mid new first last = record {
   each = λ v stood.
@@ -187,7 +187,7 @@ all_leave g told leave old mid new first last = record {
         };
       };
   media = last.media ∙ first.media;
-  gaps = gaps_then _ _ _ first.gaps last.gaps;
+  lapses = lapses_then _ _ _ first.lapses last.lapses;
 }
 
 -- a list without an item, and one with a first

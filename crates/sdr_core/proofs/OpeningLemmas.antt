@@ -8,9 +8,9 @@ use Rattle.sdr_disk.specs.Moments.{AtEach}
 use Rattle.sdr_model.specs.declared.journal.Entry.{Entry}
 use Rattle.sdr_model.specs.declared.journal.What.{What}
 use Rattle.sdr_lock.specs.Crash.{AfterSome, IsCrashSafe, KeptInVain, LeavesBefore, LeavesOr, OpensAfter, as_ended, begun_below, done_by, is_sound, is_whole}
-use Rattle.sdr_lock.specs.Ground.{State, kept}
-use Rattle.sdr_lock.specs.Legal.{IsAfter, Lead, MayStand}
-use Rattle.sdr_lock.specs.Standing.{Standing}
+use Rattle.sdr_lock.specs.Ground.{State, committed}
+use Rattle.sdr_lock.specs.Legal.{IsAfter, Lead, MayFollow}
+use Rattle.sdr_lock.specs.Standing.{GroundState}
 use Rattle.sdr_lock.specs.declared.has_ground.HasGround.{Ghosts}
 use Rattle.sdr_runs.proofs.JournalLemmas.{lead_more, take_all}
 use Rattle.sdr_core.proofs.CrashLemmas.{begun-more, crash_ended, crash_faulted, done_by-unsound}
@@ -20,7 +20,7 @@ use Rattle.sdr_core.proofs.CrashLemmas.{begun-more, crash_ended, crash_faulted, 
 pub record WouldStand (told : Option Told) (daemons : List ℕ) (journal : List Entry) (before : State) (e : Entry) (left : State) : Type 0 where
   pub what : What
   pub ended : as_ended e.what ≡ Some what
-  pub stands : MayStand told daemons journal before e.number e.daemon what left
+  pub stands : MayFollow told daemons journal before e.number e.daemon what left
 
 -- the states after the first entries stay where one is added
 after_more : (told : Option Told) (daemons : List ℕ) (first : State) (journal : List Entry) (e : Entry) (k : ℕ) (s : State) → k ≤ length journal
@@ -29,7 +29,7 @@ after_more told daemons first journal e k s le after = subst (λ entries. Lead t
 
 -- the state after all entries is the one that the last leaves
 after_last : (told : Option Told) (daemons : List ℕ) (first : State) (journal : List Entry) (e : Entry) (s s' : State) → IsAfter told daemons first journal (length journal) s
-    → MayStand told daemons journal s e.number e.daemon e.what s' → IsAfter told daemons first (journal ++ e ∷ []) (length journal + 1) s'
+    → MayFollow told daemons journal s e.number e.daemon e.what s' → IsAfter told daemons first (journal ++ e ∷ []) (length journal + 1) s'
 after_last told daemons first journal e s s' after stands =
     let all : length (journal ++ e ∷ []) ≡ length journal + 1 = length-append journal (e ∷ []) in
     subst (λ entries. Lead told daemons [] first entries s') (sym (ap (λ n. take n (journal ++ e ∷ [])) (sym all) ∙ take_all (journal ++ e ∷ [])))
@@ -60,7 +60,7 @@ in_vain_more told daemons first journal e k s vain =
       after = after_more told daemons first journal e vain.before vain.left le vain.after;
       what = vain.what;
       ended = vain.ended;
-      kept = subst (λ entries. MayStand told daemons entries vain.left vain.entry.number vain.entry.daemon vain.what s) (sym (take-append-le vain.before journal (e ∷ []) le)) vain.kept;
+      kept = subst (λ entries. MayFollow told daemons entries vain.left vain.entry.number vain.entry.daemon vain.what s) (sym (take-append-le vain.before journal (e ∷ []) le)) vain.kept;
     }
 
 module _ {T : Type 0} (g : Ghosts T) (told : Option Told) (daemons : List ℕ) (first : State) (start : ℕ) (journal : List Entry) (old new : T) where
@@ -79,7 +79,7 @@ module _ {T : Type 0} (g : Ghosts T) (told : Option Told) (daemons : List ℕ) (
       by (inl after) = inl (after_more told daemons first journal e k opens.state le after)
       by (inr vain) = inr (in_vain_more told daemons first journal e k opens.state vain)
 
-  module _ (v : Standing) (safe : Safe journal old) (all : (m : ℕ) → g.moment old ≤ m → done_by m journal ≡ length journal)
+  module _ (v : GroundState) (safe : Safe journal old) (all : (m : ℕ) → g.moment old ≤ m → done_by m journal ≡ length journal)
       (here : IsAfter told daemons first journal (length journal) v.before) (stands : g.stands old v) where
     opens_here : (image : List ℕ) → g.opens image v.before → Opens journal (length journal) image
     opens_here image opened = record { state = v.before; opened = opened; tells = inl here }
@@ -102,7 +102,7 @@ module _ {T : Type 0} (g : Ghosts T) (told : Option Told) (daemons : List ℕ) (
 
     module _ (keeps : Bool) (leaves : LeavesOr keeps g old new) (e : Entry) (begun : e.begun ≡ g.moment old) where
       -- what an image opens to while the entry is made, where it opens so if it is kept
-      each_of : (keeps ≡ true → (image : List ℕ) → g.opens image (kept v.now) → Opens (journal ++ e ∷ []) (length journal + 1) image)
+      each_of : (keeps ≡ true → (image : List ℕ) → g.opens image (committed v.now) → Opens (journal ++ e ∷ []) (length journal + 1) image)
           → AtEach g.moment g.left old new (λ image. Opens journal (length journal) image ⊎ Opens (journal ++ e ∷ []) (length journal + 1) image)
       each_of if_kept = by keeps refl leaves
         where
@@ -115,14 +115,14 @@ module _ {T : Type 0} (g : Ghosts T) (told : Option Told) (daemons : List ℕ) (
               let at = either.each v stands in
               record { later = at.later; each = λ m image ge le left. or image (if_kept is image) (at.each m image ge le left); past = at.past }
             where
-              or : (image : List ℕ) → (g.opens image (kept v.now) → Opens (journal ++ e ∷ []) (length journal + 1) image) → g.opens image v.before ⊎ g.opens image (kept v.now)
+              or : (image : List ℕ) → (g.opens image (committed v.now) → Opens (journal ++ e ∷ []) (length journal + 1) image) → g.opens image v.before ⊎ g.opens image (committed v.now)
                   → Opens journal (length journal) image ⊎ Opens (journal ++ e ∷ []) (length journal + 1) image
               or image so (inl opened) = inl (opens_here image opened)
               or image so (inr opened) = inr (so opened)
 
       -- an entry is added in which the disk didn't fail
-      pub whole_safe : (v' : Standing) → is_whole e ≡ true → e.done ≡ g.moment new → g.stands new v' → MayStand told daemons journal v.before e.number e.daemon e.what v'.before
-          → (keeps ≡ true → v'.before ≡ kept v.now) → ((t : T) (w : Standing) (image : List ℕ) → g.stands t w → g.left t (g.moment t) image → g.opens image w.before)
+      pub whole_safe : (v' : GroundState) → is_whole e ≡ true → e.done ≡ g.moment new → g.stands new v' → MayFollow told daemons journal v.before e.number e.daemon e.what v'.before
+          → (keeps ≡ true → v'.before ≡ committed v.now) → ((t : T) (w : GroundState) (image : List ℕ) → g.stands t w → g.left t (g.moment t) image → g.opens image w.before)
           → Safe (journal ++ e ∷ []) new
       whole_safe v' whole done there entry is_kept crash_now =
           let last : (image : List ℕ) → g.opens image v'.before → Opens (journal ++ e ∷ []) (length journal + 1) image =
@@ -133,12 +133,12 @@ module _ {T : Type 0} (g : Ghosts T) (told : Option Told) (daemons : List ℕ) (
 
       -- an entry is added in which the disk failed
       pub faulted_safe : is_whole e ≡ false
-          → (keeps ≡ true → WouldStand told daemons journal v.before e (kept v.now))
+          → (keeps ≡ true → WouldStand told daemons journal v.before e (committed v.now))
           → Safe (journal ++ e ∷ []) new
       faulted_safe broken in_vain =
           crash_faulted g.moment g.left (Opens journal) (Opens (journal ++ e ∷ [])) start journal e old new (opens_more e) safe all begun
           (each_of (λ keeping image opened. let would = in_vain keeping in record {
-            state = kept v.now;
+            state = committed v.now;
             opened = opened;
             tells = inr (record {
               before = length journal;
@@ -150,7 +150,8 @@ module _ {T : Type 0} (g : Ghosts T) (told : Option Told) (daemons : List ℕ) (
               what = would.what;
               ended = would.ended;
               kept =
-                  subst (λ entries. MayStand told daemons entries v.before e.number e.daemon would.what (kept v.now))
+                  subst (λ entries. MayFollow told daemons entries v.before e.number e.daemon would.what
+                      (committed v.now))
                   (sym (take-append-le (length journal) journal (e ∷ []) (omega arith) ∙ take_all journal)) would.stands;
             });
           })) broken

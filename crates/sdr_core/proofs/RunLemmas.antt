@@ -6,7 +6,7 @@ use Rattle.sdr_base.specs.Media.{Told}
 use Rattle.sdr_base.specs.declared.moves.Move.{Move}
 use Rattle.sdr_model.specs.declared.event.Event.{Event}
 use Rattle.sdr_lock.specs.Core.{AreInTime, Core, CoreStep, Log, RunsCore, first_core, log_after, under}
-use Rattle.sdr_lock.specs.Crash.{LeavesOr, keeps_by}
+use Rattle.sdr_lock.specs.Crash.{LeavesOr, commits_by}
 use Rattle.sdr_lock.specs.Transaction.{bytes_given}
 use Rattle.sdr_lock.proofs.StepLemmas.{step_is}
 use Rattle.sdr_core.proofs.LeaveLemmas.{leave_quiet}
@@ -18,13 +18,13 @@ use Rattle.sdr_model.specs.declared.event.Leave.{Leave}
 use Rattle.sdr_lock.specs.Machine.{Made, MachineStep}
 use Rattle.sdr_lock.specs.Legal.{IsLegal}
 use Rattle.sdr_lock.specs.Roll.{daemon_of, first_roll}
-use Rattle.sdr_lock.specs.Serving.{Acts, Asks, Locked, Stood, machine_at, made_by, made_with}
-use Rattle.sdr_lock.specs.Standing.{Standing, standing_at}
+use Rattle.sdr_lock.specs.Serving.{Acts, Asks, Locked, IsInState, machine_at, made_by, made_with}
+use Rattle.sdr_lock.specs.Standing.{GroundState, standing_at}
 use Rattle.sdr_runs.proofs.RunLemmas.{run_is_legal}
 use Rattle.sdr_lock.specs.declared.came.Came.{Came}
 use Rattle.sdr_lock.specs.declared.daemon.Daemon.{Daemon}
 use Rattle.sdr_lock.specs.declared.has_ground.HasGround.{Ghosts}
-use Rattle.sdr_core.specs.CoreKept.{Begins, BeginsOn, Kept, KeepsRun, Makes, StandsStill, StepsCore, core_at, last_done}
+use Rattle.sdr_core.specs.CoreKept.{RunStart, BeginsOn, LoggedLock, KeepsRun, MakesCoreStep, HasState, StepsCore, core_at, last_done}
 
 -- a run and one event more
 runs_more : (told : Option Told) (c mid c' : Core) (made : List Made) (e : Made) → RunsCore told c made mid → CoreStep told mid e c' → RunsCore told c (made ++ e ∷ []) c'
@@ -40,7 +40,7 @@ last_done-more moment [] e = refl
 last_done-more moment (first ∷ made) e = last_done-more first.done made e
 
 -- where a call was made, its moves and its bytes are the ground's
-pub made_known : (daemon : ℕ) (event : Event) (a : Came) (begun done line : ℕ) (moves : List Move) (shown : List ℕ) (v : Standing)
+pub made_known : (daemon : ℕ) (event : Event) (a : Came) (begun done line : ℕ) (moves : List Move) (shown : List ℕ) (v : GroundState)
     → (a.called ≡ true → (moves ≡ v.moves) × (shown ≡ v.now.world.shown)) → made_with daemon event a begun done line moves shown ≡ made_by daemon event a begun done line v
 made_known daemon event a begun done line moves shown v known = by a.called known
   where
@@ -50,7 +50,7 @@ made_known daemon event a begun done line moves shown v known = by a.called know
     by false known = refl
 
 -- where no moves and no bytes were made, nothing is the ground's
-pub made_quiet : (daemon : ℕ) (event : Event) (a : Came) (begun done line : ℕ) (v : Standing)
+pub made_quiet : (daemon : ℕ) (event : Event) (a : Came) (begun done line : ℕ) (v : GroundState)
     → (made_by daemon event a begun done line v).said.moves ≡ [] → (made_by daemon event a begun done line v).said.bytes ≡ []
     → made_with daemon event a begun done line [] [] ≡ made_by daemon event a begun done line v
 made_quiet daemon event a begun done line v moves bytes =
@@ -79,11 +79,11 @@ made_quiet daemon event a begun done line v moves bytes =
 
 module _ {T : Type 0} (g : Ghosts T) (keeps : Bool) (daemon : ℕ) (event : Event) (a : Came) (line : ℕ) (old new : Locked T) (log log' : Log) (acts : Acts g keeps MachineStep daemon event a old new) where
   -- the event as the ground tells of it
-  abbrev told_by : Standing → Made
+  abbrev told_by : GroundState → Made
   told_by v = made_by daemon event a (g.moment old.base) (g.moment new.base) line v
 
   -- an event that the lock has made is a step of the core
-  steps_core : ((v : Standing) (stood : Stood g.stands old v) → let s = acts.leads.each v stood in
+  steps_core : ((v : GroundState) (stood : IsInState g.stands old v) → let s = acts.leads.each v stood in
       log' ≡ option_map_or (λ (d : Daemon). log_after (under old.roll d new.roll event) log (told_by s.for)) (daemon_of old.roll daemon) log)
       → StepsCore g daemon line event a (record { lock = old; log = log }) (record { lock = new; log = log' })
   steps_core kept = record {
@@ -95,14 +95,14 @@ module _ {T : Type 0} (g : Ghosts T) (keeps : Bool) (daemon : ℕ) (event : Even
             next = machine_at new.roll s.for;
             step = s.tells.step line;
             media = s.tells.media;
-            history = ap (λ (l : Log). let k : Kept T = record { lock = new; log = l } in core_at k s.for) (kept v stood);
+            history = ap (λ (l : Log). let k : LoggedLock T = record { lock = new; log = l } in core_at k s.for) (kept v stood);
           };
         };
   }
 
   -- it is made of a lock that stands for something
-  pub makes : StandsStill g.stands old → StepsCore g daemon line event a (record { lock = old; log = log }) (record { lock = new; log = log' }) → (keeps ≡ keeps_by old.roll daemon event)
-      → Makes g daemon line event a old log new log'
+  pub makes : HasState g.stands old → StepsCore g daemon line event a (record { lock = old; log = log }) (record { lock = new; log = log' }) → (keeps ≡ commits_by old.roll daemon event)
+      → MakesCoreStep g daemon line event a old log new log'
   makes stands step same =
       let s = acts.leads.each stands.for stands.stood in
       record {
@@ -119,7 +119,7 @@ module _ {T : Type 0} (g : Ghosts T) (keeps : Bool) (daemon : ℕ) (event : Even
 
   -- of another what is noted
   pub steps_known : (d : Daemon) (moves : List Move) (shown : List ℕ) → daemon_of old.roll daemon ≡ Some d
-      → (a.called ≡ true → (v : Standing) → g.stands new.base v → (moves ≡ v.moves) × (shown ≡ v.now.world.shown))
+      → (a.called ≡ true → (v : GroundState) → g.stands new.base v → (moves ≡ v.moves) × (shown ≡ v.now.world.shown))
       → log' ≡ log_after (under old.roll d new.roll event) log (made_with daemon event a (g.moment old.base) (g.moment new.base) line moves shown)
       → StepsCore g daemon line event a (record { lock = old; log = log }) (record { lock = new; log = log' })
   steps_known d moves shown found known is =
@@ -143,11 +143,11 @@ module _ {T : Type 0} (g : Ghosts T) (keeps : Bool) (daemon : ℕ) (event : Even
       ∙ sym (ap (λ o. option_map_or (λ (d : Daemon). log_after (under old.roll d new.roll event) log (told_by s.for)) o log) found))
 
 -- the disk's moment doesn't fall
-later_either : {T : Type 0} (g : Ghosts T) (keeps : Bool) (old new : T) (v : Standing) → g.stands old v → LeavesOr keeps g old new → g.moment old ≤ g.moment new
+later_either : {T : Type 0} (g : Ghosts T) (keeps : Bool) (old new : T) (v : GroundState) → g.stands old v → LeavesOr keeps g old new → g.moment old ≤ g.moment new
 later_either g true old new v stands leaves = (leaves.each v stands).later
 later_either g false old new v stands leaves = (leaves.each v stands).later
 
-pub later : {T : Type 0} (g : Ghosts T) (keeps : Bool) (a : Came) (old new : Locked T) (v : Standing) → (old.roll.failed ≡ None → g.stands old.base v) → Asks g keeps a old new → g.moment old.base ≤ g.moment new.base
+pub later : {T : Type 0} (g : Ghosts T) (keeps : Bool) (a : Came) (old new : Locked T) (v : GroundState) → (old.roll.failed ≡ None → g.stands old.base v) → Asks g keeps a old new → g.moment old.base ≤ g.moment new.base
 later g keeps a old new v stood asks = by old.roll.failed refl
   where
     by : (o : Option ℕ) → old.roll.failed ≡ o → g.moment old.base ≤ g.moment new.base
@@ -155,7 +155,7 @@ later g keeps a old new v stood asks = by old.roll.failed refl
     by (Some moment) broken = let same = ap g.moment (asks.failed (subst IsSome (sym broken) refl)) in omega arith
 
 -- after such a step what is kept is of a run still
-pub keeps_after : {T : Type 0} (g : Ghosts T) (b : Begins) (keeps : Bool) (daemon line : ℕ) (event : Event) (a : Came) (old new : Kept T)
+pub keeps_after : {T : Type 0} (g : Ghosts T) (b : RunStart) (keeps : Bool) (daemon line : ℕ) (event : Event) (a : Came) (old new : LoggedLock T)
     → StepsCore g daemon line event a old new → Asks g keeps a old.lock new.lock → KeepsRun g b old → KeepsRun g b new
 keeps_after g b keeps daemon line event a old new steps asks run =
     let s = steps.each run.for run.stood in
@@ -173,7 +173,7 @@ keeps_after g b keeps daemon line event a old new steps asks run =
     }
 
 -- before any event
-pub keeps_first : {T : Type 0} (g : Ghosts T) (b : Begins) (daemons : List ℕ) (base : T) → BeginsOn g b daemons base
+pub keeps_first : {T : Type 0} (g : Ghosts T) (b : RunStart) (daemons : List ℕ) (base : T) → BeginsOn g b daemons base
     → KeepsRun g b (record { lock = record { roll = first_roll daemons; base = base }; log = record { works = []; journal = [] } })
 keeps_first g b daemons base begins =
     record {
@@ -188,7 +188,7 @@ keeps_first g b daemons base begins =
     }
 
 -- as a core is made
-pub keeps_new : {T : Type 0} (g : Ghosts T) (b : Begins) (daemons : List ℕ) (base : T) (lock : Locked T) (log : Log) → lock ≡ record { roll = first_roll daemons; base = base }
+pub keeps_new : {T : Type 0} (g : Ghosts T) (b : RunStart) (daemons : List ℕ) (base : T) (lock : Locked T) (log : Log) → lock ≡ record { roll = first_roll daemons; base = base }
     → log ≡ record { works = []; journal = [] } → BeginsOn g b daemons base → KeepsRun g b (record { lock = lock; log = log })
 keeps_new g b daemons base lock log made none begins =
     let kept : record { lock = record { roll = first_roll daemons; base = base }; log = record { works = []; journal = [] } } ≡ record { lock = lock; log = log } =
@@ -196,5 +196,5 @@ keeps_new g b daemons base lock log made none begins =
     subst (KeepsRun g b) kept (keeps_first g b daemons base begins)
 
 -- the journal that is kept is legal
-pub keeps_legal : {T : Type 0} (g : Ghosts T) (b : Begins) (k : Kept T) → KeepsRun g b k → IsLegal b.told b.daemons b.first k.log.journal
+pub keeps_legal : {T : Type 0} (g : Ghosts T) (b : RunStart) (k : LoggedLock T) → KeepsRun g b k → IsLegal b.told b.daemons b.first k.log.journal
 keeps_legal g b k run = run_is_legal b.told b.daemons b.first b.start run.made (core_at k run.for) run.rests run.in_time run.runs

@@ -4,12 +4,12 @@ use Rattle.std.proofs.lemmas.Bool.Decides.{nat_tests}
 use Rattle.std.specs.Option.{option_to_list}
 use Rattle.sdr_base.proofs.WrittenLemmas.{rose_later}
 use Rattle.sdr_lock.specs.Core.{Core, CoreStep, all_said, closed_by}
-use Rattle.sdr_lock.specs.Crash.{LeavesOr, OpensAfter, as_ended, done_by, end_told, is_sound, is_whole, keeps_by}
-use Rattle.sdr_lock.specs.Ground.{kept}
-use Rattle.sdr_lock.specs.Legal.{IsAfter, MayStand, is_fault}
+use Rattle.sdr_lock.specs.Crash.{LeavesOr, OpensAfter, as_ended, done_by, end_told, is_sound, is_whole, commits_by}
+use Rattle.sdr_lock.specs.Ground.{committed}
+use Rattle.sdr_lock.specs.Legal.{IsAfter, MayFollow, is_fault}
 use Rattle.sdr_lock.specs.Machine.{Made, MachineStep}
 use Rattle.sdr_lock.specs.Roll.{first_roll, number_of}
-use Rattle.sdr_lock.specs.Serving.{Asks, Locked, StoodFor, is_disk_fault, is_fault_answer, made_by}
+use Rattle.sdr_lock.specs.Serving.{Asks, Locked, IsInSomeState, is_disk_fault, is_fault_answer, made_by}
 use Rattle.sdr_lock.specs.Transaction.{IsAnswered, Runs}
 use Rattle.sdr_lock.specs.declared.came.Came.{Came}
 use Rattle.sdr_lock.specs.declared.has_ground.HasGround.{Ghosts}
@@ -28,7 +28,7 @@ use Rattle.sdr_core.proofs.CrashLemmas.{done_by-done, done_by-open, done_by-unso
 use Rattle.sdr_core.proofs.EndLemmas.{EndsOrFaults, IsOuterEnd, end_keeps, outer_end}
 use Rattle.sdr_core.proofs.OpeningLemmas.{WouldStand, failed_safe, faulted_safe, still_safe, whole_safe}
 use Rattle.sdr_core.proofs.RunLemmas.{keeps_legal, later}
-use Rattle.sdr_core.specs.CoreKept.{Begins, BeginsOn, IsRunOf, Kept, KeepsRun, KeepsSafe, StepsCore, core_at}
+use Rattle.sdr_core.specs.CoreKept.{RunStart, BeginsOn, IsRunOf, LoggedLock, KeepsRun, KeepsSafe, StepsCore, core_at}
 
 both : (a b : Bool) → (a && b) ≡ true → (a ≡ true) × (b ≡ true)
 both true b e = (refl, e)
@@ -83,11 +83,12 @@ is_fault_told a quiet fault = by a.called quiet
     by false quiet = ap is_fault_answer fault
 
 -- An event that was made of a core, of which a crash left some first entries.
-module _ {T : Type 0} (g : Ghosts T) (b : Begins) (old new : Kept T) (daemon line : ℕ) (event : Event) (a : Came)
+module _ {T : Type 0} (g : Ghosts T) (b : RunStart) (old new : LoggedLock T) (daemon line : ℕ) (event : Event)
+    (a : Came)
     (run : KeepsRun g b old) (safe : KeepsSafe g b old.log.journal old.lock.roll.failed old.lock.base)
-    (steps : StepsCore g daemon line event a old new) (asks : Asks g (keeps_by old.lock.roll daemon event) a old.lock new.lock)
+    (steps : StepsCore g daemon line event a old new) (asks : Asks g (commits_by old.lock.roll daemon event) a old.lock new.lock)
     (called : a.called ≡ true → new.lock.roll.failed ≡ None) where
-  abbrev pub stood : StoodFor g.stands new.lock (λ v. CoreStep (g.told old.lock.base) (core_at old run.for)
+  abbrev pub stood : IsInSomeState g.stands new.lock (λ v. CoreStep (g.told old.lock.base) (core_at old run.for)
       (made_by daemon event a (g.moment old.lock.base) (g.moment new.lock.base) line v) (core_at new v))
   stood = steps.each run.for run.stood
 
@@ -119,7 +120,7 @@ module _ {T : Type 0} (g : Ghosts T) (b : Begins) (old new : Kept T) (daemon lin
   grows = step_adds b.told before made after step
 
   rose : g.moment old.lock.base ≤ g.moment new.lock.base
-  rose = later g (keeps_by old.lock.roll daemon event) a old.lock new.lock run.for run.stood asks
+  rose = later g (commits_by old.lock.roll daemon event) a old.lock new.lock run.for run.stood asks
 
   here : IsAfter b.told b.daemons b.first journal (length journal) run.for.before
   here = run_is_after b.told b.daemons b.first run.made before run.runs
@@ -142,10 +143,10 @@ module _ {T : Type 0} (g : Ghosts T) (b : Begins) (old new : Kept T) (daemon lin
     no_entry : {R : Type 0} (x : Entry) → entry_added before made after.machine ≡ Some x → R
     no_entry x some = let no : None ≡ Some x = sym none ∙ some in absurd cc
 
-    keeps_none : old.lock.roll.failed ≡ None → keeps_by old.lock.roll daemon event ≡ false
-    keeps_none sound = by (keeps_by old.lock.roll daemon event) refl
+    keeps_none : old.lock.roll.failed ≡ None → commits_by old.lock.roll daemon event ≡ false
+    keeps_none sound = by (commits_by old.lock.roll daemon event) refl
       where
-        by : (k : Bool) → keeps_by old.lock.roll daemon event ≡ k → k ≡ false
+        by : (k : Bool) → commits_by old.lock.roll daemon event ≡ k → k ≡ false
         by false is = refl
         by true is = let end = outer_end old.lock.roll daemon event is in adds (end_keeps before.machine made after.machine sound end machine_step)
           where
@@ -186,9 +187,9 @@ module _ {T : Type 0} (g : Ghosts T) (b : Begins) (old new : Kept T) (daemon lin
     what_is : x.what ≡ added.what
     what_is = ap (λ (y : Entry). y.what) added.is
 
-    stands : MayStand b.told b.daemons journal run.for.before x.number x.daemon x.what stood.for.before
+    stands : MayFollow b.told b.daemons journal run.for.before x.number x.daemon x.what stood.for.before
     stands = subst (λ o. MatchOption o (stood.for.before ≡ run.for.before)
-        (λ (y : Entry). MayStand b.told b.daemons journal run.for.before y.number y.daemon y.what stood.for.before)) some next.1
+        (λ (y : Entry). MayFollow b.told b.daemons journal run.for.before y.number y.daemon y.what stood.for.before)) some next.1
 
     fails : MatchBool (is_fault x.what) (a.answer ≡ answers.Reply replies.DiskFault) (new.lock.roll.failed ≡ old.lock.roll.failed)
     fails = subst (λ o. MatchOption o (after.machine.roll.failed ≡ before.machine.roll.failed)
@@ -208,10 +209,10 @@ module _ {T : Type 0} (g : Ghosts T) (b : Begins) (old new : Kept T) (daemon lin
       same_still : new.lock.roll.failed ≡ None
       same_still = subst (λ k. MatchBool k (a.answer ≡ answers.Reply replies.DiskFault) (new.lock.roll.failed ≡ old.lock.roll.failed)) whole fails ∙ sound
 
-      is_kept : keeps_by old.lock.roll daemon event ≡ true → stood.for.before ≡ kept run.for.now
+      is_kept : commits_by old.lock.roll daemon event ≡ true → stood.for.before ≡ committed run.for.now
       is_kept keeping = by (end_keeps before.machine made after.machine sound (outer_end old.lock.roll daemon event keeping) machine_step)
         where
-          by : EndsOrFaults before.machine made after.machine → stood.for.before ≡ kept run.for.now
+          by : EndsOrFaults before.machine made after.machine → stood.for.before ≡ committed run.for.now
           by (EndsOrFaults.ends answer left) = left
           by (EndsOrFaults.faults told left) =
               absurd (true≢false (sym (answered_fault before made after.machine x added told.answer) ∙ ap is_fault (sym what_is) ∙ whole))
@@ -225,7 +226,7 @@ module _ {T : Type 0} (g : Ghosts T) (b : Begins) (old new : Kept T) (daemon lin
         all = λ _ m ge. done_by-done m journal x (λ i. not (whole i) && in_time m ge i) (safe.all sound m (omega (arith, rose))) ∙ sym (length-append journal (x ∷ []));
         early = λ m lt. done_by-open m journal x (ap (λ k. is_whole x && k) (late m lt) ∙ and_false (is_whole x)) ∙ safe.early m lt;
         crash = whole_safe g b.told b.daemons b.first b.start journal old.lock.base new.lock.base run.for safe.crash (safe.all sound) here (run.stood sound)
-            (keeps_by old.lock.roll daemon event) asks.any_moment x begun stood.for (ap not whole) done (stood.stood same_still) stands is_kept g.crash_now;
+            (commits_by old.lock.roll daemon event) asks.any_moment x begun stood.for (ap not whole) done (stood.stood same_still) stands is_kept g.crash_now;
         later = start_later;
         counted = counted_later;
         cause = λ broken. absurd (true≢false (sym (sound_whole journal x sound_before (ap not whole)) ∙ broken));
@@ -239,12 +240,12 @@ module _ {T : Type 0} (g : Ghosts T) (b : Begins) (old new : Kept T) (daemon lin
       answer : a.answer ≡ answers.Reply replies.DiskFault
       answer = subst (λ k. MatchBool k (a.answer ≡ answers.Reply replies.DiskFault) (new.lock.roll.failed ≡ old.lock.roll.failed)) fault fails
 
-      would : keeps_by old.lock.roll daemon event ≡ true → WouldStand b.told b.daemons journal run.for.before x (kept run.for.now)
+      would : commits_by old.lock.roll daemon event ≡ true → WouldStand b.told b.daemons journal run.for.before x (committed run.for.now)
       would keeping = record {
         what = whats.Work (end_told (all_said old.log.works daemon made.said)) closes.Ended;
         ended = ap as_ended (what_is ∙ fault_said before made after.machine x added (ap is_fault (sym what_is) ∙ fault));
         stands =
-            subst (λ n. Runs b.told run.for.before n (end_told (all_said old.log.works daemon made.said)) closes.Ended (kept run.for.now)) number
+            subst (λ n. Runs b.told run.for.before n (end_told (all_said old.log.works daemon made.said)) closes.Ended (committed run.for.now)) number
             (ends_in_vain b.told b.daemons b.first before made keeps sound end (given (end_keeps before.machine made after.machine sound end machine_step)));
       }
         where
@@ -267,7 +268,7 @@ module _ {T : Type 0} (g : Ghosts T) (b : Begins) (old new : Kept T) (daemon lin
         all = λ none. absurd (broken none);
         early = λ m lt. done_by-open m journal x (ap (λ k. not k && nat_le x.done m) fault) ∙ safe.early m lt;
         crash = faulted_safe g b.told b.daemons b.first b.start journal old.lock.base new.lock.base run.for safe.crash (safe.all sound) here (run.stood sound)
-            (keeps_by old.lock.roll daemon event) asks.any_moment x begun (ap not fault) would;
+            (commits_by old.lock.roll daemon event) asks.any_moment x begun (ap not fault) would;
         later = start_later;
         counted = counted_later;
         cause = λ _. rose_later b.faults (g.faults old.lock.base) (g.faults new.lock.base) safe.counted
@@ -324,7 +325,7 @@ unfolding done_by
 done_none m = refl
 
 -- as the run begins
-pub safe_first : {T : Type 0} (g : Ghosts T) (b : Begins) (daemons : List ℕ) (base : T) → BeginsOn g b daemons base → KeepsSafe g b [] None base
+pub safe_first : {T : Type 0} (g : Ghosts T) (b : RunStart) (daemons : List ℕ) (base : T) → BeginsOn g b daemons base → KeepsSafe g b [] None base
 safe_first g b daemons base begins = record {
   sound = refl;
   all = λ _ m ge. done_none m;
@@ -338,7 +339,7 @@ safe_first g b daemons base begins = record {
 }
 
 -- as a core is made
-pub safe_new : {T : Type 0} (g : Ghosts T) (b : Begins) (daemons : List ℕ) (base : T) (lock : Locked T) (entries : List Entry)
+pub safe_new : {T : Type 0} (g : Ghosts T) (b : RunStart) (daemons : List ℕ) (base : T) (lock : Locked T) (entries : List Entry)
     → lock ≡ record { roll = first_roll daemons; base = base } → entries ≡ [] → BeginsOn g b daemons base → KeepsSafe g b entries lock.roll.failed lock.base
 safe_new {T} g b daemons base lock entries made none begins =
     subst (λ (l : Locked T). KeepsSafe g b entries l.roll.failed l.base) (sym made)
@@ -349,7 +350,7 @@ none_of None is = refl
 none_of (Some moment) is = absurd (true≢false (sym is))
 
 -- what is given back as the run ends
-pub run_ends : {T : Type 0} (g : Ghosts T) (b : Begins) (k : Kept T) (journal : List Entry) (base : T) → journal ≡ k.log.journal → base ≡ k.lock.base
+pub run_ends : {T : Type 0} (g : Ghosts T) (b : RunStart) (k : LoggedLock T) (journal : List Entry) (base : T) → journal ≡ k.log.journal → base ≡ k.lock.base
     → KeepsRun g b k → KeepsSafe g b k.log.journal k.lock.roll.failed k.lock.base → IsRunOf g b journal base
 run_ends {T} g b k journal base same_journal same_base run safe =
     subst (λ entries. IsRunOf g b entries base) (sym same_journal) (subst (λ (t : T). IsRunOf g b k.log.journal t) (sym same_base) (record {

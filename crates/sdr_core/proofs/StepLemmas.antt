@@ -18,7 +18,7 @@ use Rattle.sdr_core.specs.Logging.{ClosesWithin}
 use Rattle.sdr_lock.specs.Room.{HoldsEvent}
 use Rattle.sdr_base.specs.declared.moves.Move.{Move}
 use Rattle.sdr_lock.specs.Serving.{made_by}
-use Rattle.sdr_lock.specs.Standing.{Standing}
+use Rattle.sdr_lock.specs.Standing.{GroundState}
 use Rattle.sdr_core.proofs.RunLemmas.{made_known}
 use Rattle.sdr_core.specs.Noting.{said_noted}
 use Rattle.sdr_core.specs.declared.noted.Noted.{Noted}
@@ -93,7 +93,7 @@ step_closes m e m' step = by (is_request e.said.event) refl
     by false other = closes_other e.said.event e.said.answer other
 
 -- what is noted is what was said
-pub noted_said : (n : Noted) (event drafted : Event) (moves : List Move) (shown : List ℕ) (v : Standing) → drafted ≡ event
+pub noted_said : (n : Noted) (event drafted : Event) (moves : List Move) (shown : List ℕ) (v : GroundState) → drafted ≡ event
     → (n.came.called ≡ true → (moves ≡ v.moves) × (shown ≡ v.now.world.shown)) → said_noted n drafted moves shown ≡ (made_by n.daemon event n.came n.begun n.done n.line v).said
 noted_said n event drafted moves shown v same known =
     ap (λ ev. said_noted n ev moves shown) same

@@ -3,12 +3,12 @@ use Rattle.std.specs.Prelude.{◌≡◌, ◌≤◌, ◌<◌, ◌+◌, ℕ, List,
 use Rattle.sdr_base.specs.Causes.{Rose}
 use Rattle.sdr_base.specs.Media.{Told}
 use Rattle.sdr_lock.specs.Core.{AreInTime, Core, CoreStep, Log, RunsCore, first_core}
-use Rattle.sdr_lock.specs.Crash.{IsCrashSafe, OpensAfter, done_by, is_sound, keeps_by}
+use Rattle.sdr_lock.specs.Crash.{IsCrashSafe, OpensAfter, done_by, is_sound, commits_by}
 use Rattle.sdr_lock.specs.Ground.{Ground, State, resting}
 use Rattle.sdr_lock.specs.Machine.{Made}
 use Rattle.sdr_lock.specs.Legal.{IsAfter, IsLegal}
-use Rattle.sdr_lock.specs.Serving.{Asks, Leads, Locked, StandsFor, Stood, StoodFor, machine_at, made_by}
-use Rattle.sdr_lock.specs.Standing.{Standing}
+use Rattle.sdr_lock.specs.Serving.{Asks, LeadsLock, Locked, SomeState, IsInState, IsInSomeState, machine_at, made_by}
+use Rattle.sdr_lock.specs.Standing.{GroundState}
 use Rattle.sdr_lock.specs.declared.came.Came.{Came}
 use Rattle.sdr_lock.specs.declared.has_ground.HasGround.{Ghosts}
 use Rattle.sdr_model.specs.World.{fresh_world}
@@ -18,16 +18,16 @@ use Rattle.sdr_base.specs.declared.moves.Move.{Move}
 use Rattle.sdr_lock.specs.Standing.{standing_at}
 
 -- a lock, and the log of its run
-pub record Kept (T : Type 0) : Type 0 where
+pub record LoggedLock (T : Type 0) : Type 0 where
   pub lock : Locked T
   pub log : Log
 
 -- the core of a lock that stands for this, with this log
-abbrev pub core_at : {T : Type 0} → Kept T → Standing → Core
+abbrev pub core_at : {T : Type 0} → LoggedLock T → GroundState → Core
 core_at k v = record { machine = machine_at k.lock.roll v; log = k.log }
 
 -- what a run begins from: what media tell, the daemons, the first state, the disk's first moment, and its count of faults then
-pub record Begins : Type 0 where
+pub record RunStart : Type 0 where
   pub told : Option Told
   pub daemons : List ℕ
   pub first : State
@@ -35,12 +35,12 @@ pub record Begins : Type 0 where
   pub faults : ℕ
 
 -- without a heap, a thing or a daemon
-abbrev pub bare_begins : Begins
+abbrev pub bare_begins : RunStart
 bare_begins = record { told = None; daemons = []; first = resting (fresh_world 0) Ground.NoHeap; start = 0; faults = 0 }
 
 -- The ground is where the run begins: it stands for the first state, in which no transaction is open, and at each moment since
 -- the first a crash left what opens to that state.
-pub record BeginsOn {T : Type 0} (g : Ghosts T) (b : Begins) (daemons : List ℕ) (base : T) : Type 0 where
+pub record BeginsOn {T : Type 0} (g : Ghosts T) (b : RunStart) (daemons : List ℕ) (base : T) : Type 0 where
   pub told : g.told base ≡ b.told
   pub daemons_are : daemons ≡ b.daemons
   pub later : b.start ≤ g.moment base
@@ -57,18 +57,18 @@ last_done moment (e ∷ made) = last_done e.done made
 
 -- Some events of these daemons were made one after another from the first state. By them the machine and its log came to be
 -- those that are kept, and the lock stands for that machine unless the disk has failed.
-pub record KeepsRun {T : Type 0} (g : Ghosts T) (b : Begins) (k : Kept T) : Type 0 where
+pub record KeepsRun {T : Type 0} (g : Ghosts T) (b : RunStart) (k : LoggedLock T) : Type 0 where
   pub made : List Made
-  pub for : Standing
+  pub for : GroundState
   pub runs : RunsCore b.told (first_core b.daemons b.first) made (core_at k for)
-  pub stood : Stood g.stands k.lock for
+  pub stood : IsInState g.stands k.lock for
   pub rests : b.first ≡ resting b.first.world b.first.base
   pub media : g.told k.lock.base ≡ b.told
   pub in_time : AreInTime b.start made
   pub done : last_done b.start made ≤ g.moment k.lock.base
 
 -- what a crash leaves of a ground, where this is the journal and the disk has failed or not
-pub record KeepsSafe {T : Type 0} (g : Ghosts T) (b : Begins) (journal : List Entry) (failed : Option ℕ) (base : T) : Type 0 where
+pub record KeepsSafe {T : Type 0} (g : Ghosts T) (b : RunStart) (journal : List Entry) (failed : Option ℕ) (base : T) : Type 0 where
   -- the disk has failed just where it did in an entry
   pub sound : is_sound journal ≡ is_none failed
   -- every entry is done by now, and none before the run began
@@ -82,31 +82,31 @@ pub record KeepsSafe {T : Type 0} (g : Ghosts T) (b : Begins) (journal : List En
   pub cause : is_sound journal ≡ false → Rose b.faults (g.faults base)
 
 -- the lock stands for something, unless the disk has failed
-abbrev pub StandsStill : {T : Type 0} → (T → Standing → Type 0) → Locked T → Type 0
-StandsStill stands lock = StoodFor stands lock (λ _. ⊤)
+abbrev pub HasState : {T : Type 0} → (T → GroundState → Type 0) → Locked T → Type 0
+HasState stands lock = IsInSomeState stands lock (λ _. ⊤)
 
 -- Whatever core it was, the event was made by a step to one that it is now: of this daemon and statement, with this answer and
 -- the ground's moves and bytes, between the disk's moments before and after.
-abbrev pub StepsCore : {T : Type 0} → Ghosts T → (daemon line : ℕ) → Event → Came → Kept T → Kept T → Type 0
+abbrev pub StepsCore : {T : Type 0} → Ghosts T → (daemon line : ℕ) → Event → Came → LoggedLock T → LoggedLock T → Type 0
 StepsCore g daemon line event a old new =
-    Leads g.stands old.lock new.lock (λ v v'. CoreStep (g.told old.lock.base) (core_at old v)
+    LeadsLock g.stands old.lock new.lock (λ v v'. CoreStep (g.told old.lock.base) (core_at old v)
     (made_by daemon event a (g.moment old.lock.base) (g.moment new.lock.base) line v') (core_at new v'))
 
 -- an event was made of a lock with this log: a step of the core, for which the ground was asked, and at most one number was drawn
-pub record Makes {T : Type 0} (g : Ghosts T) (daemon line : ℕ) (event : Event) (a : Came) (old : Locked T) (was : Log) (new : Locked T) (log : Log) : Type 0 where
+pub record MakesCoreStep {T : Type 0} (g : Ghosts T) (daemon line : ℕ) (event : Event) (a : Came) (old : Locked T) (was : Log) (new : Locked T) (log : Log) : Type 0 where
   pub step : StepsCore g daemon line event a (record { lock = old; log = was }) (record { lock = new; log = log })
-  pub asks : Asks g (keeps_by old.roll daemon event) a old new
+  pub asks : Asks g (commits_by old.roll daemon event) a old new
   pub called : a.called ≡ true → new.roll.failed ≡ None
   pub drawn : new.roll.drawn ≤ old.roll.drawn + 1
 
 -- What the ground and the journal are as a run ends: the journal is legal, and a crash leaves the state after some first entries
 -- of it. Unless the disk failed, all of them are done, and the ground stands for the state after them.
-pub record IsRunOf {T : Type 0} (g : Ghosts T) (b : Begins) (journal : List Entry) (base : T) : Type 0 where
+pub record IsRunOf {T : Type 0} (g : Ghosts T) (b : RunStart) (journal : List Entry) (base : T) : Type 0 where
   pub legal : IsLegal b.told b.daemons b.first journal
   pub crash : IsCrashSafe g.moment g.left (OpensAfter g.opens b.told b.daemons b.first journal) b.start journal base
   pub early : (m : ℕ) → m < b.start → done_by m journal ≡ 0
   pub all : is_sound journal ≡ true → (m : ℕ) → g.moment base ≤ m → done_by m journal ≡ length journal
-  pub rests : is_sound journal ≡ true → StandsFor g.stands base (λ v. IsAfter b.told b.daemons b.first journal (length journal) v.before)
+  pub rests : is_sound journal ≡ true → SomeState g.stands base (λ v. IsAfter b.told b.daemons b.first journal (length journal) v.before)
   pub later : b.start ≤ g.moment base
   pub counted : b.faults ≤ g.faults base
   pub cause : is_sound journal ≡ false → Rose b.faults (g.faults base)

@@ -1,12 +1,12 @@
 -- What a core has come to by some events.
 use Rattle.std.specs.Prelude.{◌≡◌, ℕ, List}
 use Rattle.sdr_lock.specs.Core.{Core}
-use Rattle.sdr_lock.specs.Gaps.{GapsLast}
+use Rattle.sdr_lock.specs.Lapses.{LapsesLast}
 use Rattle.sdr_lock.specs.Machine.{Made}
-use Rattle.sdr_lock.specs.Serving.{Stood, StoodFor}
-use Rattle.sdr_lock.specs.Standing.{Standing}
+use Rattle.sdr_lock.specs.Serving.{IsInState, IsInSomeState}
+use Rattle.sdr_lock.specs.Standing.{GroundState}
 use Rattle.sdr_lock.specs.declared.has_ground.HasGround.{Ghosts}
-use Rattle.sdr_core.specs.CoreKept.{Kept, core_at}
+use Rattle.sdr_core.specs.CoreKept.{LoggedLock, core_at}
 
 -- some events were made, by which a core has come to this, and P tells of them
 pub record Ran (P : List Made → Core → Type 0) (core : Core) : Type 0 where
@@ -15,10 +15,11 @@ pub record Ran (P : List Made → Core → Type 0) (core : Core) : Type 0 where
 
 -- Whatever core it was, some events of which P tells were made of it, by which it has come to one that it is now. Its media tell the
 -- same, and no count of theirs has fallen.
-pub record RunLeads {T : Type 0} (g : Ghosts T) (P : Core → List Made → Core → Type 0) (old new : Kept T) : Type 0 where
-  pub each : (v : Standing) → Stood g.stands old.lock v → StoodFor g.stands new.lock (λ v'. Ran (P (core_at old v)) (core_at new v'))
+pub record RunLeads {T : Type 0} (g : Ghosts T) (P : Core → List Made → Core → Type 0) (old new : LoggedLock T) : Type
+    0 where
+  pub each : (v : GroundState) → IsInState g.stands old.lock v → IsInSomeState g.stands new.lock (λ v'. Ran (P (core_at old v)) (core_at new v'))
   pub media : g.told new.lock.base ≡ g.told old.lock.base
-  pub gaps : GapsLast (g.gaps old.lock.base) (g.gaps new.lock.base)
+  pub lapses : LapsesLast (g.lapses old.lock.base) (g.lapses new.lock.base)
 
 -- the ground lasts for as many calls as are made
 abbrev pub LastsOn : {T : Type 0} → Ghosts T → T → Type 0

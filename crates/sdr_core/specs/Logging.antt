@@ -2,7 +2,7 @@
 use Rattle.std.specs.Prelude.{◌≡◌, ◌<◌, ◌≤◌, ◌+◌, ◌*◌, ◌⊎◌, ◌==◌, ◌++◌, length, ℕ, List, [], ◌∷◌, ◌||◌, Vec, Bool, Option, None, Some, true, false, IsSome, MatchOption, if◌then◌else◌, vec_capacity, vec_len, ⊤}
 use Rattle.std.specs.Option.{option_map, option_map_or, option_to_list}
 use Rattle.std.specs.declared.alloc.Global.{Global}
-use Rattle.sdr_lock.specs.Core.{Log, closed_by, is_failed, is_passed_over, was_outside, what_else, with_said}
+use Rattle.sdr_lock.specs.Core.{Log, closed_by, is_failed, is_passed_over, was_outside, what_added, with_said}
 use Rattle.sdr_lock.specs.Roll.{Roll, daemon_of}
 use Rattle.sdr_lock.specs.Serving.{Locked}
 use Rattle.sdr_lock.specs.declared.daemon.Daemon.{Daemon}
@@ -54,7 +54,7 @@ ClosesWithin said = MatchOption (closed_by said.answer) ⊤ (λ close. was_outsi
 pub record GoesOn (n : Noted) (said : Said) (old new : Log) : Type 0 where
   pub works : new.works ≡ (if was_outside said then old.works else with_said old.works n.daemon said)
   pub journal :
-      new.journal ≡ old.journal ++ option_to_list (option_map (entry_noted n) (what_else (under_of n.under) said.event said.answer))
+      new.journal ≡ old.journal ++ option_to_list (option_map (entry_noted n) (what_added (under_of n.under) said.event said.answer))
 
 -- an entry is added where there was room
 pub record AddsOne (old new : Vec Entry Global) : Type 0 where

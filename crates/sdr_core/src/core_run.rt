@@ -1,11 +1,11 @@
 // A lock, and the journal of its run.
 ghost use Rattle.std.specs.Prelude.{◌≡◌, ◌≤◌, [], false, true, IfErr, IfOk, OnErr, if◌then◌else◌, length};
-ghost use Rattle.sdr_lock.specs.Standing.{Standing};
+ghost use Rattle.sdr_lock.specs.Standing.{GroundState};
 ghost use Rattle.sdr_lock.specs.Transaction.{bytes_given};
 ghost use Rattle.sdr_lock.specs.Holders.{HoldFirst};
 ghost use Rattle.sdr_lock.specs.Legal.{IsLegal};
 ghost use Rattle.sdr_lock.specs.Roll.{MayDraw, first_roll, held_by};
-ghost use Rattle.sdr_core.specs.CoreKept.{BeginsOn, IsRunOf, Makes, StandsStill};
+ghost use Rattle.sdr_core.specs.CoreKept.{BeginsOn, IsRunOf, MakesCoreStep, HasState};
 ghost use Rattle.sdr_core.specs.Logging.{is_leave};
 
 use crate::making::{leave, make};
@@ -26,9 +26,9 @@ pub struct Core<T: Tells, J: Origin> {
 }
 
 impl<T: Tells, J: Origin> Model for Core<T, J> {
-    ghost use Rattle.sdr_core.specs.CoreKept.{Kept};
+    ghost use Rattle.sdr_core.specs.CoreKept.{LoggedLock};
 
-    ghost Value = { Kept T };
+    ghost Value = { LoggedLock T };
 
     ghost use Rattle.sdr_core.specs.CoreFacts.{IsCore};
     ghost use Rattle.sdr_core.specs.Logging.{log_of};
@@ -68,7 +68,7 @@ impl<T: Tells, J: Origin> Core<T, J> {
     pub fn event(&mut self, daemon: u8, line: u64, event: &Event) -> Result<Came, NoMemory>
         requires drawn { MayDraw self.old.lock.roll (held_by self.old.lock.roll daemon) }
         requires lasts { T.lasts self.old.lock.base 1 }
-        ensures makes { IfOk result (λ came. Makes T.HasGround daemon line event.now came
+        ensures makes { IfOk result (λ came. MakesCoreStep T.HasGround daemon line event.now came
             self.old.lock self.old.log self.new.lock self.new.log) }
         ensures err { OnErr result (self.new ≡ self.old) }
         ensures leave { OnErr result (is_leave event.now ≡ false) }
@@ -106,14 +106,14 @@ impl<T: Tells, J: Origin> Core<T, J> {
         ensures roll { result.now ≡ self.now.lock.roll }
         ensures few { length self.now.lock.roll.daemons ≤ 256 }
         ensures first { HoldFirst [] self.now.lock.roll.daemons }
-        ensures stands { StandsStill T.stands self.now.lock }
+        ensures stands { HasState T.stands self.now.lock }
     {
         self.lock.roll()
     }
 
     /// The bytes that the last event gave, which was answered so.
     pub fn given(&self, came: &Came) -> &[u8]
-        ensures { (v : Standing) → (came.now.called ≡ true → T.stands self.now.lock.base v) →
+        ensures { (v : GroundState) → (came.now.called ≡ true → T.stands self.now.lock.base v) →
             result.now ≡ (if came.now.called then bytes_given came.now.answer v.now.world.shown else []) }
     {
         if !came.called {

@@ -7,7 +7,7 @@ ghost use Rattle.sdr_core.specs.Keeping.{AreApart, AreSpacious, spoken_of, works
 ghost use Rattle.sdr_core.specs.Logging.{AddsEntries, AddsOne, AddsSome, ClosesKept, ClosesWithin, GoesOn, HasRoom, HasRoomFor, PassesUnlessClosing, entries_of, log_of};
 ghost use Rattle.sdr_core.specs.Noting.{entry_noted, made_noted, said_noted, under_of};
 
-use crate::noted::{closed_by, was_outside, what_else};
+use crate::noted::{closed_by, was_outside, what_added};
 use crate::spoken::{reserve_said, say, take_spoken};
 use crate::{Draft, Noted, Spoken};
 use sdr_base::{Bytes, Items, Move, NoMemory};
@@ -133,7 +133,7 @@ impl Keeper {
         ensures room { AddsSome self.old.journal self.new.journal }
         ensures spacious { AreSpacious self.old.works.items → AreSpacious self.new.works.items }
     {
-        let what = what_else(&noted.under, &said.event, noted.came.answer);
+        let what = what_added(&noted.under, &said.event, noted.came.answer);
         if !was_outside(&said.event, noted.came.answer) {
             self.keep(noted.daemon, said, first);
         }
@@ -204,7 +204,7 @@ impl Keeper {
     {
         match closed_by(noted.came.answer) {
             None => {
-                if let Some(what) = what_else(&noted.under, event, noted.came.answer) {
+                if let Some(what) = what_added(&noted.under, event, noted.came.answer) {
                     self.add(noted, what);
                 }
             }

@@ -3,7 +3,7 @@ ghost use Rattle.std.specs.Prelude.{◌≡◌, ◌≤◌, ◌+◌, ◌*◌, ◌^
 ghost use Rattle.sdr_lock.specs.Holders.{holders};
 ghost use Rattle.sdr_lock.specs.Leaving.{AllLeave, HoldersLeave, LeaveInTurn};
 ghost use Rattle.sdr_lock.specs.Roll.{MayDraw, held_by};
-ghost use Rattle.sdr_core.specs.CoreKept.{Makes};
+ghost use Rattle.sdr_core.specs.CoreKept.{MakesCoreStep};
 ghost use Rattle.sdr_core.specs.Leaving.{LastsOn, RunLeads};
 
 use crate::{Core, Origin};
@@ -32,7 +32,7 @@ impl<T: Tells, J: Origin> Core<T, J> {
     fn make_leave(&mut self, daemon: u8, leave: Leave) -> Came
         requires drawn { MayDraw self.old.lock.roll (held_by self.old.lock.roll daemon) }
         requires lasts { T.lasts self.old.lock.base 1 }
-        ensures { Makes T.HasGround daemon 0 (Event.Leaves leave) result self.old.lock self.old.log
+        ensures { MakesCoreStep T.HasGround daemon 0 (Event.Leaves leave) result self.old.lock self.old.log
             self.new.lock self.new.log }
     {
         let Ok(came) = self.event(daemon, 0, &Event::Leaves(leave)) else {

@@ -2,8 +2,8 @@
 ghost use Rattle.std.specs.Prelude.{◌≡◌, ◌≤◌, ◌*◌, ◌&&◌, not, Some, IfOk, OnErr, length};
 ghost use Rattle.sdr_lock.specs.Core.{has_left, looks_again};
 ghost use Rattle.sdr_lock.specs.Roll.{MayDraw, daemon_of, held_by, number_of};
-ghost use Rattle.sdr_lock.specs.Standing.{Standing};
-ghost use Rattle.sdr_core.specs.CoreKept.{Makes, StandsStill};
+ghost use Rattle.sdr_lock.specs.Standing.{GroundState};
+ghost use Rattle.sdr_core.specs.CoreKept.{MakesCoreStep, HasState};
 ghost use Rattle.sdr_core.specs.Keeping.{AreApart, works_of};
 ghost use Rattle.sdr_core.specs.Logging.{HasRoomFor, HasRoomOr, HaveSpoken, IsSame, leaves_ahead, log_of};
 ghost use Rattle.sdr_lock.specs.Room.{HoldsEvent};
@@ -37,7 +37,7 @@ fn looks_again(known: &Daemon, event: &Event) -> bool
 
 // Room for what the event may come to.
 fn room_for<T: Tells>(base: &T, event: &Event) -> Result<Room, NoMemory>
-    ensures { IfOk result (λ room. (v : Standing) → T.stands base.now v →
+    ensures { IfOk result (λ room. (v : GroundState) → T.stands base.now v →
         HoldsEvent room v.now event.now) }
 {
     match event {
@@ -65,12 +65,12 @@ fn make_known<T: Tells>(
 ) -> Result<Came, NoMemory>
     requires drawn { MayDraw lock.old.roll (held_by lock.old.roll daemon) }
     requires lasts { T.lasts lock.old.base 1 }
-    requires stands { StandsStill T.stands lock.old }
+    requires stands { HasState T.stands lock.old }
     requires apart { AreApart (works_of keeper.old.works.items) }
     requires few { length lock.old.roll.daemons ≤ 256 }
     requires room { HasRoomFor (leaves_ahead lock.old.roll.daemons) keeper.old }
     requires found { daemon_of lock.old.roll daemon ≡ Some known.now }
-    ensures makes { IfOk result (λ came. Makes T.HasGround daemon line event.now came
+    ensures makes { IfOk result (λ came. MakesCoreStep T.HasGround daemon line event.now came
         lock.old (log_of keeper.old) lock.new (log_of keeper.new)) }
     ensures room { IfOk result (λ came. HasRoomFor (2 * length lock.old.roll.daemons) keeper.new) }
     ensures err { OnErr result (IsSame lock.old keeper.old lock.new keeper.new) }
@@ -115,12 +115,12 @@ fn leave_known<T: Tells>(
     requires leaves { event.now ≡ Event.Leaves leave }
     requires drawn { MayDraw lock.old.roll (held_by lock.old.roll daemon) }
     requires lasts { T.lasts lock.old.base 1 }
-    requires stands { StandsStill T.stands lock.old }
+    requires stands { HasState T.stands lock.old }
     requires apart { AreApart (works_of keeper.old.works.items) }
     requires room { HasRoomFor (leaves_ahead lock.old.roll.daemons) keeper.old }
     requires spoken { HaveSpoken lock.old.roll keeper.old }
     requires found { daemon_of lock.old.roll daemon ≡ Some known.now }
-    ensures makes { Makes T.HasGround daemon line event.now result
+    ensures makes { MakesCoreStep T.HasGround daemon line event.now result
         lock.old (log_of keeper.old) lock.new (log_of keeper.new) }
     ensures room { HasRoomFor (leaves_ahead lock.new.roll.daemons) keeper.new }
     ensures apart { AreApart (works_of keeper.new.works.items) }
@@ -160,11 +160,11 @@ pub fn make<T: Tells>(
 ) -> Result<Came, NoMemory>
     requires drawn { MayDraw lock.old.roll (held_by lock.old.roll daemon) }
     requires lasts { T.lasts lock.old.base 1 }
-    requires stands { StandsStill T.stands lock.old }
+    requires stands { HasState T.stands lock.old }
     requires apart { AreApart (works_of keeper.old.works.items) }
     requires few { length lock.old.roll.daemons ≤ 256 }
     requires room { HasRoomFor (leaves_ahead lock.old.roll.daemons) keeper.old }
-    ensures makes { IfOk result (λ came. Makes T.HasGround daemon line event.now came
+    ensures makes { IfOk result (λ came. MakesCoreStep T.HasGround daemon line event.now came
         lock.old (log_of keeper.old) lock.new (log_of keeper.new)) }
     ensures room { IfOk result (λ came. HasRoomOr lock.old.roll.daemons lock.new.roll.daemons
         keeper.new) }
@@ -189,11 +189,11 @@ pub fn leave<T: Tells>(
     requires leaves { event.now ≡ Event.Leaves leave }
     requires drawn { MayDraw lock.old.roll (held_by lock.old.roll daemon) }
     requires lasts { T.lasts lock.old.base 1 }
-    requires stands { StandsStill T.stands lock.old }
+    requires stands { HasState T.stands lock.old }
     requires apart { AreApart (works_of keeper.old.works.items) }
     requires room { HasRoomFor (leaves_ahead lock.old.roll.daemons) keeper.old }
     requires spoken { HaveSpoken lock.old.roll keeper.old }
-    ensures makes { Makes T.HasGround daemon line event.now result
+    ensures makes { MakesCoreStep T.HasGround daemon line event.now result
         lock.old (log_of keeper.old) lock.new (log_of keeper.new) }
     ensures room { HasRoomFor (leaves_ahead lock.new.roll.daemons) keeper.new }
     ensures apart { AreApart (works_of keeper.new.works.items) }

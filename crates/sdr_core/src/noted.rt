@@ -1,6 +1,6 @@
 // What is noted of an event.
 ghost use Rattle.std.specs.Prelude.{◌≡◌, ◌||◌};
-ghost use Rattle.sdr_lock.specs.Core.{closed_by, is_failed, is_passed_over, what_else};
+ghost use Rattle.sdr_lock.specs.Core.{closed_by, is_failed, is_passed_over, what_added};
 ghost use Rattle.sdr_core.specs.Noting.{entry_noted, under_of};
 
 use sdr_base::Refusal;
@@ -120,9 +120,9 @@ pub fn was_outside(event: &Event, answer: Answer) -> bool
     is_passed_over(event, answer) || is_failed(answer)
 }
 
-// What the entry is of that a look at a ticket adds.
-fn what_seen(under: &Under, ticket: u64, answer: Answer) -> Option<What>
-    ensures { result ≡ what_else (under_of under.now) (Event.Look ticket) answer }
+// The entry that a look at a ticket adds to the journal, if it adds one.
+fn entry_of_look(under: &Under, ticket: u64, answer: Answer) -> Option<What>
+    ensures { result ≡ what_added (under_of under.now) (Event.Look ticket) answer }
 {
     match answer {
         Answer::Awarded => Some(What::Awarded { ticket }),
@@ -133,12 +133,12 @@ fn what_seen(under: &Under, ticket: u64, answer: Answer) -> Option<What>
     }
 }
 
-/// What the entry is of that a look or a leave adds.
-pub fn what_else(under: &Under, event: &Event, answer: Answer) -> Option<What>
-    ensures { result ≡ what_else (under_of under.now) event.now answer }
+/// The entry that a look or a leave adds to the journal, if it adds one.
+pub fn what_added(under: &Under, event: &Event, answer: Answer) -> Option<What>
+    ensures { result ≡ what_added (under_of under.now) event.now answer }
 {
     match event {
-        Event::Look(ticket) => what_seen(under, *ticket, answer),
+        Event::Look(ticket) => entry_of_look(under, *ticket, answer),
         Event::Leaves(leave) if under.left => Some(What::Leaves { leave: *leave }),
         Event::Leaves(_) => None,
         Event::Request => None,

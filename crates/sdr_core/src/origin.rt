@@ -1,11 +1,11 @@
 // What a core begins from.
-ghost use Rattle.sdr_core.specs.CoreKept.{Begins, bare_begins};
+ghost use Rattle.sdr_core.specs.CoreKept.{RunStart, bare_begins};
 
 use std::marker::Brand;
 
 /// What the facts of a core begin from. The caller that makes one picks it.
 pub trait Origin {
-    ghost begins: { Begins };
+    ghost begins: { RunStart };
 }
 
 impl Origin for Brand {

@@ -8,7 +8,7 @@ use Rattle.sdr_base.specs.declared.account.Acct.{Acct}
 use Rattle.sdr_base.specs.declared.kind.Space.{Space}
 use Rattle.sdr_base.specs.declared.kind.Space.TheVariants as spaces
 use Rattle.sdr_keys.specs.Places.{places}
-use Rattle.sdr_count.specs.Occupied.{capsule_charge, charge_at, charges_by, extent_charge, left_at, space_of}
+use Rattle.sdr_count.specs.Occupied.{capsule_charge_at, charge_at, charges_by, extent_charge_at, left_at, medium_space}
 use Rattle.sdr_model.specs.Amounts.{in_space}
 use Rattle.sdr_keys.proofs.BlockLemmas.{few_bytes}
 use Rattle.sdr_owner.specs.View.{View, length_of, word_of}
@@ -19,24 +19,25 @@ charges_same f g same = ap charges_by (λ i space. same space i)
 
 module _ (heap : View) (of : Space → ℕ) (xs : List ℕ) (i d : ℕ) (less : i < length xs) where
   -- the charge of one more extent
-  pub extent_more : (from bytes : ℕ) (space : Space) → from ≡ word_of (heap.blocks (get_or xs i d)) 0 → space ≡ space_of (heap.blocks from) →
+  pub extent_more : (from bytes : ℕ) (space : Space) → from ≡ word_of (heap.blocks (get_or xs i d)) 0 → space ≡ medium_space (heap.blocks from) →
       bytes ≡ word_of (heap.blocks (get_or xs i d)) 2 → (other : Space) →
-      (of other + sum_by (extent_charge heap other) (take i xs)) + in_space space bytes other + in_space spaces.Heap 32 other
-      ≡ of other + sum_by (extent_charge heap other) (take (i + 1) xs)
+      (of other + sum_by (extent_charge_at heap other) (take i xs)) + in_space space bytes other + in_space spaces.Heap 32 other
+      ≡ of other + sum_by (extent_charge_at heap other) (take (i + 1) xs)
   extent_more from bytes space from_is space_is bytes_is other =
-      let more = sum_by_more (extent_charge heap other) xs i d less in
+      let more = sum_by_more (extent_charge_at heap other) xs i d less in
       let b = heap.blocks (get_or xs i d) in
-      let charge : in_space space bytes other ≡ in_space (space_of (heap.blocks (word_of b 0))) (word_of b 2) other =
-      ap (λ (s : Space). in_space s bytes other) (space_is ∙ ap (λ (n : ℕ). space_of (heap.blocks n)) from_is)
-      ∙ ap (λ (n : ℕ). in_space (space_of (heap.blocks (word_of b 0))) n other) bytes_is in
+      let charge : in_space space bytes other ≡ in_space (medium_space (heap.blocks (word_of b 0))) (word_of b 2)
+          other =
+      ap (λ (s : Space). in_space s bytes other) (space_is ∙ ap (λ (n : ℕ). medium_space (heap.blocks n)) from_is)
+      ∙ ap (λ (n : ℕ). in_space (medium_space (heap.blocks (word_of b 0))) n other) bytes_is in
       omega (arith, more, charge)
 
   -- and of one more header or trailer
-  pub capsule_more : (bytes : ℕ) → ((other : Space) → in_space spaces.Heap bytes other ≡ capsule_charge heap other (get_or xs i d)) → (other : Space) →
-      (of other + sum_by (capsule_charge heap other) (take i xs)) + in_space spaces.Heap bytes other
-      ≡ of other + sum_by (capsule_charge heap other) (take (i + 1) xs)
+  pub capsule_more : (bytes : ℕ) → ((other : Space) → in_space spaces.Heap bytes other ≡ capsule_charge_at heap other (get_or xs i d)) → (other : Space) →
+      (of other + sum_by (capsule_charge_at heap other) (take i xs)) + in_space spaces.Heap bytes other
+      ≡ of other + sum_by (capsule_charge_at heap other) (take (i + 1) xs)
   capsule_more bytes is other =
-      let more = sum_by_more (capsule_charge heap other) xs i d less in
+      let more = sum_by_more (capsule_charge_at heap other) xs i d less in
       let charge = is other in
       omega (arith, more, charge)
 

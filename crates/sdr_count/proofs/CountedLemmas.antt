@@ -12,15 +12,15 @@ use Rattle.sdr_base.specs.declared.kind.Space.TheVariants as spaces
 use Rattle.sdr_count.specs.Counted.{IsCounted, wrong_count, wrong_occupancy_in, wrong_source}
 use Rattle.sdr_count.specs.Counts.{keeps_counts, tells_count}
 use Rattle.sdr_count.specs.Occupied.{all_spaces, occupancy_word, tells_occupancy}
-use Rattle.sdr_count.specs.Rules.{all_rules, extent_length, first_broken, keeps}
-use Rattle.sdr_count.specs.declared.rules.Rule.{Rule}
-use Rattle.sdr_count.specs.declared.rules.Rule.TheVariants as which
+use Rattle.sdr_count.specs.Rules.{count_rules, extent_length, first_broken, keeps_count_rule}
+use Rattle.sdr_count.specs.declared.rules.CountRule.{CountRule}
+use Rattle.sdr_count.specs.declared.rules.CountRule.TheVariants as which
 use Rattle.sdr_keys.proofs.KeyedLemmas.{keyed, keyed_not_wrong}
 use Rattle.sdr_keys.proofs.PlacesLemmas.{all_pass, both_none, either_none, found_none}
 use Rattle.sdr_keys.specs.Keyed.{wrong_key}
 use Rattle.sdr_keys.specs.Members.{members}
 use Rattle.sdr_keys.specs.Places.{first_failing, places}
-use Rattle.sdr_owner.specs.Rules.{names_raw}
+use Rattle.sdr_owner.specs.Rules.{is_source_of_raw}
 use Rattle.sdr_owner.specs.View.{View, is_kind, length_of, view_in, word_of}
 use Rattle.sdr_owner.specs.declared.owner.Owner.TheVariants as owners
 
@@ -55,9 +55,11 @@ occupied_right heap words account none space =
 
 module _ (bytes : List ℕ) (words : ℕ) where
   -- where no block is, each rule is kept
-  unused : (rule : Rule) (addr : ℕ) → block_in bytes addr ≡ None → keeps (view_in bytes) words rule addr ≡ true
+  unused : (rule : CountRule) (addr : ℕ) → block_in bytes addr ≡ None → keeps_count_rule (view_in bytes) words rule
+      addr ≡ true
   unused which.RawLength addr none =
-      ap (λ (b : Option Block). not (names_raw b) || word_of b 5 == length_of (block_in bytes (word_of b 4)) - 8) none
+      ap (λ (b : Option Block). not (is_source_of_raw b) || word_of b 5 == length_of (block_in bytes (word_of b 4)) -
+          8) none
   unused which.Inside addr none =
       ap (λ (b : Option Block). not (is_kind kinds.Extent b) || nat_le (word_of b 1 + word_of b 2) (word_of (block_in bytes (word_of b 0)) 5)) none
   unused which.Part addr none =
@@ -74,14 +76,15 @@ module _ (bytes : List ℕ) (words : ℕ) where
       not (is_kind kinds.Source b && word_of b 0 == 3) || not (is_kind kinds.Source b && not (word_of b 1 == 0))) none
 
   -- a rule that no place is found to break is kept everywhere
-  one_kept : length bytes ≤ 8 * words → (rule : Rule) → first_failing (keeps (view_in bytes) words rule) words ≡ None → (addr : ℕ) →
-      keeps (view_in bytes) words rule addr ≡ true
-  one_kept long rule none = all_pass bytes words (keeps (view_in bytes) words rule) long (unused rule) none
+  one_kept : length bytes ≤ 8 * words → (rule : CountRule) → first_failing (keeps_count_rule (view_in bytes) words rule) words ≡ None → (addr : ℕ) →
+      keeps_count_rule (view_in bytes) words rule addr ≡ true
+  one_kept long rule none = all_pass bytes words (keeps_count_rule (view_in bytes) words rule) long (unused rule) none
 
-  all_kept : length bytes ≤ 8 * words → first_broken (view_in bytes) words all_rules ≡ None → (rule : Rule) (addr : ℕ) →
-      keeps (view_in bytes) words rule addr ≡ true
+  all_kept : length bytes ≤ 8 * words → first_broken (view_in bytes) words count_rules ≡ None →
+      (rule : CountRule) (addr : ℕ) →
+      keeps_count_rule (view_in bytes) words rule addr ≡ true
   all_kept long none =
-      let f : Rule → Option ℕ = λ rule. first_failing (keeps (view_in bytes) words rule) words in
+      let f : CountRule → Option ℕ = λ rule. first_failing (keeps_count_rule (view_in bytes) words rule) words in
       let a = either_none (f which.RawLength) _ none in
       let b = either_none (f which.Inside) _ a.1 in
       let c = either_none (f which.Part) _ b.1 in
@@ -90,10 +93,11 @@ module _ (bytes : List ℕ) (words : ℕ) where
       let g = either_none (f which.Unflagged) _ e.1 in
       λ rule. by_rule rule a.0 b.0 c.0 d.0 e.0 g.0
     where
-      by_rule : (rule : Rule) → first_failing (keeps (view_in bytes) words which.RawLength) words ≡ None →
-          first_failing (keeps (view_in bytes) words which.Inside) words ≡ None → first_failing (keeps (view_in bytes) words which.Part) words ≡ None →
-          first_failing (keeps (view_in bytes) words which.Bytes) words ≡ None → first_failing (keeps (view_in bytes) words which.Used) words ≡ None →
-          first_failing (keeps (view_in bytes) words which.Unflagged) words ≡ None → (addr : ℕ) → keeps (view_in bytes) words rule addr ≡ true
+      by_rule : (rule : CountRule) → first_failing (keeps_count_rule (view_in bytes) words which.RawLength) words
+          ≡ None →
+          first_failing (keeps_count_rule (view_in bytes) words which.Inside) words ≡ None → first_failing (keeps_count_rule (view_in bytes) words which.Part) words ≡ None →
+          first_failing (keeps_count_rule (view_in bytes) words which.Bytes) words ≡ None → first_failing (keeps_count_rule (view_in bytes) words which.Used) words ≡ None →
+          first_failing (keeps_count_rule (view_in bytes) words which.Unflagged) words ≡ None → (addr : ℕ) → keeps_count_rule (view_in bytes) words rule addr ≡ true
       by_rule which.RawLength a b c d e f = one_kept long which.RawLength a
       by_rule which.Inside a b c d e f = one_kept long which.Inside b
       by_rule which.Part a b c d e f = one_kept long which.Part c
@@ -107,7 +111,7 @@ module _ (bytes : List ℕ) (words : ℕ) where
       let heap = view_in bytes in
       let keys = either_none (wrong_key heap words) _ none in
       let sources = either_none (wrong_source heap words) _ keys.1 in
-      let rules = either_none (first_broken heap words all_rules) _ sources.1 in
+      let rules = either_none (first_broken heap words count_rules) _ sources.1 in
       let control = either_none _ None rules.1 in
       let both = either_none (wrong_occupancy_in heap words accts.Inbound) (wrong_occupancy_in heap words accts.Outbound) control.0 in
       record {
@@ -127,7 +131,7 @@ pub counted_not_wrong : (heap : View) (words : ℕ) → IsCounted heap words →
 counted_not_wrong heap words counted =
     both_none _ _ (keyed_not_wrong heap words counted.keyed)
     (both_none _ _ (found_none (keeps_counts heap words) counted.counts (places words))
-    (both_none _ _ (none_broken all_rules)
+    (both_none _ _ (none_broken count_rules)
     (both_none _ None (both_none _ _ (none_in accts.Inbound) (none_in accts.Outbound)) refl)))
   where
     none_in : (account : Acct) → wrong_occupancy_in heap words account ≡ None
@@ -135,7 +139,8 @@ counted_not_wrong heap words counted =
         ap (option_map (λ space. 8 * occupancy_word account space))
         (found_none (tells_occupancy heap words account) (counted.occupancies account) all_spaces)
 
-    none_broken : (rules : List Rule) → first_broken heap words rules ≡ None
+    none_broken : (rules : List CountRule) → first_broken heap words rules ≡ None
     none_broken [] = refl
     none_broken (rule ∷ rules) =
-        both_none _ _ (found_none (keeps heap words rule) (counted.kept rule) (places words)) (none_broken rules)
+        both_none _ _ (found_none (keeps_count_rule heap words rule) (counted.kept rule) (places words))
+            (none_broken rules)

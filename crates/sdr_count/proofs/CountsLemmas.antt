@@ -8,12 +8,12 @@ use Rattle.std.proofs.lemmas.List.Sums.{count_by-le-length, sum_by-le}
 use Rattle.std.proofs.lemmas.Nat.{mul-le}
 use Rattle.std.proofs.Math.Seq.{take-append_seam}
 use Rattle.sdr_base.specs.declared.account.Acct.{Acct}
-use Rattle.sdr_count.specs.Counts.{count_of, is_object_of, names, uses_at}
+use Rattle.sdr_count.specs.Counts.{named_count, is_object_of, extent_names, uses_at}
 use Rattle.sdr_keys.specs.Places.{places}
 use Rattle.sdr_keys.specs.Members.{members}
 use Rattle.sdr_count.specs.Numbers.{AreTold}
 use Rattle.sdr_keys.proofs.MembersLemmas.{length-followed}
-use Rattle.sdr_owner.specs.Chains.{first_of}
+use Rattle.sdr_owner.specs.Chains.{first_link}
 use Rattle.sdr_owner.specs.View.{View}
 use Rattle.sdr_owner.specs.declared.owner.Owner.TheVariants as owners
 
@@ -25,14 +25,14 @@ All-each P holds (x ∷ xs) = All-cons P x xs (holds x) (All-each P holds xs)
 -- an object has no more extents than there are words
 uses_few : (heap : View) (words : ℕ) (account : Acct) (from addr : ℕ) → uses_at heap words account from addr ≤ words
 uses_few heap words account from addr =
-    let most = length-followed heap (owners.Extents addr) words (first_of heap (owners.Extents addr)) in
-    let some = count_by-le-length (names heap from) (members heap words (owners.Extents addr)) in
+    let most = length-followed heap (owners.Extents addr) words (first_link heap (owners.Extents addr)) in
+    let some = count_by-le-length (extent_names heap from) (members heap words (owners.Extents addr)) in
     elim (cases_Bool (is_object_of heap account addr)) [
       | inl is ↦
-          let e = ap (λ (t : Bool). cond t (count_by (names heap from) (members heap words (owners.Extents addr))) 0) is in
+          let e = ap (λ (t : Bool). cond t (count_by (extent_names heap from) (members heap words (owners.Extents addr))) 0) is in
           omega (arith, e, some, most)
       | inr off ↦
-          let e = ap (λ (t : Bool). cond t (count_by (names heap from) (members heap words (owners.Extents addr))) 0) off in
+          let e = ap (λ (t : Bool). cond t (count_by (extent_names heap from) (members heap words (owners.Extents addr))) 0) off in
           omega (arith, e)
     ]
 
@@ -50,7 +50,7 @@ uses_more heap words account number from =
     sum_by-map-range_with_len_more (uses_at heap words account from) (λ word. 8 * word) 0 number number (omega arith)
 
 -- how many extents name a source is at most the square of the words
-pub count_small : (heap : View) (words : ℕ) (account : Acct) (from : ℕ) → words < 2 ^ 30 → count_of heap words account from < 2 ^ 64 - 1
+pub count_small : (heap : View) (words : ℕ) (account : Acct) (from : ℕ) → words < 2 ^ 30 → named_count heap words account from < 2 ^ 64 - 1
 count_small heap words account from few =
     let all = sum_by-le (uses_at heap words account from) words (places words) (All-each _ (uses_few heap words account from) (places words)) in
     let n = length-map-range_with_len (λ word. 8 * word) 0 words in
@@ -60,7 +60,7 @@ count_small heap words account from few =
 
 -- so its number is told as it is
 pub told_exact : (heap : View) (words : ℕ) (account : Acct) (counts : List ℕ) (word : ℕ) → words < 2 ^ 30 →
-    AreTold (count_of heap words account) counts → word < length counts → get_or counts word 0 ≡ count_of heap words account (8 * word)
+    AreTold (named_count heap words account) counts → word < length counts → get_or counts word 0 ≡ named_count heap words account (8 * word)
 told_exact heap words account counts word few told less =
     let e = told.each word less in
     let small = count_small heap words account (8 * word) few in

@@ -1,12 +1,12 @@
 -- A region whose owners, counts and queues are right isn't wrong, and another is so at one place alone.
 use Rattle.std.proofs.Common.{◌≡◌, ◌/◌, ℕ, List, length, ◌∙◌, refl, sym, inl, inr}
 use Rattle.std.specs.Prelude.{None, Some}
-use Rattle.sdr_count.specs.Checked.{IsRightRegion, IsWrongFirst}
+use Rattle.sdr_count.specs.Checked.{IsRightRegion, CountsAreWrongFirst}
 use Rattle.sdr_count.proofs.CountedLemmas.{counted_not_wrong}
 use Rattle.sdr_count.specs.Counted.{IsCounted, wrong_count}
 use Rattle.sdr_count.specs.Queues.{AreLawful, IsWrongQueue}
-use Rattle.sdr_count.specs.declared.error.Why.{Why}
-use Rattle.sdr_count.specs.declared.error.Why.TheVariants as whys
+use Rattle.sdr_count.specs.declared.error.ThingCheck.{ThingCheck}
+use Rattle.sdr_count.specs.declared.error.ThingCheck.TheVariants as whys
 use Rattle.sdr_owner.proofs.LawLemmas.{not_wrong}
 use Rattle.sdr_owner.proofs.OneLemmas.{one_place}
 use Rattle.sdr_owner.specs.View.{View, view_in}
@@ -31,13 +31,13 @@ module _ (bytes : List ℕ) where
   found_once p q v w = let e : Some p ≡ Some q = sym v ∙ w in cc
 
   -- what is right isn't wrong
-  pub right_not_wrong : (why : Why) (place : ℕ) → IsRightRegion bytes → IsWrongFirst bytes why place → ⊥
+  pub right_not_wrong : (why : ThingCheck) (place : ℕ) → IsRightRegion bytes → CountsAreWrongFirst bytes why place → ⊥
   right_not_wrong whys.Owner place right w = not_wrong (view_in bytes) (length bytes / 8) place right.owned w
   right_not_wrong whys.Count place right w = unfound place right.counted w.wrong
   right_not_wrong whys.Queue place right w = lawful_not_wrong (view_in bytes) (length bytes / 8) place right.queued w.wrong
 
   -- and nothing is first at two places
-  pub first_once : (why other : Why) (p q : ℕ) → IsWrongFirst bytes why p → IsWrongFirst bytes other q → (why ≡ other) × (p ≡ q)
+  pub first_once : (why other : ThingCheck) (p q : ℕ) → CountsAreWrongFirst bytes why p → CountsAreWrongFirst bytes other q → (why ≡ other) × (p ≡ q)
   first_once whys.Owner whys.Owner p q v w = (refl, one_place (view_in bytes) (length bytes / 8) p q v w)
   first_once whys.Owner whys.Count p q v w = absurd (not_wrong (view_in bytes) (length bytes / 8) p w.owned v)
   first_once whys.Owner whys.Queue p q v w = absurd (not_wrong (view_in bytes) (length bytes / 8) p w.owned v)

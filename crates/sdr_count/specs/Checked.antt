@@ -2,8 +2,8 @@
 use Rattle.std.specs.Prelude.{◌≡◌, ℕ, List, Some}
 use Rattle.sdr_count.specs.Counted.{IsCountedRegion, wrong_count_in}
 use Rattle.sdr_count.specs.Queues.{AreLawfulIn, IsWrongQueueIn}
-use Rattle.sdr_count.specs.declared.error.Why.{Why}
-use Rattle.sdr_count.specs.declared.error.Why.TheVariants as whys
+use Rattle.sdr_count.specs.declared.error.ThingCheck.{ThingCheck}
+use Rattle.sdr_count.specs.declared.error.ThingCheck.TheVariants as whys
 use Rattle.sdr_owner.specs.Owned.{IsOwnedRegion, IsWrongRegion}
 
 -- each block of a heap region has its owner, the counts and occupancies are right, and the queues keep their law
@@ -24,7 +24,7 @@ pub record QueueIsFirst (bytes : List ℕ) (place : ℕ) : Type 0 where
   pub wrong : IsWrongQueueIn bytes place
 
 -- by this check a region is wrong first, at this place
-abbrev pub IsWrongFirst : List ℕ → Why → ℕ → Type 0
-IsWrongFirst bytes whys.Owner place = IsWrongRegion bytes place
-IsWrongFirst bytes whys.Count place = CountIsFirst bytes place
-IsWrongFirst bytes whys.Queue place = QueueIsFirst bytes place
+abbrev pub CountsAreWrongFirst : List ℕ → ThingCheck → ℕ → Type 0
+CountsAreWrongFirst bytes whys.Owner place = IsWrongRegion bytes place
+CountsAreWrongFirst bytes whys.Count place = CountIsFirst bytes place
+CountsAreWrongFirst bytes whys.Queue place = QueueIsFirst bytes place

@@ -7,8 +7,8 @@ use Rattle.sdr_base.specs.declared.kind.Space.{Space}
 use Rattle.sdr_base.specs.declared.line.TheConstants.{WORD}
 use Rattle.sdr_count.specs.Counts.{keeps_counts}
 use Rattle.sdr_count.specs.Occupied.{all_spaces, occupancy_word, tells_occupancy}
-use Rattle.sdr_count.specs.Rules.{all_rules, first_broken, keeps}
-use Rattle.sdr_count.specs.declared.rules.Rule.{Rule}
+use Rattle.sdr_count.specs.Rules.{count_rules, first_broken, keeps_count_rule}
+use Rattle.sdr_count.specs.declared.rules.CountRule.{CountRule}
 use Rattle.sdr_keys.specs.Keyed.{IsKeyed, wrong_key}
 use Rattle.sdr_keys.specs.Places.{first_failing, first_some}
 use Rattle.sdr_owner.specs.View.{View, view_in}
@@ -18,7 +18,7 @@ use Rattle.sdr_owner.specs.View.{View, view_in}
 pub record IsCounted (heap : View) (words : ℕ) : Type 0 where
   pub keyed : IsKeyed heap words
   pub counts : (addr : ℕ) → keeps_counts heap words addr ≡ true
-  pub kept : (rule : Rule) (addr : ℕ) → keeps heap words rule addr ≡ true
+  pub kept : (rule : CountRule) (addr : ℕ) → keeps_count_rule heap words rule addr ≡ true
   pub occupancies : (account : Acct) (space : Space) → tells_occupancy heap words account space ≡ true
 
 -- the first source, by rising address, that tells a wrong count
@@ -41,7 +41,7 @@ wrong_occupancy heap words =
 abbrev pub wrong_count : View → ℕ → Option ℕ
 wrong_count heap words =
     first_some
-    (wrong_key heap words ∷ wrong_source heap words ∷ first_broken heap words all_rules ∷ wrong_occupancy heap words ∷ [])
+    (wrong_key heap words ∷ wrong_source heap words ∷ first_broken heap words count_rules ∷ wrong_occupancy heap words ∷ [])
 
 -- all this is right in a heap region
 abbrev pub IsCountedRegion : List ℕ → Type 0

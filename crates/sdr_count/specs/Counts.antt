@@ -18,17 +18,18 @@ is_object_of heap account addr =
     is_kind kinds.Object (heap.blocks addr) && word_of (heap.blocks addr) object.ACCOUNT == account_number account
 
 -- whether the extent at an address names a source
-abbrev pub names : View → ℕ → ℕ → Bool
-names heap from addr = word_of (heap.blocks addr) extent.SOURCE == from
+abbrev pub extent_names : View → ℕ → ℕ → Bool
+extent_names heap from addr = word_of (heap.blocks addr) extent.SOURCE == from
 
 -- how many extents of the object at an address name a source; none where no object of this account stands there
 abbrev pub uses_at : View → ℕ → Acct → ℕ → ℕ → ℕ
 uses_at heap words account from addr =
-    cond (is_object_of heap account addr) (count_by (names heap from) (members heap words (owners.Extents addr))) 0
+    cond (is_object_of heap account addr)
+        (count_by (extent_names heap from) (members heap words (owners.Extents addr))) 0
 
 -- how many extents of an account's objects name a source
-abbrev pub count_of : View → ℕ → Acct → ℕ → ℕ
-count_of heap words account from = sum_by (uses_at heap words account from) (places words)
+abbrev pub named_count : View → ℕ → Acct → ℕ → ℕ
+named_count heap words account from = sum_by (uses_at heap words account from) (places words)
 
 -- the word of a source with the count of an account
 abbrev pub count_field : Acct → ℕ
@@ -38,7 +39,7 @@ count_field accts.Outbound = source.OUTBOUND
 -- whether the block at an address tells how many extents of an account's objects name it
 abbrev pub tells_count : View → ℕ → Acct → ℕ → Bool
 tells_count heap words account addr =
-    word_of (heap.blocks addr) (count_field account) == count_of heap words account addr
+    word_of (heap.blocks addr) (count_field account) == named_count heap words account addr
 
 -- whether the block at an address, if it is a source, tells both counts
 abbrev pub keeps_counts : View → ℕ → ℕ → Bool

@@ -23,34 +23,34 @@ use Rattle.sdr_owner.specs.View.{View, length_of, word_of}
 use Rattle.sdr_owner.specs.declared.owner.Owner.TheVariants as owners
 
 -- the space that the bytes of a source are in: a file's in file space, an item's in bulk space, and all others in heap space
-abbrev pub space_of : Option Block → Space
-space_of block =
+abbrev pub medium_space : Option Block → Space
+medium_space block =
     cond (word_of block source.MEDIUM == medium_number media.File) spaces.File
     (cond (word_of block source.MEDIUM == medium_number media.Bulk) spaces.Bulk spaces.Heap)
 
 -- what the extent at an address charges of a space: its bytes, where its source's are, and so much of heap space for itself
-abbrev pub extent_charge : View → Space → ℕ → ℕ
-extent_charge heap space addr =
+abbrev pub extent_charge_at : View → Space → ℕ → ℕ
+extent_charge_at heap space addr =
     let block = heap.blocks addr in
-    bytes_charge (space_of (heap.blocks (word_of block extent.SOURCE))) (word_of block extent.LENGTH) space
+    bytes_charge (medium_space (heap.blocks (word_of block extent.SOURCE))) (word_of block extent.LENGTH) space
 
 -- what the header or trailer at an address charges of a space, by the bytes of its text, which are behind its link
-abbrev pub capsule_charge : View → Space → ℕ → ℕ
-capsule_charge heap space addr =
+abbrev pub capsule_charge_at : View → Space → ℕ → ℕ
+capsule_charge_at heap space addr =
     in_space spaces.Heap (capsule_bytes (length_of (heap.blocks addr) - WORD * capsule.WORDS)) space
 
 -- what the object at an address charges of a space: for itself, its extents, its headers and its trailers
-abbrev pub object_charge : View → ℕ → Space → ℕ → ℕ
-object_charge heap words space addr =
+abbrev pub object_charge_at : View → ℕ → Space → ℕ → ℕ
+object_charge_at heap words space addr =
     in_space spaces.Heap object_bytes space
-    + sum_by (extent_charge heap space) (members heap words (owners.Extents addr))
-    + sum_by (capsule_charge heap space) (members heap words (owners.Headers addr))
-    + sum_by (capsule_charge heap space) (members heap words (owners.Trailers addr))
+    + sum_by (extent_charge_at heap space) (members heap words (owners.Extents addr))
+    + sum_by (capsule_charge_at heap space) (members heap words (owners.Headers addr))
+    + sum_by (capsule_charge_at heap space) (members heap words (owners.Trailers addr))
 
 -- what the block at an address charges an account of a space: nothing where it is no object of the account
 abbrev pub charge_at : View → ℕ → Acct → Space → ℕ → ℕ
 charge_at heap words account space addr =
-    cond (is_object_of heap account addr) (object_charge heap words space addr) 0
+    cond (is_object_of heap account addr) (object_charge_at heap words space addr) 0
 
 -- the word of a ticket with what is left of a space
 abbrev pub left_field : Space → ℕ
@@ -63,8 +63,8 @@ abbrev pub left_at : View → Space → ℕ → ℕ
 left_at heap space addr = word_of (heap.blocks addr) (left_field space)
 
 -- what is occupied of a space in an account: what its objects charge, and what is left of its tickets
-abbrev pub occupancy : View → ℕ → Acct → Space → ℕ
-occupancy heap words account space =
+abbrev pub occupancy_in : View → ℕ → Acct → Space → ℕ
+occupancy_in heap words account space =
     sum_by (charge_at heap words account space) (places words)
     + sum_by (left_at heap space) (members heap words (owners.Queue account))
 
@@ -81,7 +81,7 @@ occupancy_word account space = account_word account + occupancy_field space
 -- whether that word tells it
 abbrev pub tells_occupancy : View → ℕ → Acct → Space → Bool
 tells_occupancy heap words account space =
-    heap.roots (occupancy_word account space) == occupancy heap words account space
+    heap.roots (occupancy_word account space) == occupancy_in heap words account space
 
 -- the spaces in the order of their words
 abbrev pub all_spaces : List Space

@@ -25,8 +25,8 @@ amounts_at heap addr field = record {
 }
 
 -- the ticket in the block at an address
-abbrev pub ticket_at : View → ℕ → Ticket
-ticket_at heap addr = record {
+abbrev pub ticket_in : View → ℕ → Ticket
+ticket_in heap addr = record {
   block = addr;
   number = word_of (heap.blocks addr) ticket.NUMBER;
   coarse = word_of (heap.blocks addr) ticket.COARSE;
@@ -38,20 +38,20 @@ ticket_at heap addr = record {
 
 -- the tickets of an account, in the order of its queue
 abbrev pub tickets : View → ℕ → Acct → List Ticket
-tickets heap words account = map (ticket_at heap) (members heap words (owners.Queue account))
+tickets heap words account = map (ticket_in heap) (members heap words (owners.Queue account))
 
 -- the numbers of these tickets
-abbrev pub numbers_of : List Ticket → List ℕ
-numbers_of = map (λ t. t.number)
+abbrev pub ticket_numbers : List Ticket → List ℕ
+ticket_numbers = map (λ t. t.number)
 
 -- the numbers that those of an account must differ from: the inbound ones where it is the outbound one
 abbrev pub numbers_before : View → ℕ → Acct → List ℕ
 numbers_before heap words accts.Inbound = []
-numbers_before heap words accts.Outbound = numbers_of (tickets heap words accts.Inbound)
+numbers_before heap words accts.Outbound = ticket_numbers (tickets heap words accts.Inbound)
 
 -- the numbers of the tickets of an account, behind those
 abbrev pub numbers_up_to : View → ℕ → Acct → List ℕ
-numbers_up_to heap words account = numbers_before heap words account ++ numbers_of (tickets heap words account)
+numbers_up_to heap words account = numbers_before heap words account ++ ticket_numbers (tickets heap words account)
 
 -- the amounts of each space in three control words of an account
 abbrev pub amounts_in : View → Acct → ℕ → Amounts
@@ -79,7 +79,7 @@ goes_before a b =
 -- go by coarse priority, by fine priority and by number; what is left of each is right; and the first one that waits asks of some
 -- space more than the room.
 pub record IsQueue (heap : View) (account : Acct) (row : List Ticket) : Type 0 where
-  pub below : All (λ n. n < heap.roots NEXT_TICKET) (numbers_of row)
+  pub below : All (λ n. n < heap.roots NEXT_TICKET) (ticket_numbers row)
   pub order : AllPairs (λ a b. may_precede a b ≡ true) row
   pub left : All (λ t. is_left_rightly t ≡ true) row
   pub barred : IfSome (front_waiting row) (λ t. are_within t.asked (room heap account) ≡ false)

@@ -7,18 +7,18 @@ use Rattle.sdr_base.specs.declared.layout.object.TheConstants as object
 use Rattle.sdr_base.specs.declared.layout.raw.TheConstants as raw
 use Rattle.sdr_base.specs.declared.layout.source.TheConstants as source
 use Rattle.sdr_base.specs.declared.medium.Medium.TheVariants as media
-use Rattle.sdr_count.specs.declared.rules.Rule.{Rule}
-use Rattle.sdr_count.specs.declared.rules.Rule.TheVariants as which
+use Rattle.sdr_count.specs.declared.rules.CountRule.{CountRule}
+use Rattle.sdr_count.specs.declared.rules.CountRule.TheVariants as which
 use Rattle.sdr_keys.specs.Members.{members}
 use Rattle.sdr_keys.specs.Places.{first_failing, first_some}
-use Rattle.sdr_owner.specs.Rules.{names_raw}
+use Rattle.sdr_owner.specs.Rules.{is_source_of_raw}
 use Rattle.sdr_owner.specs.View.{View, is_kind, length_of, word_of}
 use Rattle.sdr_owner.specs.declared.owner.Owner.TheVariants as owners
 
 -- whether the block at an address, if it is a source of a raw object, has its length, without the word before the bytes
 abbrev pub has_raw_length : View → ℕ → Bool
 has_raw_length heap addr =
-    not (names_raw (heap.blocks addr))
+    not (is_source_of_raw (heap.blocks addr))
     || word_of (heap.blocks addr) source.LENGTH
     == length_of (heap.blocks (word_of (heap.blocks addr) source.SUBJECT)) - raw.BYTES
 
@@ -53,9 +53,9 @@ has_taken heap addr =
 abbrev pub is_flagged : View → ℕ → Bool
 is_flagged heap addr = is_kind kinds.Source (heap.blocks addr) && not (word_of (heap.blocks addr) source.FLAG == 0)
 
--- whether the block at an address, if it is a source that goes with its last extent, tells that it has one
-abbrev pub is_used : View → ℕ → Bool
-is_used heap addr =
+-- A source that is flagged, or that has taken over its raw object, still has an extent. Every other block passes.
+abbrev pub has_extent_if_passing : View → ℕ → Bool
+has_extent_if_passing heap addr =
     not (is_flagged heap addr || has_taken heap addr)
     || not (word_of (heap.blocks addr) source.INBOUND == 0) || not (word_of (heap.blocks addr) source.OUTBOUND == 0)
 
@@ -64,18 +64,18 @@ abbrev pub is_unflagged : View → ℕ → Bool
 is_unflagged heap addr = not (has_taken heap addr) || not (is_flagged heap addr)
 
 -- whether the block at an address keeps a rule
-abbrev pub keeps : View → ℕ → Rule → ℕ → Bool
-keeps heap words which.RawLength addr = has_raw_length heap addr
-keeps heap words which.Inside addr = lies_inside heap addr
-keeps heap words which.Part addr = covers_part heap words addr
-keeps heap words which.Bytes addr = has_bytes heap addr
-keeps heap words which.Used addr = is_used heap addr
-keeps heap words which.Unflagged addr = is_unflagged heap addr
+abbrev pub keeps_count_rule : View → ℕ → CountRule → ℕ → Bool
+keeps_count_rule heap words which.RawLength addr = has_raw_length heap addr
+keeps_count_rule heap words which.Inside addr = lies_inside heap addr
+keeps_count_rule heap words which.Part addr = covers_part heap words addr
+keeps_count_rule heap words which.Bytes addr = has_bytes heap addr
+keeps_count_rule heap words which.Used addr = has_extent_if_passing heap addr
+keeps_count_rule heap words which.Unflagged addr = is_unflagged heap addr
 
 -- the rules in the order in which they are checked
-abbrev pub all_rules : List Rule
-all_rules = which.RawLength ∷ which.Inside ∷ which.Part ∷ which.Bytes ∷ which.Used ∷ which.Unflagged ∷ []
+abbrev pub count_rules : List CountRule
+count_rules = which.RawLength ∷ which.Inside ∷ which.Part ∷ which.Bytes ∷ which.Used ∷ which.Unflagged ∷ []
 
 -- the address of the first block that doesn't keep one of these rules, asked one after another
-abbrev pub first_broken : View → ℕ → List Rule → Option ℕ
-first_broken heap words rules = first_some (map (λ rule. first_failing (keeps heap words rule) words) rules)
+abbrev pub first_broken : View → ℕ → List CountRule → Option ℕ
+first_broken heap words rules = first_some (map (λ rule. first_failing (keeps_count_rule heap words rule) words) rules)

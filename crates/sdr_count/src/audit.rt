@@ -2,10 +2,10 @@
 ghost use Rattle.std.specs.Prelude.{◌≡◌, ◌*◌, ℕ, false, get_or, length, IfErr, IfOk, OnOk};
 ghost use Rattle.sdr_base.specs.Cells.{IsRegionSize};
 ghost use Rattle.sdr_base.specs.declared.line.TheConstants.{WORD};
-ghost use Rattle.sdr_count.specs.Checked.{IsRightRegion, IsWrongFirst};
+ghost use Rattle.sdr_count.specs.Checked.{IsRightRegion, CountsAreWrongFirst};
 
 use crate::check::check_counts;
-use crate::error::Why;
+use crate::error::ThingCheck;
 use crate::queues::check_queues;
 use sdr_base::{NoMemory, WORD};
 use std::alloc::Global;
@@ -14,7 +14,7 @@ use std::alloc::Global;
 #[derive(Clone, Copy)]
 pub struct Damage {
     pub place: u64,
-    pub why: Why,
+    pub why: ThingCheck,
 }
 
 /// Checks owners, counts and queues of a heap region in memory, whose structure was checked before, with nothing marked before. The
@@ -33,27 +33,27 @@ pub fn check_copy(
     requires clear { (word : ℕ) → get_or marks.old word false ≡ false }
     ensures right { IfOk result (λ answer. OnOk answer (IsRightRegion heap.now)) }
     ensures wrong { IfOk result (λ answer. IfErr answer (λ damage.
-        IsWrongFirst heap.now damage.why damage.place)) }
+        CountsAreWrongFirst heap.now damage.why damage.place)) }
 {
     if let Err(wrong) = sdr_owner::check_owners(heap, marks) {
         let place = wrong.place;
         return Ok(Err(Damage {
             place,
-            why: Why::Owner,
+            why: ThingCheck::Owner,
         }));
     }
     if let Err(wrong) = check_counts(alloc, heap)? {
         let place = wrong.place;
         return Ok(Err(Damage {
             place,
-            why: Why::Count,
+            why: ThingCheck::Count,
         }));
     }
     if let Err(wrong) = check_queues(alloc, heap)? {
         let place = wrong.place;
         return Ok(Err(Damage {
             place,
-            why: Why::Queue,
+            why: ThingCheck::Queue,
         }));
     }
     Ok(Ok(()))

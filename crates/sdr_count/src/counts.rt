@@ -3,7 +3,7 @@ ghost use Rattle.std.specs.Prelude.{◌≡◌, ◌<◌, ◌+◌, ◌*◌, ◌/�
 ghost use Rattle.sdr_base.specs.Cells.{IsRegionSize};
 ghost use Rattle.sdr_base.specs.declared.line.TheConstants.{WORD};
 ghost use Rattle.sdr_count.specs.Counted.{wrong_source};
-ghost use Rattle.sdr_count.specs.Counts.{count_of, is_object_of, keeps_counts, names, uses_at};
+ghost use Rattle.sdr_count.specs.Counts.{named_count, is_object_of, keeps_counts, extent_names, uses_at};
 ghost use Rattle.sdr_count.specs.Numbers.{AreTold};
 ghost use Rattle.sdr_owner.specs.View.{view_in};
 
@@ -40,7 +40,7 @@ fn count_one(counts: &mut [u64], place: u64)
 fn count_extents(heap: &[u8], counts: &mut [u64], extents: &[Addr])
     requires region { IsRegionSize (length heap.now) }
     ensures { (number : ℕ → ℕ) → AreTold number counts.old →
-        AreTold (λ from. number from + count_by (names (view_in heap.now) from) extents.now)
+        AreTold (λ from. number from + count_by (extent_names (view_in heap.now) from) extents.now)
         counts.new }
 {
     for addr in extents {
@@ -74,7 +74,7 @@ fn counts_of(alloc: Global, heap: &[u8], account: Acct) -> Result<Vec<u64>, NoMe
     requires region { IsRegionSize (length heap.now) }
     ensures long { IfOk result (λ counts. length counts.items ≡ length heap.now / WORD) }
     ensures told { IfOk result (λ counts.
-        AreTold (count_of (view_in heap.now) (length heap.now / WORD) account) counts.items) }
+        AreTold (named_count (view_in heap.now) (length heap.now / WORD) account) counts.items) }
 {
     let mut counts = vec![in alloc; 0u64; heap.len() / WORD as usize]?;
     for number in 0..counts.len() {
@@ -86,8 +86,8 @@ fn counts_of(alloc: Global, heap: &[u8], account: Acct) -> Result<Vec<u64>, NoMe
 // Whether the block at an address, if it is a source, tells these counts.
 fn keeps_counts(heap: &[u8], addr: Addr, inbound: u64, outbound: u64) -> bool
     requires region { IsRegionSize (length heap.now) }
-    requires inbound { inbound ≡ count_of (view_in heap.now) (length heap.now / WORD) Acct.Inbound addr }
-    requires outbound { outbound ≡ count_of (view_in heap.now) (length heap.now / WORD) Acct.Outbound addr }
+    requires inbound { inbound ≡ named_count (view_in heap.now) (length heap.now / WORD) Acct.Inbound addr }
+    requires outbound { outbound ≡ named_count (view_in heap.now) (length heap.now / WORD) Acct.Outbound addr }
     ensures { result ≡ keeps_counts (view_in heap.now) (length heap.now / WORD) addr }
 {
     !is_kind(heap, addr, Kind::Source)

@@ -2,7 +2,7 @@
 
 /// The check that found something wrong.
 #[derive(Clone, Copy, Debug, PartialEq, Eq)]
-pub enum Why {
+pub enum ThingCheck {
     /// The chains of blocks, and who names whom.
     Owner,
     /// The counts of sources, and what is occupied.

@@ -2,10 +2,10 @@
 ghost use Rattle.std.specs.Prelude.{◌≡◌, ℕ, [], ◌∷◌};
 ghost use Rattle.sdr_base.specs.declared.account.Acct.TheVariants as accts;
 ghost use Rattle.sdr_base.specs.declared.kind.Space.TheVariants as spaces;
-ghost use Rattle.sdr_count.specs.Counts.{count_of};
+ghost use Rattle.sdr_count.specs.Counts.{named_count};
 ghost use Rattle.sdr_count.specs.Examples.{bundle_heap};
 ghost use Rattle.sdr_keys.specs.Members.{members};
-ghost use Rattle.sdr_count.specs.Occupied.{occupancy};
+ghost use Rattle.sdr_count.specs.Occupied.{occupancy_in};
 ghost use Rattle.sdr_owner.specs.declared.owner.Owner.TheVariants as owners;
 
 /// A law: in a heap with one outbound object, of 30 bytes of an item in two extents, a header of 3 bytes and a trailer of 9, and a
@@ -13,10 +13,10 @@ ghost use Rattle.sdr_owner.specs.declared.owner.Owner.TheVariants as owners;
 /// space are occupied, and 72 + 32 + 32 + 16 + 24 + 40 of heap space. It does nothing.
 pub fn a_bundle_is_counted()
     ensures chain { members bundle_heap 64 (owners.Extents 64) ≡ 168 ∷ 208 ∷ [] }
-    ensures outbound { count_of bundle_heap 64 accts.Outbound 8 ≡ 2 }
-    ensures inbound { count_of bundle_heap 64 accts.Inbound 8 ≡ 0 }
-    ensures file { occupancy bundle_heap 64 accts.Outbound spaces.File ≡ 0 }
-    ensures bulk { occupancy bundle_heap 64 accts.Outbound spaces.Bulk ≡ 30 }
-    ensures heap { occupancy bundle_heap 64 accts.Outbound spaces.Heap ≡ 216 }
-    ensures other { occupancy bundle_heap 64 accts.Inbound spaces.Heap ≡ 0 }
+    ensures outbound { named_count bundle_heap 64 accts.Outbound 8 ≡ 2 }
+    ensures inbound { named_count bundle_heap 64 accts.Inbound 8 ≡ 0 }
+    ensures file { occupancy_in bundle_heap 64 accts.Outbound spaces.File ≡ 0 }
+    ensures bulk { occupancy_in bundle_heap 64 accts.Outbound spaces.Bulk ≡ 30 }
+    ensures heap { occupancy_in bundle_heap 64 accts.Outbound spaces.Heap ≡ 216 }
+    ensures other { occupancy_in bundle_heap 64 accts.Inbound spaces.Heap ≡ 0 }
 {}

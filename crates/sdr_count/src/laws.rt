@@ -2,9 +2,9 @@
 ghost use Rattle.std.specs.Prelude.{◌≡◌, ◌/◌, List, ℕ, length};
 ghost use Rattle.sdr_base.specs.Cells.{IsRegionSize};
 ghost use Rattle.sdr_base.specs.declared.line.TheConstants.{WORD};
-ghost use Rattle.sdr_count.specs.Checked.{IsRightRegion, IsWrongFirst};
+ghost use Rattle.sdr_count.specs.Checked.{IsRightRegion, CountsAreWrongFirst};
 ghost use Rattle.sdr_keys.specs.Members.{AreMembers};
-ghost use Rattle.sdr_count.specs.declared.error.Why.{Why};
+ghost use Rattle.sdr_count.specs.declared.error.ThingCheck.{ThingCheck};
 ghost use Rattle.sdr_owner.specs.Chains.{ChainsReach};
 ghost use Rattle.sdr_owner.specs.View.{view_in};
 ghost use Rattle.sdr_owner.specs.declared.owner.Owner.{Owner};
@@ -12,12 +12,12 @@ ghost use Rattle.sdr_owner.specs.declared.owner.Owner.{Owner};
 /// A law: a region whose owners, counts and queues are right isn't wrong anywhere. It does nothing.
 pub fn right_regions_are_not_wrong()
     ensures { (bytes : List ℕ) (why : Why) (place : ℕ) →
-        IsRightRegion bytes → IsWrongFirst bytes why place → ⊥ }
+        IsRightRegion bytes → CountsAreWrongFirst bytes why place → ⊥ }
 {}
 
 /// A law: a region is wrong first at one place alone, by one check. It does nothing.
 pub fn one_place_is_wrong_first()
     ensures { (bytes : List ℕ) (why other : Why) (place elsewhere : ℕ) →
-        IsWrongFirst bytes why place → IsWrongFirst bytes other elsewhere →
+        CountsAreWrongFirst bytes why place → CountsAreWrongFirst bytes other elsewhere →
         (why ≡ other) × (place ≡ elsewhere) }
 {}

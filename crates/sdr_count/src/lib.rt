@@ -36,7 +36,7 @@ mod tickets;
 
 pub use audit::{Damage, check_copy};
 pub use check::check_counts;
-pub use error::Why;
+pub use error::ThingCheck;
 pub use examples::a_bundle_is_counted;
 pub use laws::{one_place_is_wrong_first, right_regions_are_not_wrong};
 pub use queues::check_queues;

@@ -6,7 +6,7 @@ ghost use Rattle.sdr_base.specs.declared.control.TheConstants.{OUTBOUND};
 ghost use Rattle.sdr_base.specs.declared.kind.Space.{Space};
 ghost use Rattle.sdr_base.specs.declared.line.TheConstants.{WORD};
 ghost use Rattle.sdr_count.specs.Counted.{wrong_occupancy, wrong_occupancy_in};
-ghost use Rattle.sdr_count.specs.Occupied.{capsule_charge, charges_by, extent_charge, charge_at, left_at, occupancy, space_of};
+ghost use Rattle.sdr_count.specs.Occupied.{capsule_charge_at, charges_by, extent_charge_at, charge_at, left_at, occupancy_in, medium_space};
 ghost use Rattle.sdr_model.specs.Amounts.{in_space};
 ghost use Rattle.sdr_owner.specs.Owners.{account_word};
 ghost use Rattle.sdr_owner.specs.View.{view_in};
@@ -28,7 +28,7 @@ const EXTENT: u64 = 32;
 // The space that the bytes of the source at an address are in.
 fn space_of(heap: &[u8], addr: Addr) -> Space
     requires region { IsRegionSize (length heap.now) }
-    ensures { result ≡ space_of (block_in heap.now addr) }
+    ensures { result ≡ medium_space (block_in heap.now addr) }
 {
     match word(heap, addr, source::MEDIUM) {
         1 => Space::File,
@@ -42,7 +42,7 @@ fn with_extents(heap: &[u8], charges: Charges, extents: &[Addr]) -> Charges
     requires region { IsRegionSize (length heap.now) }
     ensures { (of : Space → ℕ) → charges ≡ charges_by of →
         result ≡ charges_by (λ space.
-        of space + sum_by (extent_charge (view_in heap.now) space) extents.now) }
+        of space + sum_by (extent_charge_at (view_in heap.now) space) extents.now) }
 {
     let mut charges = charges;
     for addr in extents {
@@ -56,7 +56,7 @@ fn with_extents(heap: &[u8], charges: Charges, extents: &[Addr]) -> Charges
 // The bytes of the words that the header or trailer at an address fills.
 fn capsule_bytes(heap: &[u8], addr: Addr) -> u64
     requires region { IsRegionSize (length heap.now) }
-    ensures { (space : Space) → in_space Space.Heap result space ≡ capsule_charge (view_in heap.now) space addr }
+    ensures { (space : Space) → in_space Space.Heap result space ≡ capsule_charge_at (view_in heap.now) space addr }
 {
     let text = length_of(heap, addr).saturating_sub(WORD * capsule::WORDS);
     8 * ((15 + text) / 8)
@@ -67,7 +67,7 @@ fn with_capsules(heap: &[u8], charges: Charges, capsules: &[Addr]) -> Charges
     requires region { IsRegionSize (length heap.now) }
     ensures { (of : Space → ℕ) → charges ≡ charges_by of →
         result ≡ charges_by (λ space.
-        of space + sum_by (capsule_charge (view_in heap.now) space) capsules.now) }
+        of space + sum_by (capsule_charge_at (view_in heap.now) space) capsules.now) }
 {
     let mut charges = charges;
     for addr in capsules {
@@ -76,7 +76,7 @@ fn with_capsules(heap: &[u8], charges: Charges, capsules: &[Addr]) -> Charges
     charges
 }
 
-// These charges and those of the object at an address, if one of this account stands there.
+// Adds the charges of the object at `addr`, if it is one of this account.
 fn with_object(
     alloc: Global,
     heap: &[u8],
@@ -122,7 +122,7 @@ fn with_left(heap: &[u8], charges: Charges, tickets: &[Addr]) -> Charges
 fn occupied(alloc: Global, heap: &[u8], account: Acct) -> Result<Charges, NoMemory>
     requires region { IsRegionSize (length heap.now) }
     ensures { IfOk result (λ sum. sum ≡ charges_by
-        (occupancy (view_in heap.now) (length heap.now / WORD) account)) }
+        (occupancy_in (view_in heap.now) (length heap.now / WORD) account)) }
 {
     let mut charges = Charges::none();
     for number in 0..heap.len() as u64 / WORD {

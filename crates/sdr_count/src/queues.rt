@@ -4,7 +4,7 @@ ghost use Rattle.std.specs.Option.{option_map};
 ghost use Rattle.sdr_base.specs.Cells.{IsRegionSize};
 ghost use Rattle.sdr_base.specs.declared.control.TheConstants.{NEXT_TICKET};
 ghost use Rattle.sdr_base.specs.declared.line.TheConstants.{WORD};
-ghost use Rattle.sdr_count.specs.Queues.{AreLawfulIn, IsLawful, IsQueue, IsWrongQueueIn, amounts_in, is_left_rightly, numbers_before, numbers_of, numbers_up_to, queue_place, room, ticket_at};
+ghost use Rattle.sdr_count.specs.Queues.{AreLawfulIn, IsLawful, IsQueue, IsWrongQueueIn, amounts_in, is_left_rightly, numbers_before, ticket_numbers, numbers_up_to, queue_place, room, ticket_in};
 ghost use Rattle.sdr_model.specs.Amounts.{are_within};
 ghost use Rattle.sdr_model.specs.Queue.{front_waiting};
 ghost use Rattle.sdr_model.specs.Valid.{may_precede};
@@ -33,7 +33,7 @@ fn are_distinct(alloc: Global, numbers: &[u64]) -> Result<bool, NoMemory>
 fn push_numbers(numbers: &mut Vec<u64>, heap: &[u8], tickets: &[Addr]) -> Result<(), NoMemory>
     requires region { IsRegionSize (length heap.now) }
     ensures { OnOk result (numbers.new.items ≡ numbers.old.items
-        ++ numbers_of (map (ticket_at (view_in heap.now)) tickets.now)) }
+        ++ ticket_numbers (map (ticket_in (view_in heap.now)) tickets.now)) }
 {
     for addr in tickets {
         numbers.push(word(heap, *addr, ticket::NUMBER))?;
@@ -45,7 +45,7 @@ fn push_numbers(numbers: &mut Vec<u64>, heap: &[u8], tickets: &[Addr]) -> Result
 fn are_below(heap: &[u8], tickets: &[Addr]) -> bool
     requires region { IsRegionSize (length heap.now) }
     ensures { IsTrue result ↔ All (λ n. n < (view_in heap.now).roots NEXT_TICKET)
-        (numbers_of (map (ticket_at (view_in heap.now)) tickets.now)) }
+        (ticket_numbers (map (ticket_in (view_in heap.now)) tickets.now)) }
 {
     let next = root(heap, NEXT_TICKET);
     for addr in tickets {
@@ -60,7 +60,7 @@ fn are_below(heap: &[u8], tickets: &[Addr]) -> bool
 fn are_in_order(heap: &[u8], tickets: &[Addr]) -> bool
     requires region { IsRegionSize (length heap.now) }
     ensures { IsTrue result ↔ AllPairs (λ a b. may_precede a b ≡ true)
-        (map (ticket_at (view_in heap.now)) tickets.now) }
+        (map (ticket_in (view_in heap.now)) tickets.now) }
 {
     for place in 1..tickets.len() {
         if !may_precede(heap, tickets[place - 1], tickets[place]) {
@@ -74,7 +74,7 @@ fn are_in_order(heap: &[u8], tickets: &[Addr]) -> bool
 fn are_left_rightly(heap: &[u8], tickets: &[Addr]) -> bool
     requires region { IsRegionSize (length heap.now) }
     ensures { IsTrue result ↔ All (λ t. is_left_rightly t ≡ true)
-        (map (ticket_at (view_in heap.now)) tickets.now) }
+        (map (ticket_in (view_in heap.now)) tickets.now) }
 {
     for addr in tickets {
         if !is_left_rightly(heap, *addr) {
@@ -87,8 +87,8 @@ fn are_left_rightly(heap: &[u8], tickets: &[Addr]) -> bool
 // The first of these tickets that waits.
 fn front_waiting(heap: &[u8], tickets: &[Addr]) -> Option<Addr>
     requires region { IsRegionSize (length heap.now) }
-    ensures { option_map (ticket_at (view_in heap.now)) result
-        ≡ front_waiting (map (ticket_at (view_in heap.now)) tickets.now) }
+    ensures { option_map (ticket_in (view_in heap.now)) result
+        ≡ front_waiting (map (ticket_in (view_in heap.now)) tickets.now) }
 {
     for addr in tickets {
         if !is_granted(heap, *addr) {
@@ -116,7 +116,7 @@ fn amounts_in(heap: &[u8], account: Acct, field: u64) -> Amounts
 fn is_barred(heap: &[u8], account: Acct, tickets: &[Addr]) -> bool
     requires region { IsRegionSize (length heap.now) }
     ensures { IsTrue result ↔ IfSome
-        (front_waiting (map (ticket_at (view_in heap.now)) tickets.now))
+        (front_waiting (map (ticket_in (view_in heap.now)) tickets.now))
         (λ t. are_within t.asked (room (view_in heap.now) account) ≡ false) }
 {
     let Some(addr) = front_waiting(heap, tickets) else {
@@ -132,7 +132,7 @@ fn is_barred(heap: &[u8], account: Acct, tickets: &[Addr]) -> bool
 fn is_queue(heap: &[u8], account: Acct, tickets: &[Addr]) -> bool
     requires region { IsRegionSize (length heap.now) }
     ensures { IsTrue result ↔ IsQueue (view_in heap.now) account
-        (map (ticket_at (view_in heap.now)) tickets.now) }
+        (map (ticket_in (view_in heap.now)) tickets.now) }
 {
     if !are_below(heap, tickets) {
         return false;

@@ -2,7 +2,7 @@
 ghost use Rattle.std.specs.Prelude.{◌≡◌, ◌+◌, ◌/◌, length, nat_le, sum_by, IfOk};
 ghost use Rattle.sdr_base.specs.Cells.{IsRegionSize};
 ghost use Rattle.sdr_base.specs.declared.line.TheConstants.{WORD};
-ghost use Rattle.sdr_count.specs.Rules.{all_rules, covers_part, extent_length, first_broken, has_bytes, has_raw_length, has_taken, is_flagged, is_unflagged, is_used, keeps, lies_inside};
+ghost use Rattle.sdr_count.specs.Rules.{count_rules, covers_part, extent_length, first_broken, has_bytes, has_raw_length, has_taken, is_flagged, is_unflagged, has_extent_if_passing, keeps_count_rule, lies_inside};
 ghost use Rattle.sdr_keys.specs.Places.{first_failing};
 ghost use Rattle.sdr_owner.specs.View.{view_in};
 
@@ -14,7 +14,7 @@ use std::alloc::Global;
 
 /// What each block has to keep, if the rule speaks of its kind.
 #[derive(Clone, Copy)]
-pub enum Rule {
+pub enum CountRule {
     /// A source of a raw object has its length.
     RawLength,
     /// An extent lies inside its source.
@@ -114,10 +114,10 @@ fn is_flagged(heap: &[u8], addr: Addr) -> bool
     is_kind(heap, addr, Kind::Source) && word(heap, addr, source::FLAG) != 0
 }
 
-// Whether the block at an address, if it is a source that goes with its last extent, has one.
-fn is_used(heap: &[u8], addr: Addr) -> bool
+// A source that is flagged, or that has taken over its raw object, still has an extent. Every other block passes.
+fn has_extent_if_passing(heap: &[u8], addr: Addr) -> bool
     requires region { IsRegionSize (length heap.now) }
-    ensures { result ≡ is_used (view_in heap.now) addr }
+    ensures { result ≡ has_extent_if_passing (view_in heap.now) addr }
 {
     if !is_flagged(heap, addr) && !has_taken(heap, addr) {
         return true;
@@ -134,26 +134,26 @@ fn is_unflagged(heap: &[u8], addr: Addr) -> bool
 }
 
 // Whether the block at an address keeps a rule.
-fn keeps(alloc: Global, heap: &[u8], rule: Rule, addr: Addr) -> Result<bool, NoMemory>
+fn keeps(alloc: Global, heap: &[u8], rule: CountRule, addr: Addr) -> Result<bool, NoMemory>
     requires region { IsRegionSize (length heap.now) }
-    ensures { IfOk result (λ yes. yes ≡ keeps (view_in heap.now)
+    ensures { IfOk result (λ yes. yes ≡ keeps_count_rule (view_in heap.now)
         (length heap.now / WORD) rule addr) }
 {
     Ok(match rule {
-        Rule::RawLength => has_raw_length(heap, addr),
-        Rule::Inside => lies_inside(heap, addr),
-        Rule::Part => return covers_part(alloc, heap, addr),
-        Rule::Bytes => has_bytes(heap, addr),
-        Rule::Used => is_used(heap, addr),
-        Rule::Unflagged => is_unflagged(heap, addr),
+        CountRule::RawLength => has_raw_length(heap, addr),
+        CountRule::Inside => lies_inside(heap, addr),
+        CountRule::Part => return covers_part(alloc, heap, addr),
+        CountRule::Bytes => has_bytes(heap, addr),
+        CountRule::Used => has_extent_if_passing(heap, addr),
+        CountRule::Unflagged => is_unflagged(heap, addr),
     })
 }
 
 // The address of the first block that doesn't keep a rule.
-fn first_broken(alloc: Global, heap: &[u8], rule: Rule) -> Result<Option<Addr>, NoMemory>
+fn first_broken(alloc: Global, heap: &[u8], rule: CountRule) -> Result<Option<Addr>, NoMemory>
     requires region { IsRegionSize (length heap.now) }
     ensures { IfOk result (λ addr. addr ≡ first_failing
-        (keeps (view_in heap.now) (length heap.now / WORD) rule) (length heap.now / WORD)) }
+        (keeps_count_rule (view_in heap.now) (length heap.now / WORD) rule) (length heap.now / WORD)) }
 {
     for number in 0..heap.len() as u64 / WORD {
         let addr = WORD * number;
@@ -170,15 +170,15 @@ fn first_broken(alloc: Global, heap: &[u8], rule: Rule) -> Result<Option<Addr>, 
 pub fn wrong_rule(alloc: Global, heap: &[u8]) -> Result<Option<Addr>, NoMemory>
     requires region { IsRegionSize (length heap.now) }
     ensures { IfOk result (λ addr. addr ≡ first_broken (view_in heap.now)
-        (length heap.now / WORD) all_rules) }
+        (length heap.now / WORD) count_rules) }
 {
     let rules = [
-        Rule::RawLength,
-        Rule::Inside,
-        Rule::Part,
-        Rule::Bytes,
-        Rule::Used,
-        Rule::Unflagged,
+        CountRule::RawLength,
+        CountRule::Inside,
+        CountRule::Part,
+        CountRule::Bytes,
+        CountRule::Used,
+        CountRule::Unflagged,
     ];
     for rule in &rules {
         if let Some(addr) = first_broken(alloc, heap, *rule)? {

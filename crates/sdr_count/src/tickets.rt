@@ -1,7 +1,7 @@
 // Tickets in their blocks.
 ghost use Rattle.std.specs.Prelude.{◌≡◌, ◌≤◌, length};
 ghost use Rattle.sdr_base.specs.Cells.{IsRegionSize};
-ghost use Rattle.sdr_count.specs.Queues.{amounts_at, goes_before, is_left_rightly, ticket_at};
+ghost use Rattle.sdr_count.specs.Queues.{amounts_at, goes_before, is_left_rightly, ticket_in};
 ghost use Rattle.sdr_model.specs.Valid.{may_precede};
 ghost use Rattle.sdr_owner.specs.View.{view_in};
 
@@ -26,7 +26,7 @@ pub fn amounts_at(heap: &[u8], addr: Addr, field: u64) -> Amounts
 /// Whether the ticket at an address is granted.
 pub fn is_granted(heap: &[u8], addr: Addr) -> bool
     requires region { IsRegionSize (length heap.now) }
-    ensures { result ≡ (ticket_at (view_in heap.now) addr).granted }
+    ensures { result ≡ (ticket_in (view_in heap.now) addr).granted }
 {
     word(heap, addr, ticket::GRANTED) == 1
 }
@@ -34,7 +34,7 @@ pub fn is_granted(heap: &[u8], addr: Addr) -> bool
 /// Whether what is left of the ticket at an address is at most what it asks, and nothing while it waits.
 pub fn is_left_rightly(heap: &[u8], addr: Addr) -> bool
     requires region { IsRegionSize (length heap.now) }
-    ensures { result ≡ is_left_rightly (ticket_at (view_in heap.now) addr) }
+    ensures { result ≡ is_left_rightly (ticket_in (view_in heap.now) addr) }
 {
     let asked = amounts_at(heap, addr, ticket::ASKED_FILE);
     let left = amounts_at(heap, addr, ticket::LEFT_FILE);
@@ -44,8 +44,8 @@ pub fn is_left_rightly(heap: &[u8], addr: Addr) -> bool
 // Whether a waiting ticket goes before another, by coarse priority, by fine priority and by number.
 fn goes_before(heap: &[u8], first: Addr, then: Addr) -> bool
     requires region { IsRegionSize (length heap.now) }
-    ensures { result ≡ goes_before (ticket_at (view_in heap.now) first)
-        (ticket_at (view_in heap.now) then) }
+    ensures { result ≡ goes_before (ticket_in (view_in heap.now) first)
+        (ticket_in (view_in heap.now) then) }
 {
     let coarse = word(heap, first, ticket::COARSE);
     let other_coarse = word(heap, then, ticket::COARSE);
@@ -62,8 +62,8 @@ fn goes_before(heap: &[u8], first: Addr, then: Addr) -> bool
 /// by fine priority and by number.
 pub fn may_precede(heap: &[u8], first: Addr, then: Addr) -> bool
     requires region { IsRegionSize (length heap.now) }
-    ensures { result ≡ may_precede (ticket_at (view_in heap.now) first)
-        (ticket_at (view_in heap.now) then) }
+    ensures { result ≡ may_precede (ticket_in (view_in heap.now) first)
+        (ticket_in (view_in heap.now) then) }
 {
     is_granted(heap, first) || (!is_granted(heap, then) && goes_before(heap, first, then))
 }

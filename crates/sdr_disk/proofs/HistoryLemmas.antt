@@ -1,10 +1,10 @@
 -- One change more in the history of a disk in memory.
 use Rattle.std.proofs.Common.{◌≡◌, ℕ, zero, suc, ◌+◌, ◌*◌, ◌<◌, ◌≤◌, ◌⊎◌, inl, inr, List, [], ◌∷◌, ◌++◌, length}
 use Rattle.std.proofs.Common.{refl, sym, ◌∙◌, ap, subst, arith, length-append}
-use Rattle.sdr_disk.specs.History.{History, Leaves, MayLeave, State, after, after_all, bytes_of, during}
+use Rattle.sdr_disk.specs.History.{History, Leaves, MayLeave, State, after, after_all, bytes_read, during}
 use Rattle.sdr_disk.specs.History.{moment_of, ranges_of, start, state_at, with_change, written_over}
 use Rattle.sdr_disk.specs.HistoryLaws.{state_at-now}
-use Rattle.sdr_disk.specs.Moments.{IsTorn, Keeps, Only, Syncs, Writes}
+use Rattle.sdr_disk.specs.Moments.{IsTorn, SamePast, Only, Syncs, Writes}
 use Rattle.sdr_base.specs.Parts.{overwrite, part}
 use Rattle.sdr_disk.specs.Ranges.{Agrees, Range, range}
 use Rattle.sdr_disk.specs.declared.change.Change.{Change}
@@ -65,14 +65,14 @@ module _ (h : History) where
   abbrev pub state_now : State
   state_now = after_all (start h.first) h.changes
 
-  pub MayLeave-now : (image : List ℕ) → Leaves (length (bytes_of h)) state_now image → MayLeave h (moment_of h) image
+  pub MayLeave-now : (image : List ℕ) → Leaves (length (bytes_read h)) state_now image → MayLeave h (moment_of h) image
   MayLeave-now image left =
       Leaves-moved _ _ _ _ image refl (sym (state_at-now (start h.first) h.changes (moment_of h) (omega arith))) left
 
 -- One change more, by which the disk keeps its length.
-module _ (h : History) (x : Change) (long : length (bytes_of (with_change x h)) ≡ length (bytes_of h)) where
-  pub Keeps-push : Keeps (moment_of h) (MayLeave h) (MayLeave (with_change x h))
-  Keeps-push = record {
+module _ (h : History) (x : Change) (long : length (bytes_read (with_change x h)) ≡ length (bytes_read h)) where
+  pub SamePast-push : SamePast (moment_of h) (MayLeave h) (MayLeave (with_change x h))
+  SamePast-push = record {
     now_then = λ m image le left.
         Leaves-moved _ _ _ _ image long (state_at-past (start h.first) h.changes x m le) left;
     then_now = λ m image le left.
@@ -81,44 +81,45 @@ module _ (h : History) (x : Change) (long : length (bytes_of (with_change x h)) 
 
   -- what a crash leaves at its moments it leaves while the change runs or after it
   pub MayLeave-push : (m : ℕ) (image : List ℕ) → moment_of h < m → MayLeave (with_change x h) m image
-      → Leaves (length (bytes_of h)) (during (state_now h) x) image
-      ⊎ Leaves (length (bytes_of h)) (after (state_now h) x) image
+      → Leaves (length (bytes_read h)) (during (state_now h) x) image
+      ⊎ Leaves (length (bytes_read h)) (after (state_now h) x) image
   MayLeave-push m image gt left = at (state_at-push (start h.first) h.changes x m gt)
     where
       at : (state_at (start h.first) (h.changes ++ x ∷ []) m ≡ during (state_now h) x)
           ⊎ (state_at (start h.first) (h.changes ++ x ∷ []) m ≡ after (state_now h) x)
-          → Leaves (length (bytes_of h)) (during (state_now h) x) image
-          ⊎ Leaves (length (bytes_of h)) (after (state_now h) x) image
+          → Leaves (length (bytes_read h)) (during (state_now h) x) image
+          ⊎ Leaves (length (bytes_read h)) (after (state_now h) x) image
       at (inl e) = inl (Leaves-moved _ _ _ _ image long e left)
       at (inr e) = inr (Leaves-moved _ _ _ _ image long e left)
 
 pub moment_of-push : (h : History) (x : Change) → moment_of (with_change x h) ≡ moment_of h + 2
 moment_of-push h x = omega (arith, length-append h.changes (x ∷ []))
 
-pub bytes_of-push : (h : History) (x : Change) → bytes_of (with_change x h) ≡ (after (state_now h) x).read
-bytes_of-push h x = ap (λ (s : State). s.read) (after_all-push (start h.first) h.changes x)
+pub bytes_read-push : (h : History) (x : Change) → bytes_read (with_change x h) ≡ (after (state_now h) x).read
+bytes_read-push h x = ap (λ (s : State). s.read) (after_all-push (start h.first) h.changes x)
 
 -- One write more, inside the disk.
 module _ (h : History) (place : ℕ) (from : List ℕ) (outcome : Outcome)
-    (inside : place + length from ≤ length (bytes_of h)) where
+    (inside : place + length from ≤ length (bytes_read h)) where
   abbrev write : Change
   write = Write place from outcome
 
   over : (ranges : List Range)
-      → Agrees (range place (length from) ∷ ranges) (bytes_of h) (written_over outcome place from (bytes_of h))
-  over ranges = Agrees-written_over outcome place from (bytes_of h) ranges inside
+      → Agrees (range place (length from) ∷ ranges) (bytes_read h) (written_over outcome place from (bytes_read h))
+  over ranges = Agrees-written_over outcome place from (bytes_read h) ranges inside
 
-  pub length-write : length (bytes_of (with_change write h)) ≡ length (bytes_of h)
-  length-write = ap length (bytes_of-push h write) ∙ (over []).long
+  pub length-write : length (bytes_read (with_change write h)) ≡ length (bytes_read h)
+  length-write = ap length (bytes_read-push h write) ∙ (over []).long
 
   -- an image with any bytes in the range comes from one that has there what a read gave
   torn_from : (image : List ℕ)
-      → Agrees (range place (length from) ∷ ranges_of (state_now h).written) (bytes_of h) image
+      → Agrees (range place (length from) ∷ ranges_of (state_now h).written) (bytes_read h) image
       → IsTorn (MayLeave h (moment_of h)) place (length from) image
   torn_from image f =
-      let old : List ℕ = part place (length from) (bytes_of h) in
-      let many : length old ≡ length from = length-part place (length from) (bytes_of h) inside in
-      let whole = Agrees-part_back place (length from) (bytes_of h) image (ranges_of (state_now h).written) inside f in
+      let old : List ℕ = part place (length from) (bytes_read h) in
+      let many : length old ≡ length from = length-part place (length from) (bytes_read h) inside in
+      let whole = Agrees-part_back place (length from) (bytes_read h) image (ranges_of (state_now h).written) inside f
+          in
       record {
         whole = overwrite place old image;
         left_before = MayLeave-now h (overwrite place old image) (record { long = whole.long; same = whole.same });
@@ -131,30 +132,30 @@ module _ (h : History) (place : ℕ) (from : List ℕ) (outcome : Outcome)
   Writes-push = record {
     later = omega (arith, moment_of-push h write);
     soon = omega (arith, moment_of-push h write);
-    past = Keeps-push h write length-write;
+    past = SamePast-push h write length-write;
     torn = λ m image gt le left. at image (MayLeave-push h write length-write m image gt left);
   }
     where
-      at : (image : List ℕ) → Leaves (length (bytes_of h)) (during (state_now h) write) image
-          ⊎ Leaves (length (bytes_of h)) (after (state_now h) write) image
+      at : (image : List ℕ) → Leaves (length (bytes_read h)) (during (state_now h) write) image
+          ⊎ Leaves (length (bytes_read h)) (after (state_now h) write) image
           → IsTorn (MayLeave h (moment_of h)) place (length from) image
       at image (inl f) = torn_from image (record { long = f.long; same = f.same })
       at image (inr f) =
           let done = over (ranges_of (state_now h).written) in
           torn_from image
-          (Agrees-trans _ (bytes_of h) _ image done (record { long = f.long ∙ sym done.long; same = f.same }))
+          (Agrees-trans _ (bytes_read h) _ image done (record { long = f.long ∙ sym done.long; same = f.same }))
 
 -- One sync more.
 module _ (h : History) (outcome : Outcome) where
   abbrev sync : Change
   sync = Sync outcome
 
-  pub bytes_of-sync : bytes_of (with_change sync h) ≡ bytes_of h
-  bytes_of-sync = bytes_of-push h sync ∙ read-sync outcome (state_now h)
+  pub bytes_read-sync : bytes_read (with_change sync h) ≡ bytes_read h
+  bytes_read-sync = bytes_read-push h sync ∙ read-sync outcome (state_now h)
 
   -- what a crash leaves after a sync it leaves before it
-  waited : (o : Outcome) (image : List ℕ) → Leaves (length (bytes_of h)) (after (state_now h) (Sync o)) image
-      → Leaves (length (bytes_of h)) (state_now h) image
+  waited : (o : Outcome) (image : List ℕ) → Leaves (length (bytes_read h)) (after (state_now h) (Sync o)) image
+      → Leaves (length (bytes_read h)) (state_now h) image
   waited Done image f = record { long = f.long; same = λ i o. f.same i tt }
   waited Failed image f = f
 
@@ -162,22 +163,22 @@ module _ (h : History) (outcome : Outcome) where
   Syncs-push = record {
     later = omega (arith, moment_of-push h sync);
     soon = omega (arith, moment_of-push h sync);
-    past = Keeps-push h sync (ap length bytes_of-sync);
+    past = SamePast-push h sync (ap length bytes_read-sync);
     waits = λ m image gt le left.
-        MayLeave-now h image (at image (MayLeave-push h sync (ap length bytes_of-sync) m image gt left));
+        MayLeave-now h image (at image (MayLeave-push h sync (ap length bytes_read-sync) m image gt left));
   }
     where
-      at : (image : List ℕ) → Leaves (length (bytes_of h)) (during (state_now h) sync) image
-          ⊎ Leaves (length (bytes_of h)) (after (state_now h) sync) image
-          → Leaves (length (bytes_of h)) (state_now h) image
+      at : (image : List ℕ) → Leaves (length (bytes_read h)) (during (state_now h) sync) image
+          ⊎ Leaves (length (bytes_read h)) (after (state_now h) sync) image
+          → Leaves (length (bytes_read h)) (state_now h) image
       at image (inl f) = f
       at image (inr f) = waited outcome image f
 
 -- after a good sync a crash leaves what a read gives
 pub Only-synced : (h : History)
-    → let g = with_change (Sync Done) h in Only (bytes_of g) (MayLeave g (moment_of g))
+    → let g = with_change (Sync Done) h in Only (bytes_read g) (MayLeave g (moment_of g))
 Only-synced h image left =
     let now = state_at-now (start h.first) (h.changes ++ Sync Done ∷ []) _ (omega arith) in
     let is = now ∙ after_all-push (start h.first) h.changes (Sync Done) in
-    let f = Leaves-moved _ _ _ _ image (ap length (bytes_of-sync h Done)) is left in
-    Agrees-nil (bytes_of h) image (record { long = f.long; same = f.same }) ∙ sym (bytes_of-sync h Done)
+    let f = Leaves-moved _ _ _ _ image (ap length (bytes_read-sync h Done)) is left in
+    Agrees-nil (bytes_read h) image (record { long = f.long; same = f.same }) ∙ sym (bytes_read-sync h Done)

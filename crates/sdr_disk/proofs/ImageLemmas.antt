@@ -8,10 +8,10 @@ use Rattle.std.proofs.lemmas.List.{take_more, take_rest}
 use Rattle.std.proofs.Math.Seq.{take-nil}
 use Rattle.sdr_disk.specs.History.{State, Written, after, after_all, during, image_of, start, state_at, tear_all}
 use Rattle.sdr_disk.specs.Image.{AllFit, Fits, IsSettled, SplitsAtSync, is_good_sync, tear_change, tear_changes}
-use Rattle.sdr_disk.specs.Kept.{AllReplace, Leads, Replaces, changes_of, history_of, undone_all}
+use Rattle.sdr_disk.specs.Kept.{AllReplace, LeadsBytes, Replaces, changes_of, history_of, undone_all}
 use Rattle.sdr_disk.specs.declared.change.Change.{Change}
 use Rattle.sdr_disk.specs.declared.change.Change.TheVariants.{Write, Sync}
-use Rattle.sdr_disk.specs.declared.change.Kept.{Kept}
+use Rattle.sdr_disk.specs.declared.change.KeptChange.{KeptChange}
 use Rattle.sdr_disk.specs.declared.change.Outcome.TheVariants.{Done, Failed}
 use Rattle.sdr_disk.specs.declared.torn.Torn.{Torn}
 use Rattle.sdr_disk.proofs.HistoryLemmas.{after_all-push}
@@ -21,7 +21,7 @@ use Rattle.sdr_base.proofs.PartsLemmas.{length-part}
 
 -- Changes that fit.
 
-pub AllFit-last : (size : ℕ) (earlier : List Kept) (last : Kept) → AllFit size (earlier ++ last ∷ [])
+pub AllFit-last : (size : ℕ) (earlier : List KeptChange) (last : KeptChange) → AllFit size (earlier ++ last ∷ [])
     → AllFit size earlier × Fits size last.change last.before
 AllFit-last size [] last fit = (tt, fit.0)
 AllFit-last size (k ∷ earlier) last fit = let f = AllFit-last size earlier last fit.1 in ((fit.0, f.0), f.1)
@@ -35,7 +35,7 @@ Fits-replaced size (Write place from outcome) before s long replaces =
     (omega (arith, long, replaces.0), ap length replaces.1 ∙ length-part place (length from) s.read replaces.0)
 Fits-replaced size (Sync outcome) before s long replaces = tt
 
-AllFit-replaced : (size : ℕ) (s : State) (kept : List Kept) → length s.read ≡ size → AllReplace s kept
+AllFit-replaced : (size : ℕ) (s : State) (kept : List KeptChange) → length s.read ≡ size → AllReplace s kept
     → AllFit size kept
 AllFit-replaced size s [] long each = tt
 AllFit-replaced size s (k ∷ kept) long each = (
@@ -43,25 +43,26 @@ AllFit-replaced size s (k ∷ kept) long each = (
   AllFit-replaced size (after s k.change) kept (length-after k.change k.before s each.0 ∙ long) each.1,
 )
 
-pub AllFit-led : (first : List ℕ) (kept : List Kept) (now : List ℕ) → Leads first kept now → AllFit (length now) kept
+pub AllFit-led : (first : List ℕ) (kept : List KeptChange) (now : List ℕ) → LeadsBytes first kept now →
+    AllFit (length now) kept
 AllFit-led first kept now leads =
     let long = sym (length-after_all (start first) kept leads.each) ∙ ap length leads.forth in
     AllFit-replaced (length now) (start first) kept long leads.each
 
-pub AllFit-take : (size count : ℕ) (kept : List Kept) → AllFit size kept → AllFit size (take count kept)
+pub AllFit-take : (size count : ℕ) (kept : List KeptChange) → AllFit size kept → AllFit size (take count kept)
 AllFit-take size zero [] fit = tt
 AllFit-take size (suc count) [] fit = tt
 AllFit-take size zero (k ∷ kept) fit = tt
 AllFit-take size (suc count) (k ∷ kept) fit = (fit.0, AllFit-take size count kept fit.1)
 
-AllFit-drop : (size count : ℕ) (kept : List Kept) → AllFit size kept → AllFit size (drop count kept)
+AllFit-drop : (size count : ℕ) (kept : List KeptChange) → AllFit size kept → AllFit size (drop count kept)
 AllFit-drop size zero [] fit = tt
 AllFit-drop size (suc count) [] fit = tt
 AllFit-drop size zero (k ∷ kept) fit = fit
 AllFit-drop size (suc count) (k ∷ kept) fit = AllFit-drop size count kept fit.1
 
 -- the changes from a count on, as a slice has them
-pub AllFit-rest : (size count : ℕ) (kept : List Kept) → AllFit size kept
+pub AllFit-rest : (size count : ℕ) (kept : List KeptChange) → AllFit size kept
     → AllFit size (take (length kept - count) (drop count kept))
 AllFit-rest size count kept fit = subst (AllFit size) (sym (take_rest kept count)) (AllFit-drop size count kept fit)
 
@@ -73,20 +74,20 @@ IsSettled-good_sync (Sync Done) s is = record { read = refl; written = refl }
 IsSettled-good_sync (Sync Failed) s is = absurd cc
 
 -- where the change before a count is a good sync, and none from there on
-pub SplitsAtSync-after : (kept : List Kept) (count : ℕ) (k : Kept) → 0 < count → count ≤ length kept
+pub SplitsAtSync-after : (kept : List KeptChange) (count : ℕ) (k : KeptChange) → 0 < count → count ≤ length kept
     → k ≡ get_or kept (count - 1) k → is_good_sync k.change ≡ true
     → AllByRecursion (λ k. is_good_sync k.change ≡ false) (drop count kept) → SplitsAtSync kept count
 SplitsAtSync-after kept count k some within at good since =
     record { within = within; settled = settled; since = since }
   where
-    earlier : List Kept
+    earlier : List KeptChange
     earlier = take (count - 1) kept
 
     front : take count kept ≡ earlier ++ k ∷ []
     front =
         ap (λ (n : ℕ). take n kept) (omega arith)
         ∙ take_more kept (count - 1) k (omega arith)
-        ∙ ap (λ (e : Kept). earlier ++ e ∷ []) (sym at)
+        ∙ ap (λ (e : KeptChange). earlier ++ e ∷ []) (sym at)
 
     settled : (first : List ℕ) → IsSettled (after_all (start first) (changes_of (take count kept)))
     settled first =
@@ -99,38 +100,38 @@ SplitsAtSync-after kept count k some within at good since =
 -- What has returned and what has begun by a moment.
 
 -- the changes that had returned by a moment
-abbrev returned_by : ℕ → List Kept → List Kept
+abbrev returned_by : ℕ → List KeptChange → List KeptChange
 returned_by m [] = []
 returned_by zero (k ∷ kept) = []
 returned_by (suc zero) (k ∷ kept) = []
 returned_by (suc (suc m)) (k ∷ kept) = k ∷ returned_by m kept
 
 -- the changes that had begun by a moment
-abbrev begun_by : ℕ → List Kept → List Kept
+abbrev begun_by : ℕ → List KeptChange → List KeptChange
 begun_by m [] = []
 begun_by zero (k ∷ kept) = []
 begun_by (suc zero) (k ∷ kept) = k ∷ []
 begun_by (suc (suc m)) (k ∷ kept) = k ∷ begun_by m kept
 
-take-suc : (count fewer : ℕ) (k : Kept) (kept : List Kept) → count ≡ suc fewer
+take-suc : (count fewer : ℕ) (k : KeptChange) (kept : List KeptChange) → count ≡ suc fewer
     → take count (k ∷ kept) ≡ k ∷ take fewer kept
 take-suc count fewer k kept e = ap (λ (n : ℕ). take n (k ∷ kept)) e
 
-returned_by-take : (m : ℕ) (kept : List Kept) → take (m / 2) kept ≡ returned_by m kept
+returned_by-take : (m : ℕ) (kept : List KeptChange) → take (m / 2) kept ≡ returned_by m kept
 returned_by-take m [] = take-nil (m / 2)
 returned_by-take zero (k ∷ kept) = refl
 returned_by-take (suc zero) (k ∷ kept) = refl
 returned_by-take (suc (suc m)) (k ∷ kept) =
     take-suc (suc (suc m) / 2) (m / 2) k kept (omega arith)
-    ∙ ap (λ (l : List Kept). k ∷ l) (returned_by-take m kept)
+    ∙ ap (λ (l : List KeptChange). k ∷ l) (returned_by-take m kept)
 
-begun_by-take : (m : ℕ) (kept : List Kept) → take (m / 2 + m % 2) kept ≡ begun_by m kept
+begun_by-take : (m : ℕ) (kept : List KeptChange) → take (m / 2 + m % 2) kept ≡ begun_by m kept
 begun_by-take m [] = take-nil (m / 2 + m % 2)
 begun_by-take zero (k ∷ kept) = refl
 begun_by-take (suc zero) (k ∷ kept) = refl
 begun_by-take (suc (suc m)) (k ∷ kept) =
     take-suc (suc (suc m) / 2 + suc (suc m) % 2) (m / 2 + m % 2) k kept (omega arith)
-    ∙ ap (λ (l : List Kept). k ∷ l) (begun_by-take m kept)
+    ∙ ap (λ (l : List KeptChange). k ∷ l) (begun_by-take m kept)
 
 -- What tearing gives.
 
@@ -150,7 +151,7 @@ torn_in-after torn s (Sync Done) good = absurd cc
 torn_in-after torn s (Sync Failed) good = refl
 
 -- where no good sync has returned since a state, its image at a moment is the state's, with what has begun since torn
-torn_in-state_at : (torn : Torn) (s : State) (kept : List Kept) (m : ℕ)
+torn_in-state_at : (torn : Torn) (s : State) (kept : List KeptChange) (m : ℕ)
     → AllByRecursion (λ k. is_good_sync k.change ≡ false) (returned_by m kept)
     → torn_in torn (state_at s (changes_of kept) m) ≡ tear_changes torn (changes_of (begun_by m kept)) (torn_in torn s)
 torn_in-state_at torn s [] m since = refl
@@ -172,12 +173,12 @@ state_at-append s (x ∷ xs) ys (suc zero) n e = absurd (omega arith)
 state_at-append s (x ∷ xs) ys (suc (suc m)) n e = state_at-append (after s x) xs ys m n (omega arith)
 
 -- The image of a moment, made of the bytes now and a count of changes up to the last good sync that had returned.
-module _ (torn : Torn) (kept : List Kept) (now : List ℕ) (m count : ℕ)
-    (leads : Leads (undone_all kept now) kept now) (split : SplitsAtSync (take (m / 2) kept) count) where
-  abbrev front : List Kept
+module _ (torn : Torn) (kept : List KeptChange) (now : List ℕ) (m count : ℕ)
+    (leads : LeadsBytes (undone_all kept now) kept now) (split : SplitsAtSync (take (m / 2) kept) count) where
+  abbrev front : List KeptChange
   front = take count kept
 
-  abbrev back : List Kept
+  abbrev back : List KeptChange
   back = drop count kept
 
   -- the moments since the last good sync
@@ -204,11 +205,11 @@ module _ (torn : Torn) (kept : List Kept) (now : List ℕ) (m count : ℕ)
   state_split =
       ap (λ (l : List Change). state_at (start first) l m) changes_split
       ∙ state_at-append (start first) (changes_of front) (changes_of back) m later
-      (omega (arith, in_time, length-map front (λ (k : Kept). k.change), length-take-le count kept there))
+      (omega (arith, in_time, length-map front (λ (k : KeptChange). k.change), length-take-le count kept there))
 
   settled : IsSettled s
   settled =
-      subst (λ (l : List Kept). IsSettled (after_all (start first) (changes_of l)))
+      subst (λ (l : List KeptChange). IsSettled (after_all (start first) (changes_of l)))
       (take-take count (m / 2) kept in_time) (split.settled first)
 
   -- nothing was written since: there is nothing to tear
@@ -241,19 +242,20 @@ module _ (torn : Torn) (kept : List Kept) (now : List ℕ) (m count : ℕ)
   image_of-made : tear_changes torn (changes_of (drop count (take (m / 2 + m % 2) kept))) (undone_all back now)
       ≡ image_of torn (history_of kept now) m
   image_of-made =
-      ap (λ (l : List Kept). tear_changes torn (changes_of l) (undone_all back now)) began
+      ap (λ (l : List KeptChange). tear_changes torn (changes_of l) (undone_all back now)) began
       ∙ ap (tear_changes torn (changes_of (begun_by later back))) (undone-back ∙ sym torn_in-settled)
       ∙ sym (torn_in-state_at torn s back later since)
       ∙ ap (torn_in torn) (sym state_split)
 
   -- the same, with the changes from a count on as slices have them
-  pub image_of-crash : (begun : List Kept) (undone' torn' : List ℕ) → begun ≡ take (m / 2 + m % 2) kept
+  pub image_of-crash : (begun : List KeptChange) (undone' torn' : List ℕ) → begun ≡ take (m / 2 + m % 2) kept
       → undone' ≡ undone_all (take (length kept - count) (drop count kept)) now
       → torn' ≡ tear_changes torn (changes_of (take (length begun - count) (drop count begun))) undone'
       → torn' ≡ image_of torn (history_of kept now) m
   image_of-crash begun undone' torn' are undoes tears =
       tears
-      ∙ ap (λ (l : List Kept). tear_changes torn (changes_of l) undone') (take_rest begun count ∙ ap (drop count) are)
+      ∙ ap (λ (l : List KeptChange). tear_changes torn (changes_of l) undone')
+          (take_rest begun count ∙ ap (drop count) are)
       ∙ ap (tear_changes torn (changes_of (drop count (take (m / 2 + m % 2) kept))))
-      (undoes ∙ ap (λ (l : List Kept). undone_all l now) (take_rest kept count))
+      (undoes ∙ ap (λ (l : List KeptChange). undone_all l now) (take_rest kept count))
       ∙ image_of-made

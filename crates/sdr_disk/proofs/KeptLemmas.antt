@@ -3,11 +3,11 @@ use Rattle.std.proofs.Common.{◌≡◌, ℕ, ◌+◌, ◌≤◌, List, [], ◌�
 use Rattle.std.proofs.Common.{length-append}
 use Rattle.std.proofs.lemmas.List.{map-append}
 use Rattle.sdr_disk.specs.History.{State, after, after_all, start, with_change, written_over}
-use Rattle.sdr_disk.specs.Kept.{AllReplace, Leads, Replaces, changes_of, history_of, undone, undone_all}
+use Rattle.sdr_disk.specs.Kept.{AllReplace, LeadsBytes, Replaces, changes_of, history_of, undone, undone_all}
 use Rattle.sdr_base.specs.Parts.{overwrite, part}
 use Rattle.sdr_disk.specs.declared.change.Change.{Change}
 use Rattle.sdr_disk.specs.declared.change.Change.TheVariants.{Write, Sync}
-use Rattle.sdr_disk.specs.declared.change.Kept.{Kept}
+use Rattle.sdr_disk.specs.declared.change.KeptChange.{KeptChange}
 use Rattle.sdr_disk.specs.declared.change.Outcome.{Outcome}
 use Rattle.sdr_disk.specs.declared.change.Outcome.TheVariants.{Done, Failed}
 use Rattle.sdr_disk.proofs.HistoryLemmas.{Agrees-written_over, after_all-push, read-sync}
@@ -30,14 +30,14 @@ undone-after (Write place from outcome) before s replaces =
 undone-after (Sync outcome) before s replaces = read-sync outcome s
 
 -- what these changes made of a state is undone again
-pub undone_all-after_all : (s : State) (kept : List Kept) → AllReplace s kept
+pub undone_all-after_all : (s : State) (kept : List KeptChange) → AllReplace s kept
     → undone_all kept (after_all s (changes_of kept)).read ≡ s.read
 undone_all-after_all s [] each = refl
 undone_all-after_all s (k ∷ kept) each =
     ap (undone k.change k.before) (undone_all-after_all (after s k.change) kept each.1)
     ∙ undone-after k.change k.before s each.0
 
-pub undone_all-push : (kept : List Kept) (k : Kept) (now : List ℕ)
+pub undone_all-push : (kept : List KeptChange) (k : KeptChange) (now : List ℕ)
     → undone_all (kept ++ k ∷ []) now ≡ undone_all kept (undone k.change k.before now)
 undone_all-push [] k now = refl
 undone_all-push (e ∷ kept) k now = ap (undone e.change e.before) (undone_all-push kept k now)
@@ -50,7 +50,7 @@ length-after (Write place from outcome) before s replaces =
     (Agrees-written_over outcome place from s.read [] replaces.0).long
 length-after (Sync outcome) before s replaces = ap length (read-sync outcome s)
 
-pub length-after_all : (s : State) (kept : List Kept) → AllReplace s kept
+pub length-after_all : (s : State) (kept : List KeptChange) → AllReplace s kept
     → length (after_all s (changes_of kept)).read ≡ length s.read
 length-after_all s [] each = refl
 length-after_all s (k ∷ kept) each =
@@ -58,34 +58,35 @@ length-after_all s (k ∷ kept) each =
 
 -- Changes one after another.
 
-pub changes_of-append : (front back : List Kept) → changes_of (front ++ back) ≡ changes_of front ++ changes_of back
-changes_of-append front back = map-append (λ (k : Kept). k.change) front back
+pub changes_of-append : (front back : List KeptChange) → changes_of (front ++ back) ≡ changes_of front
+    ++ changes_of back
+changes_of-append front back = map-append (λ (k : KeptChange). k.change) front back
 
-AllReplace-push : (s : State) (kept : List Kept) (k : Kept) → AllReplace s kept
+AllReplace-push : (s : State) (kept : List KeptChange) (k : KeptChange) → AllReplace s kept
     → Replaces k.change k.before (after_all s (changes_of kept)).read → AllReplace s (kept ++ k ∷ [])
 AllReplace-push s [] k each last = (last, tt)
 AllReplace-push s (e ∷ kept) k each last = (each.0, AllReplace-push (after s e.change) kept k each.1 last)
 
-pub AllReplace-back : (s : State) (front back : List Kept) → AllReplace s (front ++ back)
+pub AllReplace-back : (s : State) (front back : List KeptChange) → AllReplace s (front ++ back)
     → AllReplace (after_all s (changes_of front)) back
 AllReplace-back s [] back each = each
 AllReplace-back s (k ∷ front) back each = AllReplace-back (after s k.change) front back each.1
 
 -- what is kept and the bytes, now and then, are those of a history with a change more
-pub record Grows (change : Change) (kept kept' : List Kept) (now now' : List ℕ) : Type 0 where
+pub record Grows (change : Change) (kept kept' : List KeptChange) (now now' : List ℕ) : Type 0 where
   pub history : history_of kept' now' ≡ with_change change (history_of kept now)
-  pub leads : Leads (undone_all kept' now') kept' now'
+  pub leads : LeadsBytes (undone_all kept' now') kept' now'
   pub more : length kept' ≡ length kept + 1
 
 -- where a change makes other bytes of those now, and undoing it these again
-Grows-push : (k : Kept) (kept : List Kept) (now now' : List ℕ) → Leads (undone_all kept now) kept now
+Grows-push : (k : KeptChange) (kept : List KeptChange) (now now' : List ℕ) → LeadsBytes (undone_all kept now) kept now
     → Replaces k.change k.before now → ((s : State) → s.read ≡ now → (after s k.change).read ≡ now')
     → undone k.change k.before now' ≡ now → Grows k.change kept (kept ++ k ∷ []) now now'
 Grows-push k kept now now' leads replaces reads undoes = record {
   history =
       ap (λ (b : List ℕ). record { first = b; changes = changes_of (kept ++ k ∷ []) }) same
       ∙ ap (λ (l : List Change). record { first = first; changes = l }) (changes_of-append kept (k ∷ []));
-  leads = subst (λ (b : List ℕ). Leads b (kept ++ k ∷ []) now') (sym same) (record {
+  leads = subst (λ (b : List ℕ). LeadsBytes b (kept ++ k ∷ []) now') (sym same) (record {
     forth =
         ap (λ (l : List Change). (after_all (start first) l).read) (changes_of-append kept (k ∷ []))
         ∙ ap (λ (s : State). s.read) (after_all-push (start first) (changes_of kept) k.change)
@@ -104,16 +105,16 @@ Grows-push k kept now now' leads replaces reads undoes = record {
     same : undone_all (kept ++ k ∷ []) now' ≡ first
     same = undone_all-push kept k now' ∙ ap (undone_all kept) undoes
 
-Grows-moved : (change : Change) (kept kept' kept'' : List Kept) (now now' now'' : List ℕ)
+Grows-moved : (change : Change) (kept kept' kept'' : List KeptChange) (now now' now'' : List ℕ)
     → kept'' ≡ kept' → now'' ≡ now' → Grows change kept kept' now now' → Grows change kept kept'' now now''
 Grows-moved change kept kept' kept'' now now' now'' e f grows =
     subst (λ (b : List ℕ). Grows change kept kept'' now b) (sym f)
-    (subst (λ (l : List Kept). Grows change kept l now now') (sym e) grows)
+    (subst (λ (l : List KeptChange). Grows change kept l now now') (sym e) grows)
 
 -- one write more, by the equations that its steps give
 pub Grows-write : (outcome : Outcome) (place : ℕ) (from from' before : List ℕ)
-    (kept kept' : List Kept) (now now' : List ℕ)
-    → Leads (undone_all kept now) kept now → place + length from ≤ length now
+    (kept kept' : List KeptChange) (now now' : List ℕ)
+    → LeadsBytes (undone_all kept now) kept now → place + length from ≤ length now
     → from' ≡ from → before ≡ part place (length from) now
     → kept' ≡ kept ++ record { change = Write place from' outcome; before = before } ∷ []
     → now' ≡ written_over outcome place from now → Grows (Write place from outcome) kept kept' now now'
@@ -129,8 +130,8 @@ Grows-write outcome place from from' before kept kept' now now' leads inside sam
     (λ s e. ap (written_over outcome place from) e) undoes)
 
 -- one sync more
-pub Grows-sync : (outcome : Outcome) (before : List ℕ) (kept kept' : List Kept) (now : List ℕ)
-    → Leads (undone_all kept now) kept now
+pub Grows-sync : (outcome : Outcome) (before : List ℕ) (kept kept' : List KeptChange) (now : List ℕ)
+    → LeadsBytes (undone_all kept now) kept now
     → kept' ≡ kept ++ record { change = Sync outcome; before = before } ∷ [] → Grows (Sync outcome) kept kept' now now
 Grows-sync outcome before kept kept' now leads is =
     Grows-moved _ kept _ kept' now now now is refl

@@ -3,14 +3,14 @@ use Rattle.std.proofs.Common.{◌≡◌, ℕ, zero, suc, ◌+◌, ◌≤◌, Lis
 use Rattle.std.proofs.Common.{sym, ◌∙◌, subst, arith}
 use Rattle.std.specs.List.{AllByRecursion}
 use Rattle.std.proofs.lemmas.List.{length-replicate}
-use Rattle.sdr_disk.specs.History.{History, Leaves, MayLeave, State, Written, after, bytes_of, during, image_of}
+use Rattle.sdr_disk.specs.History.{History, Leaves, MayLeave, State, Written, after, bytes_read, during, image_of}
 use Rattle.sdr_disk.specs.History.{ranges_of, start, state_at, tear, tear_all}
-use Rattle.sdr_disk.specs.Kept.{AllReplace, Leads, Replaces, changes_of, history_of, undone_all}
+use Rattle.sdr_disk.specs.Kept.{AllReplace, LeadsBytes, Replaces, changes_of, history_of, undone_all}
 use Rattle.sdr_base.specs.Parts.{overwrite}
 use Rattle.sdr_disk.specs.Ranges.{Agrees, range}
 use Rattle.sdr_disk.specs.declared.change.Change.{Change}
 use Rattle.sdr_disk.specs.declared.change.Change.TheVariants.{Write, Sync}
-use Rattle.sdr_disk.specs.declared.change.Kept.{Kept}
+use Rattle.sdr_disk.specs.declared.change.KeptChange.{KeptChange}
 use Rattle.sdr_disk.specs.declared.change.Outcome.TheVariants.{Done, Failed}
 use Rattle.sdr_disk.specs.declared.torn.Torn.{Torn}
 use Rattle.sdr_disk.specs.declared.torn.Torn.TheVariants.{Old, New, Filled}
@@ -53,7 +53,7 @@ IsSound-after size s (Sync Done) before replaces sound =
     record { long = sound.long; agrees = Agrees-refl [] s.read; inside = tt }
 IsSound-after size s (Sync Failed) before replaces sound = sound
 
-IsSound-state_at : (size : ℕ) (s : State) (kept : List Kept) (m : ℕ) → AllReplace s kept → IsSound size s
+IsSound-state_at : (size : ℕ) (s : State) (kept : List KeptChange) (m : ℕ) → AllReplace s kept → IsSound size s
     → IsSound size (state_at s (changes_of kept) m)
 IsSound-state_at size s [] m each sound = sound
 IsSound-state_at size s (k ∷ kept) zero each sound = sound
@@ -91,19 +91,21 @@ Leaves-torn_in torn size s sound =
       same = λ i o. torn'.same i o ∙ sound.agrees.same i o;
     }
 
-MayLeave-image_of : (torn : Torn) (kept : List Kept) (now : List ℕ) (m : ℕ) → Leads (undone_all kept now) kept now
+MayLeave-image_of : (torn : Torn) (kept : List KeptChange) (now : List ℕ) (m : ℕ) → LeadsBytes (undone_all kept now)
+    kept now
     → MayLeave (history_of kept now) m (image_of torn (history_of kept now) m)
 MayLeave-image_of torn kept now m leads =
     let first = undone_all kept now in
-    let long : length first ≡ length (bytes_of (history_of kept now)) =
+    let long : length first ≡ length (bytes_read (history_of kept now)) =
     sym (length-after_all (start first) kept leads.each) in
     Leaves-torn_in torn _ (state_at (start first) (changes_of kept) m)
     (IsSound-state_at _ (start first) kept m leads.each
     (record { long = long; agrees = Agrees-refl [] first; inside = tt }))
 
 -- an image that equals that of a crash, in a history that what is kept stands for
-pub MayLeave-made : (torn : Torn) (kept : List Kept) (now : List ℕ) (m : ℕ) (h : History) (image : List ℕ)
-    → Leads (undone_all kept now) kept now → history_of kept now ≡ h → image ≡ image_of torn h m → MayLeave h m image
+pub MayLeave-made : (torn : Torn) (kept : List KeptChange) (now : List ℕ) (m : ℕ) (h : History) (image : List ℕ)
+    → LeadsBytes (undone_all kept now) kept now → history_of kept now ≡ h → image ≡ image_of torn h m →
+        MayLeave h m image
 MayLeave-made torn kept now m h image leads is made =
     subst (MayLeave h m) (sym made)
     (subst (λ (g : History). MayLeave g m (image_of torn g m)) is (MayLeave-image_of torn kept now m leads))

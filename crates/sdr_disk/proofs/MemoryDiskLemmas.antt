@@ -1,7 +1,7 @@
 -- What a disk in memory keeps as its history gets one write or sync more.
 use Rattle.std.proofs.Common.{◌≡◌, ◌+◌, ◌≤◌, ℕ, List, [], ◌∷◌, length, subst, sym, ◌∙◌, ap}
 use Rattle.std.specs.Prelude.{Some}
-use Rattle.sdr_disk.specs.History.{History, MayLeave, bytes_of, moment_of, with_change, written_over}
+use Rattle.sdr_disk.specs.History.{History, MayLeave, bytes_read, moment_of, with_change, written_over}
 use Rattle.sdr_disk.specs.MemoryDisk.{CrashLeaves, Memory, bytes_now, moment_now}
 use Rattle.sdr_disk.specs.Moments.{Only, Syncs, Writes}
 use Rattle.sdr_base.specs.Parts.{overwrite}
@@ -11,7 +11,7 @@ use Rattle.sdr_disk.specs.declared.change.Change.TheVariants.{Write, Sync}
 use Rattle.sdr_disk.specs.declared.change.Outcome.{Outcome}
 use Rattle.sdr_disk.specs.declared.change.Outcome.TheVariants.{Done}
 use Rattle.sdr_disk.proofs.HistoryLemmas.{Agrees-written_over, Only-synced, Syncs-push, Writes-push}
-use Rattle.sdr_disk.proofs.HistoryLemmas.{bytes_of-push, bytes_of-sync}
+use Rattle.sdr_disk.proofs.HistoryLemmas.{bytes_read-push, bytes_read-sync}
 
 -- The moments of a disk are those of its history.
 module _ (h h' : History) (old new : Memory) (before : old.history ≡ h) (now : new.history ≡ h') where
@@ -30,31 +30,32 @@ module _ (h h' : History) (old new : Memory) (before : old.history ≡ h) (now :
 
 -- One write more, inside the disk.
 module _ (place : ℕ) (from : List ℕ) (outcome : Outcome) (old new : History)
-    (is : new ≡ with_change (Write place from outcome) old) (inside : place + length from ≤ length (bytes_of old)) where
-  reads : bytes_of new ≡ written_over outcome place from (bytes_of old)
-  reads = ap bytes_of is ∙ bytes_of-push old (Write place from outcome)
+    (is : new ≡ with_change (Write place from outcome) old) (inside : place + length from ≤ length (bytes_read old))
+        where
+  reads : bytes_read new ≡ written_over outcome place from (bytes_read old)
+  reads = ap bytes_read is ∙ bytes_read-push old (Write place from outcome)
 
-  agrees : Agrees (range place (length from) ∷ []) (bytes_of old) (bytes_of new)
+  agrees : Agrees (range place (length from) ∷ []) (bytes_read old) (bytes_read new)
   agrees =
-      subst (Agrees (range place (length from) ∷ []) (bytes_of old)) (sym reads)
-      (Agrees-written_over outcome place from (bytes_of old) [] inside)
+      subst (Agrees (range place (length from) ∷ []) (bytes_read old)) (sym reads)
+      (Agrees-written_over outcome place from (bytes_read old) [] inside)
 
   pub write_written : outcome ≡ Done
-      → IfTold (Some (bytes_of old)) (λ x. Some (bytes_of new) ≡ Some (overwrite place from x))
+      → IfTold (Some (bytes_read old)) (λ x. Some (bytes_read new) ≡ Some (overwrite place from x))
   write_written done x told =
-      let e : bytes_of old ≡ x = cc in
-      let over = ap (λ (o : Outcome). written_over o place from (bytes_of old)) done in
+      let e : bytes_read old ≡ x = cc in
+      let over = ap (λ (o : Outcome). written_over o place from (bytes_read old)) done in
       ap Some (reads ∙ over ∙ ap (overwrite place from) e)
 
   pub write_others : (d d' : Memory) → d.history ≡ old → d'.history ≡ new
       → Both (bytes_now d) (bytes_now d') (Agrees (range place (length from) ∷ []))
   write_others d d' before now x told y tells =
-      let e : bytes_of old ≡ x = cc in
-      let f : bytes_of new ≡ y = cc in
+      let e : bytes_read old ≡ x = cc in
+      let f : bytes_read new ≡ y = cc in
       subst (λ (a : List ℕ). Agrees (range place (length from) ∷ []) a y) e
-      (subst (Agrees (range place (length from) ∷ []) (bytes_of old)) f agrees)
+      (subst (Agrees (range place (length from) ∷ []) (bytes_read old)) f agrees)
 
-  pub write_size : length (bytes_of new) ≡ length (bytes_of old)
+  pub write_size : length (bytes_read new) ≡ length (bytes_read old)
   write_size = agrees.long
 
   pub write_moments : (d d' : Memory) → d.history ≡ old → d'.history ≡ new
@@ -64,20 +65,21 @@ module _ (place : ℕ) (from : List ℕ) (outcome : Outcome) (old new : History)
 
 -- One sync more.
 module _ (outcome : Outcome) (old new : History) (is : new ≡ with_change (Sync outcome) old) where
-  pub sync_same : Some (bytes_of new) ≡ Some (bytes_of old)
-  sync_same = ap Some (ap bytes_of is ∙ bytes_of-sync old outcome)
+  pub sync_same : Some (bytes_read new) ≡ Some (bytes_read old)
+  sync_same = ap Some (ap bytes_read is ∙ bytes_read-sync old outcome)
 
-  pub sync_size : length (bytes_of new) ≡ length (bytes_of old)
-  sync_size = ap length (ap bytes_of is ∙ bytes_of-sync old outcome)
+  pub sync_size : length (bytes_read new) ≡ length (bytes_read old)
+  sync_size = ap length (ap bytes_read is ∙ bytes_read-sync old outcome)
 
   pub sync_moments : (d d' : Memory) → d.history ≡ old → d'.history ≡ new → Syncs moment_now CrashLeaves d d'
   sync_moments d d' before now = Syncs-history old _ d d' before (now ∙ is) (Syncs-push old outcome)
 
-  pub sync_durable : outcome ≡ Done → IfTold (Some (bytes_of new)) (λ x. Only x (MayLeave new (moment_of new)))
+  pub sync_durable : outcome ≡ Done → IfTold (Some (bytes_read new)) (λ x. Only x (MayLeave new (moment_of new)))
   sync_durable done x told image left =
-      let e : bytes_of new ≡ x = cc in
+      let e : bytes_read new ≡ x = cc in
       let good = is ∙ ap (λ (o : Outcome). with_change (Sync o) old) done in
-      subst (λ (h : History). Only (bytes_of h) (MayLeave h (moment_of h))) (sym good) (Only-synced old) image left ∙ e
+      subst (λ (h : History). Only (bytes_read h) (MayLeave h (moment_of h))) (sym good) (Only-synced old) image left
+          ∙ e
 
 -- for the clauses that the search answers with them
 pub ruleset writing = (write_written, write_size)

@@ -66,8 +66,8 @@ state_at s (change ∷ changes) (suc zero) = during s change
 state_at s (change ∷ changes) (suc (suc m)) = state_at (after s change) changes m
 
 -- the bytes that a read gives
-abbrev pub bytes_of : History → List ℕ
-bytes_of h = (after_all (start h.first) h.changes).read
+abbrev pub bytes_read : History → List ℕ
+bytes_read h = (after_all (start h.first) h.changes).read
 
 -- the moment now
 abbrev pub moment_of : History → ℕ
@@ -84,7 +84,7 @@ pub record Leaves (size : ℕ) (s : State) (image : List ℕ) : Type 0 where
 
 -- a crash at a moment may leave this image
 abbrev pub MayLeave : History → ℕ → List ℕ → Type 0
-MayLeave h m image = Leaves (length (bytes_of h)) (state_at (start h.first) h.changes m) image
+MayLeave h m image = Leaves (length (bytes_read h)) (state_at (start h.first) h.changes m) image
 
 -- an image after a write of which a crash left this much
 abbrev pub tear : Torn → Written → List ℕ → List ℕ

@@ -1,7 +1,7 @@
 -- The bytes as read are one of the images now.
 use Rattle.std.specs.Prelude.{◌≡◌, ℕ, zero, suc, ◌*◌, ◌≤◌, Some, List, [], ◌∷◌, length, refl}
 use Rattle.std.proofs.Common.{arith, subst, sym}
-use Rattle.sdr_disk.specs.History.{History, Leaves, MayLeave, State, after, after_all, bytes_of}
+use Rattle.sdr_disk.specs.History.{History, Leaves, MayLeave, State, after, after_all, bytes_read}
 use Rattle.sdr_disk.specs.History.{moment_of, start, state_at}
 use Rattle.sdr_disk.specs.Told.{IfTold}
 use Rattle.sdr_disk.specs.declared.change.Change.{Change}
@@ -15,12 +15,12 @@ state_at-now s (y ∷ changes) (suc zero) le = absurd (omega arith)
 state_at-now s (y ∷ changes) (suc (suc m)) le = state_at-now (after s y) changes m (omega arith)
 
 -- the bytes that a read gives are an image now
-pub MayLeave-read : (h : History) → MayLeave h (moment_of h) (bytes_of h)
+pub MayLeave-read : (h : History) → MayLeave h (moment_of h) (bytes_read h)
 MayLeave-read h =
-    subst (λ (s : State). Leaves (length (bytes_of h)) s (bytes_of h))
+    subst (λ (s : State). Leaves (length (bytes_read h)) s (bytes_read h))
     (sym (state_at-now (start h.first) h.changes (moment_of h) (omega arith)))
     (record { long = refl; same = λ i o. refl })
 
 -- so are the bytes that the disk tells
-pub told_read : (h : History) → IfTold (Some (bytes_of h)) (MayLeave h (moment_of h))
-told_read h x is = let e : bytes_of h ≡ x = cc in subst (MayLeave h (moment_of h)) e (MayLeave-read h)
+pub told_read : (h : History) → IfTold (Some (bytes_read h)) (MayLeave h (moment_of h))
+told_read h x is = let e : bytes_read h ≡ x = cc in subst (MayLeave h (moment_of h)) e (MayLeave-read h)

@@ -5,7 +5,7 @@ use Rattle.sdr_disk.specs.History.{State, after_all, start, tear}
 use Rattle.sdr_disk.specs.Kept.{changes_of}
 use Rattle.sdr_disk.specs.declared.change.Change.{Change}
 use Rattle.sdr_disk.specs.declared.change.Change.TheVariants.{Write, Sync}
-use Rattle.sdr_disk.specs.declared.change.Kept.{Kept}
+use Rattle.sdr_disk.specs.declared.change.KeptChange.{KeptChange}
 use Rattle.sdr_disk.specs.declared.change.Outcome.TheVariants.{Done, Failed}
 use Rattle.sdr_disk.specs.declared.torn.Torn.{Torn}
 
@@ -15,7 +15,7 @@ Fits size (Write place from outcome) before = (place + length from ≤ size) × 
 Fits size (Sync outcome) before = ⊤
 
 -- so did each of these changes
-abbrev pub AllFit : ℕ → List Kept → Type 0
+abbrev pub AllFit : ℕ → List KeptChange → Type 0
 AllFit size kept = AllByRecursion (λ k. Fits size k.change k.before) kept
 
 -- an image after a change of which a crash left this much
@@ -40,7 +40,7 @@ pub record IsSettled (s : State) : Type 0 where
   pub written : s.written ≡ []
 
 -- these changes are some up to a good sync, or none, and then some without
-pub record SplitsAtSync (kept : List Kept) (count : ℕ) : Type 0 where
+pub record SplitsAtSync (kept : List KeptChange) (count : ℕ) : Type 0 where
   pub within : count ≤ length kept
   pub settled : (first : List ℕ) → IsSettled (after_all (start first) (changes_of (take count kept)))
   pub since : AllByRecursion (λ k. is_good_sync k.change ≡ false) (drop count kept)

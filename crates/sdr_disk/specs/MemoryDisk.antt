@@ -2,7 +2,7 @@
 use Rattle.std.specs.Prelude.{◌≡◌, ◌↔◌, ℕ, List, length, Contains, Some, Result, IsErr, OnOk, OnErr}
 use Rattle.std.specs.declared.option.Option.{Option}
 use Rattle.sdr_base.specs.Causes.{counted}
-use Rattle.sdr_disk.specs.History.{History, MayLeave, bytes_of, moment_of, with_change}
+use Rattle.sdr_disk.specs.History.{History, MayLeave, bytes_read, moment_of, with_change}
 use Rattle.sdr_disk.specs.Moments.{IsAtEnd}
 use Rattle.sdr_disk.specs.declared.change.Change.{Change}
 use Rattle.sdr_disk.specs.declared.change.Outcome.{Outcome}
@@ -19,11 +19,11 @@ pub record Memory : Type 0 where
 
 -- how many bytes it has
 abbrev pub size_now : Memory → ℕ
-size_now d = length (bytes_of d.history)
+size_now d = length (bytes_read d.history)
 
 -- the bytes that a read gives, which it tells
 abbrev pub bytes_now : Memory → Option (List ℕ)
-bytes_now d = Some (bytes_of d.history)
+bytes_now d = Some (bytes_read d.history)
 
 -- its moment
 abbrev pub moment_now : Memory → ℕ
@@ -62,7 +62,7 @@ pub data Fails (change : Outcome → Change) (old new : Memory) : Type 0 where
   listed : Contains old.failing (counted old.calls) → new ≡ changed (change Failed) (failed old) → Fails change old new
 
 -- how a write or a sync is answered, and what the disk is then
-pub record Answers {T E : Type 0} (change : Outcome → Change) (result : Result T E) (old new : Memory) : Type 0 where
+pub record CallsDisk {T E : Type 0} (change : Outcome → Change) (result : Result T E) (old new : Memory) : Type 0 where
   pub ok : OnOk result (new ≡ changed (change Done) (called old))
   pub err : OnErr result (Fails change old new)
   pub listed : Contains old.failing (counted old.calls) → IsErr result

@@ -8,7 +8,7 @@ abbrev pub Only : List ℕ → (List ℕ → Type 0) → Type 0
 Only bytes left = (image : List ℕ) → left image → image ≡ bytes
 
 -- up to a moment a crash may leave what it might have left before: all of that, and nothing else
-pub record Keeps (before : ℕ) (old new : ℕ → List ℕ → Type 0) : Type 0 where
+pub record SamePast (before : ℕ) (old new : ℕ → List ℕ → Type 0) : Type 0 where
   pub now_then : (m : ℕ) (image : List ℕ) → m ≤ before → new m image → old m image
   pub then_now : (m : ℕ) (image : List ℕ) → m ≤ before → old m image → new m image
 
@@ -28,41 +28,41 @@ abbrev pub Waits : ℕ → ℕ → (ℕ → List ℕ → Type 0) → (ℕ → Li
 Waits before now old new = (m : ℕ) (image : List ℕ) → before < m → m ≤ now → new m image → old before image
 
 -- the moments of a call that writes so many bytes at a place, whether it succeeds or not
-pub record Writes {D : Type 0} (moment : D → ℕ) (may_leave : D → ℕ → List ℕ → Type 0)
+pub record Writes {D : Type 0} (moment : D → ℕ) (may_hold_after : D → ℕ → List ℕ → Type 0)
     (place count : ℕ) (old new : D) : Type 0 where
   pub later : moment old ≤ moment new
   pub soon : moment new ≤ moment old + 2
-  pub past : Keeps (moment old) (may_leave old) (may_leave new)
-  pub torn : Tears (moment old) (moment new) place count (may_leave old) (may_leave new)
+  pub past : SamePast (moment old) (may_hold_after old) (may_hold_after new)
+  pub torn : Tears (moment old) (moment new) place count (may_hold_after old) (may_hold_after new)
 
 -- the moments of a call that syncs, whether it succeeds or not
-pub record Syncs {D : Type 0} (moment : D → ℕ) (may_leave : D → ℕ → List ℕ → Type 0)
+pub record Syncs {D : Type 0} (moment : D → ℕ) (may_hold_after : D → ℕ → List ℕ → Type 0)
     (old new : D) : Type 0 where
   pub later : moment old ≤ moment new
   pub soon : moment new ≤ moment old + 2
-  pub past : Keeps (moment old) (may_leave old) (may_leave new)
-  pub waits : Waits (moment old) (moment new) (may_leave old) (may_leave new)
+  pub past : SamePast (moment old) (may_hold_after old) (may_hold_after new)
+  pub waits : Waits (moment old) (moment new) (may_hold_after old) (may_hold_after new)
 
 -- nothing but reads went on: the bytes, the moment and what a crash may leave stay
 pub record Reads {D : Type 0} (bytes : D → Option (List ℕ)) (moment : D → ℕ)
-    (may_leave : D → ℕ → List ℕ → Type 0) (old new : D) : Type 0 where
+    (may_hold_after : D → ℕ → List ℕ → Type 0) (old new : D) : Type 0 where
   pub same : bytes new ≡ bytes old
   pub time : moment new ≡ moment old
-  pub past : Keeps (moment old) (may_leave old) (may_leave new)
+  pub past : SamePast (moment old) (may_hold_after old) (may_hold_after new)
 
 -- a call that was made raised the moment by two, and one that was not made changed nothing
 abbrev pub RisesOrStays : {D : Type 0} → (D → Option (List ℕ)) → (D → ℕ)
     → (D → ℕ → List ℕ → Type 0) → D → D → Type 0
-RisesOrStays bytes moment may_leave old new =
-    (moment new ≡ moment old + 2) ⊎ Reads bytes moment may_leave old new
+RisesOrStays bytes moment may_hold_after old new =
+    (moment new ≡ moment old + 2) ⊎ Reads bytes moment may_hold_after old new
 
 -- one call more would bring the moment past its end
 abbrev pub IsAtEnd : ℕ → Type 0
 IsAtEnd moment = 2 ^ 64 - 1 < moment + 2
 
 -- at each moment from old to new a crash leaves only what has P
-pub record AtEach {D : Type 0} (moment : D → ℕ) (may_leave : D → ℕ → List ℕ → Type 0)
+pub record AtEach {D : Type 0} (moment : D → ℕ) (may_hold_after : D → ℕ → List ℕ → Type 0)
     (old new : D) (P : List ℕ → Type 0) : Type 0 where
   pub later : moment old ≤ moment new
-  pub each : (m : ℕ) (image : List ℕ) → moment old ≤ m → m ≤ moment new → may_leave new m image → P image
-  pub past : (m : ℕ) (image : List ℕ) → m ≤ moment old → may_leave new m image → may_leave old m image
+  pub each : (m : ℕ) (image : List ℕ) → moment old ≤ m → m ≤ moment new → may_hold_after new m image → P image
+  pub past : (m : ℕ) (image : List ℕ) → m ≤ moment old → may_hold_after new m image → may_hold_after old m image

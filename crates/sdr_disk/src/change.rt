@@ -21,7 +21,7 @@ pub enum Change {
 
 /// A change, with what stood where it wrote.
 #[derive(Drop)]
-pub struct Kept {
+pub struct KeptChange {
     pub change: Change,
     pub before: Bytes,
 }

@@ -3,7 +3,7 @@ ghost use Rattle.std.specs.Prelude.{◌≡◌, ◌≤◌, ◌+◌, ℕ, List, []
 ghost use Rattle.std.specs.Prelude.{IsErr, OnOk, Some, is_some};
 ghost use Rattle.std.specs.declared.option.Option.{Option};
 ghost use Rattle.sdr_base.specs.Causes.{HasCause};
-ghost use Rattle.sdr_disk.specs.Moments.{IsAtEnd, Keeps, Only, Reads};
+ghost use Rattle.sdr_disk.specs.Moments.{IsAtEnd, SamePast, Only, Reads};
 ghost use Rattle.sdr_disk.specs.Moments.{RisesOrStays, Syncs, Writes};
 ghost use Rattle.sdr_base.specs.Parts.{overwrite, part};
 ghost use Rattle.sdr_disk.specs.Ranges.{Agrees, range};
@@ -28,7 +28,7 @@ pub trait Disk {
     ghost moment: { Self → ℕ };
 
     /// Whether a crash at a moment may leave this image.
-    ghost may_leave: { Self → ℕ → List ℕ → Type 0 };
+    ghost may_hold_after: { Self → ℕ → List ℕ → Type 0 };
 
     /// The number of its bytes.
     fn len(&self) -> u64
@@ -46,7 +46,7 @@ pub trait Disk {
         ensures size { size self.new ≡ size self.old }
 
         ensures time { moment self.new ≡ moment self.old }
-        ensures past { Keeps (moment self.old) (may_leave self.old) (may_leave self.new) };
+        ensures past { SamePast (moment self.old) (may_hold_after self.old) (may_hold_after self.new) };
 
     /// Writes bytes from a place on. Until a sync succeeds a crash may leave any bytes in their
     /// range, and so it may where the write fails.
@@ -59,8 +59,8 @@ pub trait Disk {
 
         // A write that would bring the moment past its end fails and changes nothing.
         ensures end { IsAtEnd (moment self.old) →
-            IsErr result × Reads bytes moment may_leave self.old self.new }
-        ensures made { RisesOrStays bytes moment may_leave self.old self.new }
+            IsErr result × Reads bytes moment may_hold_after self.old self.new }
+        ensures made { RisesOrStays bytes moment may_hold_after self.old self.new }
         ensures cause { HasCause (faults self.old) (faults self.new) result }
 
         ensures others { Both (bytes self.old) (bytes self.new)
@@ -68,7 +68,7 @@ pub trait Disk {
         ensures tells { is_some (bytes self.new) ≡ is_some (bytes self.old) }
         ensures size { size self.new ≡ size self.old }
 
-        ensures moments { Writes moment may_leave place (length from.now) self.old self.new };
+        ensures moments { Writes moment may_hold_after place (length from.now) self.old self.new };
 
     /// Makes all that was written last. Where it fails, a crash may still leave any bytes in the
     /// ranges that were written since the last sync that succeeded.
@@ -77,16 +77,16 @@ pub trait Disk {
 
         // A sync that would bring the moment past its end fails and changes nothing.
         ensures end { IsAtEnd (moment self.old) →
-            IsErr result × Reads bytes moment may_leave self.old self.new }
-        ensures made { RisesOrStays bytes moment may_leave self.old self.new }
+            IsErr result × Reads bytes moment may_hold_after self.old self.new }
+        ensures made { RisesOrStays bytes moment may_hold_after self.old self.new }
         ensures cause { HasCause (faults self.old) (faults self.new) result }
 
         ensures same { bytes self.new ≡ bytes self.old }
         ensures size { size self.new ≡ size self.old }
 
         ensures durable { OnOk result (IfTold (bytes self.new)
-            (λ x. Only x (may_leave self.new (moment self.new)))) }
-        ensures moments { Syncs moment may_leave self.old self.new };
+            (λ x. Only x (may_hold_after self.new (moment self.new)))) }
+        ensures moments { Syncs moment may_hold_after self.old self.new };
 
     /// The disk's moment.
     fn now(&self) -> u64
@@ -97,8 +97,8 @@ pub trait Disk {
 
     /// Where the disk tells its bytes, each image at a moment up to now is as long.
     ghost long: { (d : Self) → IfTold (bytes d) (λ _.
-        (m : ℕ) (image : List ℕ) → m ≤ moment d → may_leave d m image → length image ≡ size d) };
+        (m : ℕ) (image : List ℕ) → m ≤ moment d → may_hold_after d m image → length image ≡ size d) };
 
     /// The bytes as read are one of the images now.
-    ghost read_now: { (d : Self) → IfTold (bytes d) (may_leave d (moment d)) };
+    ghost read_now: { (d : Self) → IfTold (bytes d) (may_hold_after d (moment d)) };
 }

@@ -5,7 +5,7 @@ ghost use Rattle.sdr_disk.specs.History.{written_over};
 ghost use Rattle.sdr_disk.specs.Moments.{IsAtEnd};
 
 use crate::Torn;
-use crate::change::{Change, Kept, Outcome};
+use crate::change::{Change, KeptChange, Outcome};
 use crate::image::crash;
 use sdr_base::{Bytes, Items, NoMemory, put_at};
 use std::marker::Model;
@@ -16,7 +16,7 @@ use std::marker::Model;
 pub struct History {
     /// The bytes that a read gives.
     bytes: Vec<u8>,
-    changes: Items<Kept>,
+    changes: Items<KeptChange>,
     /// How many changes have begun, and how many have returned, together.
     moment: u64,
 }
@@ -24,19 +24,19 @@ pub struct History {
 impl Model for History {
     ghost use Rattle.std.specs.Prelude.{◌≡◌, ◌*◌, length};
     ghost use Rattle.sdr_disk.specs.History.{History};
-    ghost use Rattle.sdr_disk.specs.Kept.{Leads, history_of, undone_all};
+    ghost use Rattle.sdr_disk.specs.Kept.{LeadsBytes, history_of, undone_all};
 
     ghost Value = { History };
 
     ghost view = { λ h. history_of h.changes h.bytes.items };
 
     ghost invariant = { λ h.
-        Leads (undone_all h.changes h.bytes.items) h.changes h.bytes.items
+        LeadsBytes (undone_all h.changes h.bytes.items) h.changes h.bytes.items
         × (h.moment ≡ 2 * length h.changes) };
 }
 
 impl History {
-    ghost use Rattle.sdr_disk.specs.History.{MayLeave, bytes_of, image_of, moment_of, with_change};
+    ghost use Rattle.sdr_disk.specs.History.{MayLeave, bytes_read, image_of, moment_of, with_change};
     ghost use Rattle.sdr_disk.specs.declared.change.Change.TheVariants.{Write, Sync};
 
     /// No change yet. It takes no memory.
@@ -53,7 +53,7 @@ impl History {
 
     /// The bytes that a read gives.
     pub fn bytes(&self) -> &[u8]
-        ensures { result.now ≡ bytes_of self.now }
+        ensures { result.now ≡ bytes_read self.now }
     {
         self.bytes.as_slice()
     }
@@ -74,7 +74,7 @@ impl History {
 
     /// Makes a write, by which a read gives other bytes only where it is done.
     pub fn write(&mut self, place: u64, from: &[u8], outcome: Outcome) -> Result<(), NoMemory>
-        requires inside { place + length from.now ≤ length (bytes_of self.old) }
+        requires inside { place + length from.now ≤ length (bytes_read self.old) }
         requires room { moment_of self.old + 2 < 2 ^ 64 }
         ensures ok { OnOk result (self.new ≡ with_change (Write place from.now outcome) self.old) }
         ensures same { OnErr result (self.new ≡ self.old) }
@@ -123,7 +123,7 @@ impl History {
 
 // Keeps one change more, which takes two moments.
 fn keep(
-    changes: &mut Items<Kept>,
+    changes: &mut Items<KeptChange>,
     moment: &mut u64,
     change: Change,
     before: Bytes,
@@ -134,7 +134,7 @@ fn keep(
     ensures rises { OnOk result (moment.new ≡ moment.old + 2) }
     ensures same { OnErr result ((changes.new ≡ changes.old) × (moment.new ≡ moment.old)) }
 {
-    changes.push(Kept { change, before })?;
+    changes.push(KeptChange { change, before })?;
     *moment += 2;
     Ok(())
 }

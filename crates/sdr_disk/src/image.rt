@@ -4,16 +4,16 @@ ghost use Rattle.sdr_base.specs.Parts.{overwrite};
 ghost use Rattle.sdr_disk.specs.History.{image_of};
 ghost use Rattle.sdr_disk.specs.Image.{AllFit, Fits, SplitsAtSync, is_good_sync};
 ghost use Rattle.sdr_disk.specs.Image.{tear_change, tear_changes};
-ghost use Rattle.sdr_disk.specs.Kept.{Leads, changes_of, history_of, undone, undone_all};
+ghost use Rattle.sdr_disk.specs.Kept.{LeadsBytes, changes_of, history_of, undone, undone_all};
 
 use crate::Torn;
-use crate::change::{Change, Kept, Outcome};
+use crate::change::{Change, KeptChange, Outcome};
 use sdr_base::put_at;
 
 /// Makes of the bytes now the image of a crash at a moment: the bytes at the last good sync that
 /// had returned, with each write that had begun since torn.
-pub fn crash(kept: &[Kept], moment: u64, torn: Torn, image: &mut [u8])
-    requires { Leads (undone_all kept.now image.old) kept.now image.old }
+pub fn crash(kept: &[KeptChange], moment: u64, torn: Torn, image: &mut [u8])
+    requires { LeadsBytes (undone_all kept.now image.old) kept.now image.old }
     ensures { image.new ≡ image_of torn (history_of kept.now image.old) moment }
 {
     let last = synced(returned(kept, moment));
@@ -22,21 +22,21 @@ pub fn crash(kept: &[Kept], moment: u64, torn: Torn, image: &mut [u8])
 }
 
 // The changes that had returned by a moment: each takes two, its begin and its return.
-fn returned(kept: &[Kept], moment: u64) -> &[Kept]
+fn returned(kept: &[KeptChange], moment: u64) -> &[KeptChange]
     ensures { result.now ≡ take (moment / 2) kept.now }
 {
     &kept[..(moment / 2).min(kept.len() as u64) as usize]
 }
 
 // The changes that had begun by a moment.
-fn begun(kept: &[Kept], moment: u64) -> &[Kept]
+fn begun(kept: &[KeptChange], moment: u64) -> &[KeptChange]
     ensures { result.now ≡ take (moment / 2 + moment % 2) kept.now }
 {
     &kept[..(moment / 2 + moment % 2).min(kept.len() as u64) as usize]
 }
 
 // How many changes there are up to the last good sync, itself among them.
-fn synced(kept: &[Kept]) -> usize
+fn synced(kept: &[KeptChange]) -> usize
     ensures { SplitsAtSync kept.now result }
 {
     let mut count = kept.len();
@@ -55,7 +55,7 @@ fn is_good_sync(change: &Change) -> bool
 
 // Puts back what stood where these changes wrote, the last one first.
 #[tactic(auto, using(crate::proofs::ImageLemmas::undoing))]
-fn undo_all(kept: &[Kept], image: &mut [u8])
+fn undo_all(kept: &[KeptChange], image: &mut [u8])
     requires { AllFit (length image.old) kept.now }
     ensures { image.new ≡ undone_all kept.now image.old }
 {
@@ -67,7 +67,7 @@ fn undo_all(kept: &[Kept], image: &mut [u8])
 }
 
 // Puts back what stood where a change wrote.
-fn undo(kept: &Kept, image: &mut [u8])
+fn undo(kept: &KeptChange, image: &mut [u8])
     requires { Fits (length image.old) kept.now.change kept.now.before }
     ensures { image.new ≡ undone kept.now.change kept.now.before image.old }
 {
@@ -77,7 +77,7 @@ fn undo(kept: &Kept, image: &mut [u8])
 }
 
 // Puts into an image what a crash leaves of these changes, the first one first.
-fn tear_all(kept: &[Kept], torn: Torn, image: &mut [u8])
+fn tear_all(kept: &[KeptChange], torn: Torn, image: &mut [u8])
     requires { AllFit (length image.old) kept.now }
     ensures { image.new ≡ tear_changes torn (changes_of kept.now) image.old }
 {
@@ -89,7 +89,7 @@ fn tear_all(kept: &[Kept], torn: Torn, image: &mut [u8])
 }
 
 // Puts into an image what a crash leaves of a change.
-fn tear(kept: &Kept, torn: Torn, image: &mut [u8])
+fn tear(kept: &KeptChange, torn: Torn, image: &mut [u8])
     requires { Fits (length image.old) kept.now.change kept.now.before }
     ensures { image.new ≡ tear_change torn kept.now.change image.old }
 {

@@ -2,7 +2,7 @@
 ghost use Rattle.std.specs.Prelude.{◌≡◌, ◌↔◌, ◌+◌, ◌≤◌, [], ◌∷◌, length, refl};
 ghost use Rattle.std.specs.Prelude.{Contains, IfOk, IsErr, OnOk, Some, is_some};
 ghost use Rattle.sdr_base.specs.Causes.{HasCause, counted};
-ghost use Rattle.sdr_disk.specs.Moments.{IsAtEnd, Keeps, Only, Reads};
+ghost use Rattle.sdr_disk.specs.Moments.{IsAtEnd, SamePast, Only, Reads};
 ghost use Rattle.sdr_disk.specs.Moments.{RisesOrStays, Syncs, Writes};
 ghost use Rattle.sdr_base.specs.Parts.{overwrite, part};
 ghost use Rattle.sdr_disk.specs.Ranges.{Agrees, range};
@@ -72,7 +72,7 @@ impl MemoryDisk {
     pub fn image_at(&self, moment: u64, torn: Torn) -> Result<Vec<u8>, NoMemory>
         ensures image { IfOk result (λ image. image.items ≡ image_of torn self.now.history moment) }
         ensures left { IfOk result (λ image.
-            ⟦<MemoryDisk as Disk>⟧.may_leave self.now moment image.items) }
+            ⟦<MemoryDisk as Disk>⟧.may_hold_after self.now moment image.items) }
     {
         self.history.image_at(moment, torn)
     }
@@ -129,7 +129,7 @@ impl MemoryDisk {
 
 impl Disk for MemoryDisk {
     ghost use Rattle.sdr_disk.specs.HistoryLaws.{told_read};
-    ghost use Rattle.sdr_disk.specs.MemoryDisk.{Answers, AnswersRead, CrashLeaves};
+    ghost use Rattle.sdr_disk.specs.MemoryDisk.{CallsDisk, AnswersRead, CrashLeaves};
     ghost use Rattle.sdr_disk.specs.MemoryDisk.{bytes_now, moment_now, size_now};
     ghost use Rattle.sdr_disk.specs.declared.change.Change.TheVariants.{Write, Sync};
 
@@ -141,7 +141,7 @@ impl Disk for MemoryDisk {
 
     ghost moment = { moment_now };
 
-    ghost may_leave = { CrashLeaves };
+    ghost may_hold_after = { CrashLeaves };
 
     ghost told = { λ _. refl };
 
@@ -164,7 +164,7 @@ impl Disk for MemoryDisk {
         ensures size { size_now self.new ≡ size_now self.old }
 
         ensures time { moment_now self.new ≡ moment_now self.old }
-        ensures past { Keeps (moment_now self.old) (CrashLeaves self.old) (CrashLeaves self.new) }
+        ensures past { SamePast (moment_now self.old) (CrashLeaves self.old) (CrashLeaves self.new) }
 
         // It fails just where its number is listed.
         ensures answers { AnswersRead result self.old self.new }
@@ -199,7 +199,7 @@ impl Disk for MemoryDisk {
 
         // It fails just where its number is listed, at the end of the moments, and where its record
         // found no memory.
-        ensures answers { Answers (Write place from.now) result self.old self.new }
+        ensures answers { CallsDisk (Write place from.now) result self.old self.new }
     {
         let outcome = self.begin();
         if self.history.is_at_end() {
@@ -232,7 +232,7 @@ impl Disk for MemoryDisk {
 
         // It fails just where its number is listed, at the end of the moments, and where its record
         // found no memory.
-        ensures answers { Answers Sync result self.old self.new }
+        ensures answers { CallsDisk Sync result self.old self.new }
     {
         let outcome = self.begin();
         if self.history.is_at_end() {

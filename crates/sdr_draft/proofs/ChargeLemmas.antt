@@ -19,7 +19,7 @@ use Rattle.sdr_parts.proofs.CappedLemmas.{capped-small}
 use Rattle.sdr_model.proofs.AmountLemmas.{amount-by}
 use Rattle.sdr_model.specs.Amounts.{amount, amounts_by, first_above, minus}
 use Rattle.sdr_model.specs.Charges.{occupancies, occupancy, rooms}
-use Rattle.sdr_model.specs.Charging.{Charges, OnTicket, grant_left, no_space, with_used}
+use Rattle.sdr_model.specs.Charging.{Charges, OnTicket, grant_left, no_space, with_covered}
 use Rattle.sdr_model.specs.Queue.{barrier}
 use Rattle.sdr_model.specs.Steps.{Outcome, Refuses}
 use Rattle.sdr_model.specs.World.{World}
@@ -65,7 +65,7 @@ module _ (w : World) (acct : Acct) (uncovered : Amounts) where
 
 -- what a charge used is given back
 pub with_back-used : (w : World) (p : Option Pending) (amounts : Amounts) → IfSome p (IsInPlace w.accounts)
-    → with_back (with_used w p amounts) p ≡ w
+    → with_back (with_covered w p amounts) p ≡ w
 with_back-used w None amounts stands = refl
 with_back-used w (Some p) amounts stands =
     let used = record p.ticket { left = minus p.ticket.left amounts } in
@@ -101,19 +101,19 @@ not_refused w o (Some t) f g P is p = cc
 -- a charge that the account allows goes on
 pub charge_allowed : (w : World) (o : Outcome) (acct : Acct) (number : ℕ) (charge : Space
     → ℕ) (amounts : Amounts) (p : Option Pending)
-    (goes : World → Type 0) → amounts ≡ amounts_by charge → MayCharge w acct number amounts p → goes (with_used w p amounts)
+    (goes : World → Type 0) → amounts ≡ amounts_by charge → MayCharge w acct number amounts p → goes (with_covered w p amounts)
     → Charges w o acct number charge goes
 charge_allowed w o acct number charge amounts p goes is may g =
     on_grant w o acct number p
     (λ p. MatchOption (barrier (minus (amounts_by charge) (grant_left p)) (tickets_of w.accounts acct))
-    (MatchOption (first_above (minus (amounts_by charge) (grant_left p)) (rooms w acct)) (goes (with_used w p (amounts_by charge)))
+    (MatchOption (first_above (minus (amounts_by charge) (grant_left p)) (rooms w acct)) (goes (with_covered w p (amounts_by charge)))
     (λ space. Refuses w o (no_space w acct (minus (amounts_by charge) (grant_left p)) space))) (λ t. Refuses w o (refusals.Queue t.number)))
     may.ticket
     (not_refused w o (barrier (minus (amounts_by charge) (grant_left p)) (tickets_of w.accounts acct))
     (first_above (minus (amounts_by charge) (grant_left p)) (rooms w acct))
-    (no_space w acct (minus (amounts_by charge) (grant_left p))) (goes (with_used w p (amounts_by charge)))
+    (no_space w acct (minus (amounts_by charge) (grant_left p))) (goes (with_covered w p (amounts_by charge)))
     (subst (λ a. refusal_of w acct (minus a (grant_left p)) ≡ None) is may.allowed)
-    (subst (λ a. goes (with_used w p a)) is g))
+    (subst (λ a. goes (with_covered w p a)) is g))
 
 refused_by : (w : World) (refusal : Refusal) (b : Option Ticket) (f : Option Space) (g : Space → Refusal) (P : Type 0)
     → refusal_by b (option_map g f) ≡ Some refusal
@@ -166,7 +166,7 @@ charge_refused w o acct number charge amounts refusal goes is refuses h =
         MatchOption (barrier uncovered (tickets_of w.accounts acct))
         (MatchOption (first_above uncovered (rooms w acct)) ⊥ (λ space. Refuses w first (no_space w acct uncovered space))) (λ t. Refuses w first (refusals.Queue t.number))
         → MatchOption (barrier uncovered (tickets_of w.accounts acct))
-        (MatchOption (first_above uncovered (rooms w acct)) (goes (with_used w p (amounts_by charge))) (λ space. Refuses w o (no_space w acct uncovered space)))
+        (MatchOption (first_above uncovered (rooms w acct)) (goes (with_covered w p (amounts_by charge))) (λ space. Refuses w o (no_space w acct uncovered space)))
         (λ t. Refuses w o (refusals.Queue t.number))
     covered p =
         let uncovered = minus (amounts_by charge) (grant_left p) in

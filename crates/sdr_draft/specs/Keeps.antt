@@ -3,7 +3,7 @@ use Rattle.sdr_undo.specs.Draft.{Draft}
 use Rattle.std.specs.Prelude.{◌≡◌, ℕ, Contains, true}
 
 -- The world at the begin is as it was, and accounts that may be changed still may.
-pub record Keeps (old new : Draft) : Type 0 where
+pub record SameBegin (old new : Draft) : Type 0 where
   pub begun : new.begun ≡ old.begun
   pub saved : old.saved ≡ true → new.saved ≡ true
 

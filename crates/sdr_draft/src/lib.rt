@@ -6,7 +6,7 @@
 //!
 //! Proved: by the invariant of `Undoable` things own the blocks inside them (`AllOwnInside`). Blocks, charges,
 //! rooms, uses and the source of a raw object are found as defined (`block`, `charged`, `room`, `uses`,
-//! `source_on`). `put_back` gives the world at begin.
+//! `source_on`). `roll_back` gives the world at begin.
 #![tactic(auto)]
 
 mod undoable;

@@ -9,7 +9,7 @@ ghost use Rattle.sdr_model.specs.Steps.{with_thing, without_thing};
 ghost use Rattle.sdr_model.specs.Things.{IsWithin, SpotIs, inner_among, inner_blocks};
 ghost use Rattle.sdr_model.specs.World.{at_rest, block_at, empty_world, is_marked, spot_of, thing_at};
 ghost use Rattle.sdr_model.specs.declared.things.Thing.{Thing};
-ghost use Rattle.sdr_draft.specs.Keeps.{Keeps, StayTouched};
+ghost use Rattle.sdr_draft.specs.Keeps.{SameBegin, StayTouched};
 ghost use Rattle.sdr_undo.specs.Owners.{MayHave, MayPut};
 
 mod blocks;
@@ -19,7 +19,7 @@ mod things;
 mod uses;
 
 use sdr_base::{Addr, Bytes, Items, NoMemory};
-use sdr_model::{Accounts, Block, Spot, Thing};
+use sdr_model::{Accounts, UsedBlock, Spot, Thing};
 use sdr_undo::{Catalogue, Ledger, Named, Names, Owners, Store};
 use std::alloc::Global;
 use std::marker::Model;
@@ -120,7 +120,7 @@ impl Undoable {
     }
 
     // The block at an address inside one of the things, which its owner alone can have.
-    fn inner_block(&self, addr: Addr) -> Option<Block>
+    fn inner_block(&self, addr: Addr) -> Option<UsedBlock>
         ensures { result ≡ inner_among addr (map.entries self.now.now.things) }
     {
         let owner = self.owners.get(addr)?;
@@ -129,7 +129,7 @@ impl Undoable {
     }
 
     /// The block that begins at an address. It looks into one thing at most.
-    pub fn block(&self, addr: Addr) -> Option<Block>
+    pub fn block(&self, addr: Addr) -> Option<UsedBlock>
         ensures { result ≡ block_at self.now.now addr }
     {
         if let Some(thing) = self.things.get(addr) {
@@ -168,7 +168,7 @@ impl Undoable {
     pub fn unmark(&mut self, marks: usize)
         ensures unmarked { self.new.now ≡ record self.old.now { marks = take marks self.old.now.marks } }
         ensures others { StayTouched self.old self.new }
-        ensures keeps { Keeps self.old self.new }
+        ensures keeps { SameBegin self.old self.new }
     {
         self.marks.truncate(marks);
     }
@@ -179,7 +179,7 @@ impl Undoable {
         ensures addr { IfOk result (λ addr. addr ≡ next_addr self.old.now.taken) }
         ensures marked { IfOk result (λ addr.
             self.new.now ≡ record self.old.now { marks = self.old.now.marks ++ addr ∷ [] }) }
-        ensures keeps { Keeps self.old self.new }
+        ensures keeps { SameBegin self.old self.new }
         ensures owners { self.new.owners ≡ self.old.owners }
         ensures same { OnErr result (self.new.now ≡ self.old.now) }
     {
@@ -196,7 +196,7 @@ impl Undoable {
         ensures marked { IfOk result (λ addr.
             self.new.now ≡ record self.old.now { marks = self.old.now.marks ++ addr ∷ [] }) }
         ensures noted { IfOk result (λ addr. map.get self.new.owners addr ≡ Some owner) }
-        ensures keeps { Keeps self.old self.new }
+        ensures keeps { SameBegin self.old self.new }
         ensures same { OnErr result (self.new.now ≡ self.old.now) }
     {
         let addr = 8 * (self.taken + 1);
@@ -212,7 +212,7 @@ impl Undoable {
         ensures addr { IfOk result (λ addr. addr ≡ next_addr self.old.now.taken) }
         ensures made { IfOk result (λ addr.
             self.new.now ≡ with_taken (with_thing self.old.now addr thing) addr) }
-        ensures keeps { Keeps self.old self.new }
+        ensures keeps { SameBegin self.old self.new }
         ensures same { OnErr result (self.new.now ≡ self.old.now) }
     {
         let addr = 8 * (self.taken + 1);
@@ -231,7 +231,7 @@ impl Undoable {
         ensures owners { self.new.owners ≡ self.old.owners }
         ensures touched { OnOk result (Contains self.new.touched addr) }
         ensures others { StayTouched self.old self.new }
-        ensures keeps { Keeps self.old self.new }
+        ensures keeps { SameBegin self.old self.new }
     {
         self.things.touch(addr)
     }
@@ -241,7 +241,7 @@ impl Undoable {
         requires touched { Contains self.old.touched addr }
         ensures dropped { self.new.now ≡ without_thing self.old.now addr }
         ensures others { StayTouched self.old self.new }
-        ensures keeps { Keeps self.old self.new }
+        ensures keeps { SameBegin self.old self.new }
     {
         self.things.put(addr, None);
     }
@@ -249,7 +249,7 @@ impl Undoable {
     /// Lets the thing at an address go, with no bytes shown. Want of memory leaves the world as before.
     pub fn lose(&mut self, addr: Addr) -> Result<(), NoMemory>
         ensures lost { OnOk result (self.new.now ≡ record (without_thing self.old.now addr) { shown = [] }) }
-        ensures keeps { Keeps self.old self.new }
+        ensures keeps { SameBegin self.old self.new }
         ensures same { OnErr result (self.new.now ≡ self.old.now) }
     {
         self.touch(addr)?;
@@ -270,7 +270,7 @@ impl Undoable {
         ensures touched { OnOk result (Contains self.new.touched addr) }
         ensures owners { self.new.owners ≡ self.old.owners }
         ensures others { StayTouched self.old self.new }
-        ensures keeps { Keeps self.old self.new }
+        ensures keeps { SameBegin self.old self.new }
         ensures same { OnErr result (self.new.now ≡ self.old.now) }
     {
         self.things.take(addr)
@@ -283,7 +283,7 @@ impl Undoable {
         ensures put { self.new.now ≡ with_thing self.old.now addr thing }
         ensures owners { self.new.owners ≡ self.old.owners }
         ensures others { StayTouched self.old self.new }
-        ensures keeps { Keeps self.old self.new }
+        ensures keeps { SameBegin self.old self.new }
     {
         self.things.put(addr, Some(thing));
     }
@@ -292,7 +292,7 @@ impl Undoable {
     pub fn hide(&mut self)
         ensures hidden { self.new.now ≡ record self.old.now { shown = [] } }
         ensures owners { self.new.owners ≡ self.old.owners }
-        ensures keeps { Keeps self.old self.new }
+        ensures keeps { SameBegin self.old self.new }
     {
         self.shown = Bytes::new(self.alloc);
     }
@@ -300,7 +300,7 @@ impl Undoable {
     /// Shows these bytes.
     pub fn show(&mut self, shown: Bytes)
         ensures shown { self.new.now ≡ record self.old.now { shown = shown } }
-        ensures keeps { Keeps self.old self.new }
+        ensures keeps { SameBegin self.old self.new }
     {
         self.shown = shown;
     }
@@ -309,7 +309,7 @@ impl Undoable {
     pub fn stage(&mut self, addr: Addr, shown: Bytes) -> Result<(), NoMemory>
         ensures staged { OnOk result
             (self.new.now ≡ record self.old.now { marks = self.old.now.marks ++ addr ∷ []; shown = shown }) }
-        ensures keeps { Keeps self.old self.new }
+        ensures keeps { SameBegin self.old self.new }
         ensures same { OnErr result (self.new.now ≡ self.old.now) }
     {
         self.marks.push(addr)?;
@@ -326,7 +326,7 @@ impl Undoable {
               names = self.old.now.names
                   ++ record { block = addr; name = name.now; kind = kind; object = object } ∷ [];
             }) addr) }
-        ensures keeps { Keeps self.old self.new }
+        ensures keeps { SameBegin self.old self.new }
         ensures same { OnErr result (self.new.now ≡ self.old.now) }
     {
         let marks = self.marks.len();
@@ -353,7 +353,7 @@ impl Undoable {
     pub fn unname(&mut self, name: &[u8]) -> Result<(), NoMemory>
         ensures unnamed { OnOk result (self.new.now
             ≡ record self.old.now { names = without_name self.old.now.names name.now; shown = [] }) }
-        ensures keeps { Keeps self.old self.new }
+        ensures keeps { SameBegin self.old self.new }
         ensures same { OnErr result (self.new.now ≡ self.old.now) }
     {
         self.catalogue.remove(name)?;
@@ -373,14 +373,14 @@ impl Undoable {
         self.taken_before = self.taken;
     }
 
-    /// Puts the world back to the begin. Blocks once taken stay counted.
-    pub fn put_back(&mut self)
+    /// Rolls the world back to the begin. Blocks once taken stay counted.
+    pub fn roll_back(&mut self)
         ensures { let left = record self.old.begun { taken = self.old.now.taken } in
             self.new ≡ record self.old { begun = left; now = left; touched = []; saved = false } }
     {
-        self.things.put_back();
-        self.catalogue.put_back();
-        self.accounts.put_back();
+        self.things.roll_back();
+        self.catalogue.roll_back();
+        self.accounts.roll_back();
         self.marks = Items::new(self.alloc);
         self.shown = Bytes::new(self.alloc);
         self.taken_before = self.taken;

@@ -5,7 +5,7 @@ use Rattle.std.specs.FinMap as map
 use Rattle.std.specs.Fmt.{digits}
 use Rattle.sdr_base.specs.declared.moves.Move.{Move}
 use Rattle.sdr_lock.specs.Core.{Core, CoreStep, core_after, first_core}
-use Rattle.sdr_lock.specs.Ground.{bare, kept}
+use Rattle.sdr_lock.specs.Ground.{bare, committed}
 use Rattle.sdr_lock.specs.Machine.{Machine, Made}
 use Rattle.sdr_lock.specs.Roll.{Roll}
 use Rattle.sdr_lock.specs.declared.daemon.Holding.{Holding}
@@ -19,13 +19,13 @@ use Rattle.sdr_model.specs.declared.call.Call.TheVariants as calls
 use Rattle.sdr_model.specs.declared.event.Event.{Event}
 use Rattle.sdr_model.specs.declared.event.Event.TheVariants as events
 use Rattle.sdr_model.specs.declared.script.Arg.TheVariants as args
-use Rattle.sdr_model.specs.declared.script.Step.{Step}
+use Rattle.sdr_model.specs.declared.script.ScriptStep.{ScriptStep}
 use Rattle.sdr_model.specs.declared.things.Thing.TheVariants as things
 use Rattle.sdr_dry.specs.Schedule.{RunsDry, run_text}
 use Rattle.sdr_words.specs.Verbs.{verbs}
 
 -- begin, string "hi", end
-abbrev three_lines : List Step
+abbrev three_lines : List ScriptStep
 three_lines =
     record { line = 1; daemon = 1; name = []; verb = 0; args = [] }
     ∷ record { line = 2; daemon = 1; name = []; verb = 11; args = args.Text (codes "hi") ∷ [] }
@@ -70,7 +70,7 @@ abbrev hi : Machine
 hi = record { roll = roll_holding (Some (held true)); before = bare empty_world; now = bare with_hi }
 
 abbrev ended : Machine
-ended = record { roll = roll_holding None; before = kept (bare with_hi); now = kept (bare with_hi) }
+ended = record { roll = roll_holding None; before = committed (bare with_hi); now = committed (bare with_hi) }
 
 abbrev core_0 : Core
 core_0 = first_core (1 ∷ []) (bare empty_world)
@@ -125,7 +125,7 @@ closes_it = record {
   next = ended;
   step = inl (record {
     close = closes.Ended;
-    left = kept (bare with_hi);
+    left = committed (bare with_hi);
     closes = record { how = refl; told = record { answer = refl; moves = refl; bytes = refl }; left = refl };
     after = refl;
   });

@@ -9,21 +9,21 @@ use Rattle.sdr_lock.specs.Ground.{bare}
 use Rattle.sdr_lock.specs.Machine.{Machine, Made}
 use Rattle.sdr_lock.specs.declared.came.Came.{Came}
 use Rattle.sdr_model.specs.World.{empty_world}
-use Rattle.sdr_plain.specs.Asking.{StepsAt, bytes_of}
+use Rattle.sdr_plain.specs.Asking.{StepsAt, bytes_answered}
 use Rattle.sdr_model.specs.declared.answer.Answer.{Answer}
 use Rattle.sdr_model.specs.declared.answer.Answer.TheVariants as answers
 use Rattle.sdr_model.specs.declared.answer.Reply.TheVariants as replies
 use Rattle.sdr_model.specs.declared.event.Event.{Event}
 use Rattle.sdr_words.specs.Bindings.{Binding, event_of, bound}
 use Rattle.sdr_text.specs.Text.{line_text}
-use Rattle.sdr_model.specs.declared.script.Step.{Step}
+use Rattle.sdr_model.specs.declared.script.ScriptStep.{ScriptStep}
 
 -- the numbers that daemons may have, from 1 to 16
 abbrev pub all_daemons : List ℕ
 all_daemons = range_with_len 1 16
 
 -- the daemons that a script names
-abbrev pub daemons_of : List Step → List ℕ
+abbrev pub daemons_of : List ScriptStep → List ℕ
 daemons_of script = filter (λ daemon. list_any (λ step. step.daemon == daemon) script) all_daemons
 
 -- what media show: what they hold, where they tell it, and how often they have failed and have given too few bytes
@@ -86,30 +86,30 @@ abbrev pub AreCaused : List Made → MediaChange → Type 0
 AreCaused made = HaveFailed (media_faults made) (short_answers made)
 
 -- the step makes this event, under what the names hold
-pub record MakesEvent (bindings : List Binding) (step : Step) (e : Made) : Type 0 where
+pub record MakesEvent (bindings : List Binding) (step : ScriptStep) (e : Made) : Type 0 where
   pub line : e.said.line ≡ step.line
   pub daemon : e.daemon ≡ step.daemon
   pub event : e.said.event ≡ event_of bindings step
 
 -- The steps make these events in order. Each answer gives its step's name what it holds from then on.
-abbrev pub Follows : List Binding → List Step → List Made → Type 0
-Follows bindings [] [] = Unit {0}
-Follows bindings (step ∷ steps) (e ∷ made) = MakesEvent bindings step e × Follows (bound bindings step e.said.answer) steps made
-Follows bindings [] (e ∷ made) = ⊥
-Follows bindings (step ∷ steps) [] = ⊥
+abbrev pub FollowsScript : List Binding → List ScriptStep → List Made → Type 0
+FollowsScript bindings [] [] = Unit {0}
+FollowsScript bindings (step ∷ steps) (e ∷ made) = MakesEvent bindings step e × FollowsScript (bound bindings step e.said.answer) steps made
+FollowsScript bindings [] (e ∷ made) = ⊥
+FollowsScript bindings (step ∷ steps) [] = ⊥
 
 -- the machine may answer a daemon's event of a statement on a line so, where media tell this, and goes on to m'
 pub record Responds (told : Option Told) (m : Machine) (daemon line : ℕ) (event : Event) (a : Came) (m' : Machine) : Type 0 where
   pub steps : StepsAt m daemon line event a m'
-  pub media : AgreesWith told m.now.world event a.answer (bytes_of a m')
+  pub media : AgreesWith told m.now.world event a.answer (bytes_answered a m')
 
 -- the machine may answer the step's event so, where media tell this, and goes on to m'
-abbrev pub Answers : Option Told → Machine → Step → Event → Came → Machine → Type 0
-Answers told m step event a m' = Responds told m step.daemon step.line event a m'
+abbrev pub StepAnswered : Option Told → Machine → ScriptStep → Event → Came → Machine → Type 0
+StepAnswered told m step event a m' = Responds told m step.daemon step.line event a m'
 
 -- the printed line of a step that was answered so, by which the machine went on to m'
-abbrev pub answer_line : Step → Came → Machine → List ℕ
-answer_line step a m' = line_text step.line step.daemon a.answer (bytes_of a m')
+abbrev pub answer_line : ScriptStep → Came → Machine → List ℕ
+answer_line step a m' = line_text step.line step.daemon a.answer (bytes_answered a m')
 
 -- the printed lines of what was made
 abbrev pub run_text : List Made → List ℕ
@@ -121,32 +121,33 @@ abbrev pub IsCaused : Answer → MediaChange → Type 0
 IsCaused answer = HaveFailed (once (is_media_fault answer)) (once (is_short answer))
 
 -- Some answer to the event of a step, of whose printed line P tells.
-pub record SomeLine (media : MediaChange) (m : Machine) (step : Step) (event : Event) (m' : Machine) (P : List ℕ → Type 0) : Type 0 where
+pub record SomeLine (media : MediaChange) (m : Machine) (step : ScriptStep) (event : Event) (m' : Machine) (P : List ℕ → Type 0) : Type 0 where
   pub came : Came
-  pub answers : Answers media.before.told m step event came m'
+  pub answers : StepAnswered media.before.told m step event came m'
   pub caused : IsCaused came.answer media
   pub printed : P (answer_line step came m')
 
 -- Some answer to a step under what the names hold, of whose printed line P tells.
-abbrev pub SomeAnswer : MediaChange → Machine → List Binding → Step → Machine → (List ℕ → Type 0) → Type 0
+abbrev pub SomeAnswer : MediaChange → Machine → List Binding → ScriptStep → Machine → (List ℕ → Type 0) → Type 0
 SomeAnswer media m bindings step m' P = SomeLine media m step (event_of bindings step) m' P
 
 -- The same, where the step's name holds from then on what the answer gave it.
-pub record SomeStep (media : MediaChange) (m : Machine) (bindings : List Binding) (step : Step) (m' : Machine) (bindings' : List Binding) (P : List ℕ → Type 0) : Type 0 where
+pub record SomeStep (media : MediaChange) (m : Machine) (bindings : List Binding) (step : ScriptStep) (m' : Machine) (bindings' : List Binding) (P : List ℕ → Type 0) : Type 0 where
   pub line : SomeAnswer media m bindings step m' P
   pub names : bindings' ≡ bound bindings step line.came.answer
 
 -- The script's steps but these last ones were made in order, on a core of the script's daemons, with these events and answers,
 -- where media tell this.
-pub record RunsDry (told : Option Told) (script rest : List Step) (made : List Made) (core : Core) : Type 0 where
-  pub front : List Step
+pub record RunsDry (told : Option Told) (script rest : List ScriptStep) (made : List Made) (core : Core) : Type 0 where
+  pub front : List ScriptStep
   pub steps : script ≡ front ++ rest
-  pub follows : Follows [] front made
+  pub follows : FollowsScript [] front made
   pub runs : RunsCore told (first_core (daemons_of script) (bare empty_world)) made core
 
 -- Some run of the script's first steps, of which P tells by the steps that are left and the text of the answers.
-pub record SomeRun (media : MediaChange) (script : List Step) (P : List Step → List ℕ → Type 0) : Type 0 where
-  pub rest : List Step
+pub record SomeRun (media : MediaChange) (script : List ScriptStep) (P : List ScriptStep → List ℕ → Type 0) : Type 0
+    where
+  pub rest : List ScriptStep
   pub made : List Made
   pub core : Core
   pub run : RunsDry media.before.told script rest made core

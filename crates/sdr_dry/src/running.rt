@@ -8,12 +8,12 @@ ghost use Rattle.sdr_plain.specs.Asking.{Asks};
 ghost use Rattle.sdr_plain.specs.Plain.{first_plain, machine_of};
 ghost use Rattle.sdr_model.specs.Pieces.{pieces_told};
 ghost use Rattle.sdr_model.specs.declared.event.Event.{Event};
-ghost use Rattle.sdr_dry.specs.Schedule.{Answers, HaveFailed, IsCaused, Responds, SomeAnswer, SomeLine, SomeRun, SomeStep, all_daemons, answer_line, daemons_of, media_change};
+ghost use Rattle.sdr_dry.specs.Schedule.{StepAnswered, HaveFailed, IsCaused, Responds, SomeAnswer, SomeLine, SomeRun, SomeStep, all_daemons, answer_line, daemons_of, media_change};
 
 use sdr_base::{Media, NoMemory, Refusal, Sink, SinkFault};
 use sdr_gather::{Gap, gather};
 use sdr_lock::Came;
-use sdr_model::{Answer, Event, Leave, Piece, Reply, Step};
+use sdr_model::{Answer, Event, Leave, Piece, Reply, ScriptStep};
 use sdr_plain::Plain;
 use sdr_text::write_answer;
 use sdr_words::Bindings;
@@ -92,12 +92,12 @@ fn respond<M: Media>(
     alloc: Global,
     plain: &mut Plain,
     media: &mut M,
-    step: &Step,
+    step: &ScriptStep,
     event: &Event,
 ) -> Result<Came, NoMemory>
     requires few { plain.old.events < 2_097_152 }
     ensures answers { IfOk result (λ given.
-        Answers (M.told media.old) (machine_of plain.old) step.now event.now given
+        StepAnswered (M.told media.old) (machine_of plain.old) step.now event.now given
         (machine_of plain.new)) }
     ensures caused { IfOk result (λ given.
         IsCaused given.answer (media_change M.told M.faults M.short media.old media.new)) }
@@ -116,13 +116,13 @@ fn answer<M: Media, K: Sink>(
     alloc: Global,
     plain: &mut Plain,
     media: &mut M,
-    step: &Step,
+    step: &ScriptStep,
     event: &Event,
     out: &mut K,
 ) -> Result<Came, RunError>
     requires few { plain.old.events < 2_097_152 }
     ensures answers { IfOk result (λ given.
-        Answers (M.told media.old) (machine_of plain.old) step.now event.now given
+        StepAnswered (M.told media.old) (machine_of plain.old) step.now event.now given
         (machine_of plain.new)) }
     ensures caused { IfOk result (λ given.
         IsCaused given.answer (media_change M.told M.faults M.short media.old media.new)) }
@@ -152,7 +152,7 @@ fn make<M: Media, K: Sink>(
     plain: &mut Plain,
     media: &mut M,
     bindings: &mut Bindings,
-    step: &Step,
+    step: &ScriptStep,
     out: &mut K,
 ) -> Result<(), RunError>
     requires few { plain.old.events < 2_097_152 }
@@ -181,14 +181,14 @@ fn make<M: Media, K: Sink>(
 }
 
 // Whether a step is this daemon's.
-fn names(script: &[Step], daemon: u8) -> bool
+fn names(script: &[ScriptStep], daemon: u8) -> bool
     ensures { result ≡ list_any (λ step. step.daemon == daemon) script.now }
 {
     script.iter().any(|step| step.daemon == daemon)
 }
 
 /// The daemons that a script names.
-pub fn daemons_of(alloc: Global, script: &[Step]) -> Result<Vec<u8>, NoMemory>
+pub fn daemons_of(alloc: Global, script: &[ScriptStep]) -> Result<Vec<u8>, NoMemory>
     ensures named { IfOk result (λ daemons. daemons.items ≡ daemons_of script.now) }
     ensures few { IfOk result (λ daemons. length daemons.items ≤ 16) }
 {
@@ -203,7 +203,7 @@ fn run_on<M: Media, K: Sink>(
     plain: &mut Plain,
     media: &mut M,
     bindings: &mut Bindings,
-    script: &[Step],
+    script: &[ScriptStep],
     out: &mut K,
 ) -> Result<(), RunError>
     requires few { length script.now ≤ 1_048_577 }
@@ -237,7 +237,7 @@ fn run_through<M: Media, K: Sink>(
     alloc: Global,
     plain: &mut Plain,
     media: &mut M,
-    script: &[Step],
+    script: &[ScriptStep],
     out: &mut K,
 ) -> Result<(), RunError>
     requires few { length script.now ≤ 1_048_577 }
@@ -265,7 +265,7 @@ fn run_through<M: Media, K: Sink>(
 /// the line of each answer. Media are asked for the bytes that lie with them.
 pub fn run<M: Media, K: Sink>(
     alloc: Global,
-    script: &[Step],
+    script: &[ScriptStep],
     media: &mut M,
     out: &mut K,
 ) -> Result<(), RunError>

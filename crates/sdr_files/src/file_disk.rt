@@ -144,7 +144,7 @@ impl<F: FileExt + OpenFile> Disk for FileDisk<F> {
 
     ghost moment = { λ d. d.moment };
 
-    ghost may_leave = { λ _ _ _. Unit {0} };
+    ghost may_hold_after = { λ _ _ _. Unit {0} };
 
     ghost told = { λ _. tt };
 

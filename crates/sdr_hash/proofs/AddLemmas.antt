@@ -2,7 +2,7 @@
 use Rattle.std.proofs.Common.{◌≡◌, ℕ, ◌+◌, ◌<◌, ◌^◌, List, [], ◌∷◌, ◌++◌, length, set, Some, sym, ap, ◌∙◌, arith, subst}
 use Rattle.std.proofs.lemmas.List.{length-set}
 use Rattle.sdr_base.specs.Blocks.{Blocks, with_block}
-use Rattle.sdr_base.specs.Entries.{Entries, Stands}
+use Rattle.sdr_base.specs.Entries.{Entries, BlocksAre}
 use Rattle.sdr_base.specs.Hashes.{HashItem, bucket_entries, item_addr, item_block}
 use Rattle.sdr_base.specs.Linked.{first_of, linked}
 use Rattle.sdr_base.specs.Making.{Made, besides}
@@ -24,7 +24,7 @@ use Rattle.sdr_hash.proofs.WalkLemmas.{count_is, front_is}
 -- the blocks that were read
 abbrev pub kept : {b : Blocks} (front : Link) {n : ℕ} {words : List ℕ} {bucket : List HashItem} (rest : Entries) →
     IsOpened n front.field words bucket →
-    Stands b (opened_entries front.addr words bucket ++ rest) → KeepsBucket b front n bucket
+    BlocksAre b (opened_entries front.addr words bucket ++ rest) → KeepsBucket b front n bucket
 kept front {words = words} rest o s = record { words = words; rest = rest; stands = s; opened = o }
 
 -- the move of a new entry
@@ -40,26 +40,27 @@ module _ (front : Link) (next value addr count : ℕ) (key : List ℕ) {old mid 
     (t : TakesBytes kinds.HashEntry (layout (next ∷ value ∷ []) key) addr old mid) where
   -- the block that was taken stands before the bucket
   taken_stands : (words : List ℕ) (bucket : List HashItem) (rest : Entries) → IsOpened (length key) front.field words bucket →
-      Stands old.blocks (opened_entries front.addr words bucket ++ rest) →
-      Stands mid.blocks ((front.addr, words_block words) ∷ (bucket_entries (new_item addr key value ∷ bucket) ++ rest))
+      BlocksAre old.blocks (opened_entries front.addr words bucket ++ rest) →
+      BlocksAre mid.blocks ((front.addr, words_block words) ∷
+          (bucket_entries (new_item addr key value ∷ bucket) ++ rest))
   unfolding linked
   taken_stands words bucket rest o s =
       let x = new_item addr key value in
       let taken = with_block old.blocks addr (Some (item_block 0 next x)) in
       let n : next ≡ first_of item_addr 0 bucket = front_is (kept front rest o s) f in
-      subst (λ (b : Blocks). Stands b ((front.addr, words_block words) ∷ (bucket_entries (x ∷ bucket) ++ rest)))
+      subst (λ (b : Blocks). BlocksAre b ((front.addr, words_block words) ∷ (bucket_entries (x ∷ bucket) ++ rest)))
       (sym (heap_blocks t.taken))
-      (subst (λ m. Stands taken
+      (subst (λ m. BlocksAre taken
       ((front.addr, words_block words) ∷ ((addr, item_block 0 m x) ∷ (linked item_addr item_block addr 0 bucket ++ rest)))) n
-      (subst (λ (es : Entries). Stands taken
+      (subst (λ (es : Entries). BlocksAre taken
       ((front.addr, words_block words) ∷ ((addr, item_block 0 next x) ∷ (es ++ rest)))) (any_previous 0 addr 0 bucket)
       (came old.blocks addr (item_block 0 next x) ((front.addr, words_block words) ∷ [])
       (bucket_entries bucket ++ rest) t.nonzero t.fresh s)))
 
   module _ {linked_to : Heap} (l : linked_to ≡ with_word mid front.addr front.field addr) where
     linked_stands : (words : List ℕ) (bucket : List HashItem) (rest : Entries) → IsOpened (length key) front.field words bucket →
-        Stands old.blocks (opened_entries front.addr words bucket ++ rest) →
-        Stands linked_to.blocks
+        BlocksAre old.blocks (opened_entries front.addr words bucket ++ rest) →
+        BlocksAre linked_to.blocks
         ((front.addr, words_block (set words front.field addr)) ∷ (bucket_entries (new_item addr key value ∷ bucket) ++ rest))
     linked_stands words bucket rest o s =
         word_set mid.blocks linked_to.blocks front.addr kinds.Hash words [] front.field addr []
@@ -82,7 +83,7 @@ module _ (front : Link) (next value addr count : ℕ) (key : List ℕ) {old mid 
               let behind = o.behind in
               let inside = o.inside in
               let n = e ∙ ap (λ m. m + 1) (count_is (kept front rest o s) c) in
-              subst (λ m. Stands new.blocks
+              subst (λ m. BlocksAre new.blocks
               ((front.addr, words_block (set (set words front.field addr) 2 m)) ∷
               (bucket_entries (new_item addr key value ∷ bucket) ++ rest))) n
               (word_set linked_to.blocks new.blocks front.addr kinds.Hash (set words front.field addr) [] 2 more []

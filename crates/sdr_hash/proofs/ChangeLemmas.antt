@@ -3,7 +3,7 @@ use Rattle.std.proofs.Common.{◌≡◌, ℕ, ◌+◌, ◌-◌, ◌*◌, ◌≤�
 use Rattle.std.specs.Prelude.{sum_by}
 use Rattle.std.proofs.Math.Seq.{map-set_same}
 use Rattle.std.proofs.lemmas.List.{length-set}
-use Rattle.sdr_base.specs.Entries.{Changes, Few, Stands}
+use Rattle.sdr_base.specs.Entries.{Changes, Few, BlocksAre}
 use Rattle.sdr_base.specs.Hashes.{HashItem, HashRow, hash_entries, item_addr, item_block}
 use Rattle.sdr_base.specs.Linked.{first_of, last_of, linked}
 use Rattle.sdr_base.specs.Making.{besides}
@@ -109,7 +109,7 @@ module _ (old new : Heap) {hash size : ℕ} {key : List ℕ} {front : Link} (f :
         let y = record x { value = value } in
         let words = hash_words row in
         let next = first_of item_addr 0 i.behind in
-        subst (λ (items : List HashItem). Stands new.blocks (opened_entries hash words items ++ rest))
+        subst (λ (items : List HashItem). BlocksAre new.blocks (opened_entries hash words items ++ rest))
         (sym (ap (revised key value) i.whole ∙ revised_at key value i.before x i.behind i.none i.keyed))
         (joined hash words i.before y i.behind rest
         (word_set old.blocks new.blocks x.addr kinds.HashEntry (next ∷ x.value ∷ []) x.key 1 value
@@ -117,7 +117,8 @@ module _ (old new : Heap) {hash size : ℕ} {key : List ℕ} {front : Link} (f :
         (linked item_addr item_block (last_of item_addr 0 i.before) 0 i.behind ++ rest)
         (subst (λ p. new.blocks ≡ (with_word old p 1 value).blocks) i.at_addr (heap_blocks w)) (omega arith)
         (cut hash words i.before x i.behind rest
-        (subst (λ (items : List HashItem). Stands old.blocks (opened_entries hash words items ++ rest)) i.whole s))));
+        (subst (λ (items : List HashItem). BlocksAre old.blocks (opened_entries hash words items ++ rest)) i.whole
+            s))));
   }
 
   pub revises : {place : Place} (value : ℕ) → Searches old.blocks front key (Some place) →

@@ -6,7 +6,7 @@ use Rattle.std.proofs.lemmas.List.{drop_more, length-map, map-append, take-appen
 use Rattle.std.proofs.lemmas.List.Sums.{sum_by-cons, sum_by-drop_more, sum_by-take-drop}
 use Rattle.std.proofs.Math.ListN.{drop_of_length-le}
 use Rattle.sdr_base.specs.Blocks.{Block, Blocks, IsKind, Reaches}
-use Rattle.sdr_base.specs.Entries.{Entries, Few, Stands}
+use Rattle.sdr_base.specs.Entries.{Entries, Few, BlocksAre}
 use Rattle.sdr_base.specs.Hashes.{HashItem, HashRow, bucket_entries, hash_block, hash_entries, item_addr}
 use Rattle.sdr_base.specs.Making.{GaveSome, Made, gave}
 use Rattle.sdr_base.specs.Objects.{Heap, OnlyUnmoved, with_given}
@@ -67,7 +67,7 @@ module _ (old : Heap) (hash size count buckets : ℕ) (few : Few size old.blocks
       (less : bucket < buckets) (a : front.addr ≡ hash)
       (f : front.field ≡ 3 + bucket) where
     -- the next bucket is opened
-    opened_at : (row : HashRow) (rest : Entries) → Stands old.blocks (hash_entries hash row ++ rest) → HashFits row →
+    opened_at : (row : HashRow) (rest : Entries) → BlocksAre old.blocks (hash_entries hash row ++ rest) → HashFits row →
         OpenedAt now.blocks front left row.key_length (hash_words row) (get_or row.buckets bucket [])
         (flat_map bucket_entries (drop (bucket + 1) row.buckets) ++ rest)
     opened_at row rest s fits =
@@ -81,8 +81,9 @@ module _ (old : Heap) (hash size count buckets : ℕ) (few : Few size old.blocks
         let counted = b.counted in
         record {
           stands =
-              subst (λ at. Stands now.blocks ((at, hash_block row) ∷ (bucket_entries items ++ (more ++ rest)))) (sym a)
-              (subst (λ (es : Entries). Stands now.blocks ((hash, hash_block row) ∷ es))
+              subst (λ at. BlocksAre now.blocks ((at, hash_block row) ∷ (bucket_entries items ++ (more ++ rest))))
+                  (sym a)
+              (subst (λ (es : Entries). BlocksAre now.blocks ((hash, hash_block row) ∷ es))
               (ap (λ (bs : List (List HashItem)). flat_map bucket_entries bs ++ rest) (drop_more row.buckets bucket [] inside)
               ∙ append_assoc (bucket_entries items) more rest) b.stands);
           opened =
@@ -101,7 +102,7 @@ module _ (old : Heap) (hash size count buckets : ℕ) (few : Few size old.blocks
     }
 
     gone_at : {new : Heap} {left' : ℕ} → GivesBucket now new front left left' → (row : HashRow) (rest : Entries) →
-        Stands old.blocks (hash_entries hash row ++ rest) → HashFits row →
+        BlocksAre old.blocks (hash_entries hash row ++ rest) → HashFits row →
         Gone now new front.addr (hash_words row) (get_or row.buckets bucket [])
         (flat_map bucket_entries (drop (bucket + 1) row.buckets) ++ rest) left left'
     gone_at t row rest s fits =
@@ -124,7 +125,7 @@ module _ (old : Heap) (hash size count buckets : ℕ) (few : Few size old.blocks
           let counted = b.counted in
           let fewer = o.counted in
           record {
-            stands = subst (λ at. Stands new.blocks ((at, hash_block row) ∷ (more ++ rest))) a o.stands;
+            stands = subst (λ at. BlocksAre new.blocks ((at, hash_block row) ∷ (more ++ rest))) a o.stands;
             counted = omega (arith, d, counted, fewer);
             made =
                 subst (λ (ms : List Move). Made ms old new)
@@ -192,8 +193,8 @@ module _ (old : Heap) (hash size count buckets : ℕ) (few : Few size old.blocks
 
   module _ {now : Heap} {bucket left : ℕ} (g : GivesBuckets old now hash bucket left) (done : bucket ≡ buckets) where
     -- all buckets are gone, and the hash's own block stands
-    left_at : (row : HashRow) (rest : Entries) → Stands old.blocks (hash_entries hash row ++ rest) → HashFits row →
-        Stands now.blocks ((hash, hash_block row) ∷ rest) × Made (gave (addrs_in row.buckets)) old now
+    left_at : (row : HashRow) (rest : Entries) → BlocksAre old.blocks (hash_entries hash row ++ rest) → HashFits row →
+        BlocksAre now.blocks ((hash, hash_block row) ∷ rest) × Made (gave (addrs_in row.buckets)) old now
     left_at row rest s fits =
         let k : KeepsHash old.blocks hash row = record { rest = rest; stands = s; fits = fits } in
         let b = g.gives row rest s fits in
@@ -201,7 +202,7 @@ module _ (old : Heap) (hash size count buckets : ℕ) (few : Few size old.blocks
         let past : length row.buckets ≤ bucket = omega (arith, all, done) in
         let none = drop_of_length-le row.buckets {i = bucket} past in
         let whole : take bucket row.buckets ≡ row.buckets = take_all bucket row.buckets past in (
-          subst (λ (bs : List (List HashItem)). Stands now.blocks
+          subst (λ (bs : List (List HashItem)). BlocksAre now.blocks
               ((hash, hash_block row) ∷ (flat_map bucket_entries bs ++ rest))) none b.stands,
           subst (λ (bs : List (List HashItem)). Made (gave (addrs_in bs)) old now) whole b.made,
         )
@@ -211,7 +212,7 @@ module _ (old : Heap) (hash size count buckets : ℕ) (few : Few size old.blocks
       kind = kind;
       changes = λ row k. record {
         kept = λ rest s.
-            subst (λ (b : Blocks). Stands b rest) (sym (given_blocks hash now new is))
+            subst (λ (b : Blocks). BlocksAre b rest) (sym (given_blocks hash now new is))
             (went now.blocks hash (hash_block row) [] rest (left_at row rest s k.fits).0);
       };
       made = λ row k. one_gave (addrs_in row.buckets) hash (left_at row k.rest k.stands k.fits).1 is;

@@ -10,9 +10,9 @@ use Rattle.sdr_base.specs.Hashes.{HashItem, HashRow}
 use Rattle.sdr_base.specs.Words.{HasWord}
 use Rattle.sdr_base.specs.declared.kind.Kind.TheVariants as kinds
 use Rattle.sdr_base.specs.declared.stop.Stop.{Stop}
-use Rattle.sdr_hash.specs.Buckets.{bucket_of, has_key, items_by}
+use Rattle.sdr_hash.specs.Buckets.{bucket_of, item_has_key, items_by}
 use Rattle.sdr_hash.specs.Changes.{SomePlace}
-use Rattle.sdr_hash.specs.Calls.{CountsEntries, FindsKey, HasKey, IsNoKeyOf, LacksKey, told_of}
+use Rattle.sdr_hash.specs.Calls.{CountsEntries, FindsKey, HasKey, IsNoKeyOf, LacksKey, item_told}
 use Rattle.sdr_hash.specs.Kept.{KeepsHash, SomeHash}
 use Rattle.sdr_hash.specs.Opened.{FrontsBucket, IsOpened, KeepsBucket, SomeBucket}
 use Rattle.sdr_hash.specs.Walks.{IsFirst, Searches}
@@ -31,11 +31,11 @@ bucket_below {row = row} key k =
 
 -- the entry at the place of a key is the first that has it
 pub first_is : {key : List ℕ} {front : Link} {bucket : List HashItem} {place : Place} → (i : IsFirst key front bucket place) →
-    find (has_key key) bucket ≡ Some i.item
+    find (item_has_key key) bucket ≡ Some i.item
 first_is {key} i =
-    ap (find (has_key key)) i.whole ∙ find-append (has_key key) i.before (i.item ∷ i.behind)
-    ∙ ap (λ (o : Option HashItem). option_or o (find (has_key key) (i.item ∷ i.behind))) i.none
-    ∙ ap (λ v. cond v (Some i.item) (find (has_key key) i.behind)) i.keyed
+    ap (find (item_has_key key)) i.whole ∙ find-append (item_has_key key) i.before (i.item ∷ i.behind)
+    ∙ ap (λ (o : Option HashItem). option_or o (find (item_has_key key) (i.item ∷ i.behind))) i.none
+    ∙ ap (λ v. cond v (Some i.item) (find (item_has_key key) i.behind)) i.keyed
 
 -- so many entries
 pub counts : {b : Blocks} {hash size value : ℕ} → IsKind (b hash) kinds.Hash → Few size b → size ≤ 64 * 262144 →
@@ -93,7 +93,7 @@ module _ {b : Blocks} {hash size : ℕ} {key : List ℕ} {front : Link} (f : Fro
     finds = λ row k.
         let i = found_item s row k in
         let e = here (bucket_for row k) i.before i.item i.behind i.whole in
-        ap (told_of (λ item. item.value)) (first_is i)
+        ap (item_told (λ item. item.value)) (first_is i)
         ∙ ap (λ (v : ℕ). Some v) (sym (value_is e (subst (λ p. HasWord (b p) 1 value) i.at_addr h)));
   }
 
@@ -103,7 +103,7 @@ module _ {b : Blocks} {hash size : ℕ} {key : List ℕ} {front : Link} (f : Fro
     addr = place.addr;
     here = λ row k.
         let i = found_item s row k in
-        ap (told_of (λ item. item.addr)) (first_is i) ∙ ap (λ (v : ℕ). Some v) (sym i.at_addr);
+        ap (item_told (λ item. item.addr)) (first_is i) ∙ ap (λ (v : ℕ). Some v) (sym i.at_addr);
   }
 
   -- the place of the key is some entry's

@@ -3,7 +3,7 @@ use Rattle.std.proofs.Common.{◌≡◌, ◌≢◌, inl, inr, ℕ, ◌+◌, ◌*
 use Rattle.std.proofs.lemmas.List.Elements.{All-head, All-tail}
 use Rattle.std.specs.Prelude.{All, None, Some, ◌⊎◌}
 use Rattle.sdr_base.specs.Blocks.{Blocks, Reaches}
-use Rattle.sdr_base.specs.Entries.{Entries, Stands}
+use Rattle.sdr_base.specs.Entries.{Entries, BlocksAre}
 use Rattle.sdr_base.specs.Hashes.{HashItem, bucket_entries, item_addr, item_block}
 use Rattle.sdr_base.specs.Linked.{first_of}
 use Rattle.sdr_base.specs.Objects.{Heap, OnlyUnmoved, with_given}
@@ -12,7 +12,7 @@ use Rattle.sdr_base.specs.declared.refusal.Refusal.TheVariants.{LogFull}
 use Rattle.sdr_base.specs.declared.stop.Stop.{Stop}
 use Rattle.sdr_base.specs.declared.stop.Stop.TheVariants.{Refused, DiskFault, MediaFault, Failed}
 use Rattle.sdr_base.proofs.StandingLemmas.{at-nowhere, moved}
-use Rattle.sdr_hash.specs.Giving.{Gives, GivesBucket, GiveStops, OpenedAt, SomeOpened}
+use Rattle.sdr_hash.specs.Giving.{GivesItems, GivesBucket, GiveStops, OpenedAt, SomeOpened}
 use Rattle.sdr_hash.specs.Kept.{ItemFits}
 use Rattle.sdr_hash.specs.Opened.{KeepsBucket, words_block}
 use Rattle.sdr_hash.specs.declared.bucket.Link.{Link}
@@ -21,7 +21,7 @@ use Rattle.sdr_hash.proofs.WalkLemmas.{first_fits, front_is, front_reaches}
 use Rattle.sdr_list.proofs.GivingLemmas.{NotDone, part_begun, part_found, part_given, part_made, part_more, part_some, part_spare, part_stands}
 
 -- no block stands at 0
-at_zero : {b : Blocks} {es : Entries} → Stands b es → b 0 ≡ None
+at_zero : {b : Blocks} {es : Entries} → BlocksAre b es → b 0 ≡ None
 at_zero {es = es} s = s.same 0 ∙ at-nowhere 0 es s.null
 
 -- a bucket that is opened is kept
@@ -34,7 +34,7 @@ pub opened_reaches : {b : Blocks} {front : Link} {most : ℕ} → SomeOpened b f
 opened_reaches {front = front} s = let o = s.is in front_reaches (opened_kept o) front.field o.opened.inside
 
 pub start : (old : Heap) (front : Link) (most first : ℕ) → HasWord (old.blocks front.addr) front.field first →
-    Gives old old front most first 0
+    GivesItems old old front most first 0
 start old front most first h = record {
   gives = λ n words bucket rest o.
       part_begun (ItemFits n) item_addr item_block 0 0 bucket ((front.addr, words_block words) ∷ rest)
@@ -42,7 +42,7 @@ start old front most first h = record {
       (front_is (opened_kept o) h) o.opened.fits;
 }
 
-module _ {old now : Heap} {front : Link} {most cursor i : ℕ} (s : Gives old now front most cursor i) where
+module _ {old now : Heap} {front : Link} {most cursor i : ℕ} (s : GivesItems old now front most cursor i) where
   -- where the cursor isn't 0 there is one more
   more_left : {n : ℕ} {words : List ℕ} {bucket : List HashItem} {rest : Entries} →
       (o : OpenedAt old.blocks front most n words bucket rest) →
@@ -79,7 +79,7 @@ module _ {old now : Heap} {front : Link} {most cursor i : ℕ} (s : Gives old no
 
   -- it is given back
   pub onward : {new : Heap} {next : ℕ} → cursor ≢ 0 → HasWord (now.blocks cursor) 0 next →
-      new ≡ with_given now cursor → Gives old new front most next (i + 1)
+      new ≡ with_given now cursor → GivesItems old new front most next (i + 1)
   onward {new} {next} nz h g = record {
     gives = λ n words bucket rest o.
         let p = s.gives n words bucket rest o in

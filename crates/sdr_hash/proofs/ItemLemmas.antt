@@ -13,7 +13,7 @@ use Rattle.sdr_base.specs.Words.{HasWord, layout}
 use Rattle.sdr_base.specs.declared.kind.Kind.TheVariants as kinds
 use Rattle.sdr_base.proofs.LayoutLemmas.{length-layout}
 use Rattle.sdr_base.proofs.WritingLemmas.{word_is}
-use Rattle.sdr_hash.specs.Buckets.{has_key}
+use Rattle.sdr_hash.specs.Buckets.{item_has_key}
 use Rattle.sdr_hash.specs.Kept.{ItemFits}
 use Rattle.sdr_hash.specs.Walks.{Compares}
 
@@ -64,7 +64,7 @@ turned a b =
 
 -- the answer of a comparison is that of the test of the entry
 pub answered : {found : Option Block} {answer : Bool} (key : List ℕ) → Compares found key answer → (item : HashItem) (next : ℕ) →
-    KeepsItem found (length key) item next → has_key key item ≡ answer
+    KeepsItem found (length key) item next → item_has_key key item ≡ answer
 answered key c item next k =
     sym (c.is ∙ ap (λ (l : List ℕ). pointwise nat_eq l key) (key_is k (length key) refl c.has) ∙ turned item.key key)
 

@@ -3,7 +3,7 @@ use Rattle.std.proofs.Common.{◌≡◌, ℕ, ◌+◌, ◌*◌, ◌<◌, ◌^◌
 use Rattle.std.proofs.lemmas.List.{set-get_or}
 use Rattle.byteorder.specs.Endian.{big_bytes}
 use Rattle.sdr_base.specs.Blocks.{Blocks, Reaches, overwritten, with_block}
-use Rattle.sdr_base.specs.Entries.{Entries, Stands}
+use Rattle.sdr_base.specs.Entries.{Entries, BlocksAre}
 use Rattle.sdr_base.specs.Hashes.{HashItem, item_addr, item_block}
 use Rattle.sdr_base.specs.Linked.{first_of, last_of, linked}
 use Rattle.sdr_base.specs.declared.kind.Kind.TheVariants as kinds
@@ -40,7 +40,7 @@ part_entries hash words next items rest = (hash, words_block words) ∷ (linked 
 
 -- the link is within its block
 pub link_reaches : {b : Blocks} (front : Link) (words : List ℕ) (next : ℕ) (items : List HashItem) (rest : Entries) →
-    front.field < length words → Stands b
+    front.field < length words → BlocksAre b
     (part_entries front.addr words next items rest) → (link : Link) → link ≡ link_behind front items →
     Reaches (b link.addr) (8 * link.field + 8)
 link_reaches {b} front words next [] rest inside s link e =
@@ -55,15 +55,15 @@ link_reaches {b} front words next (x ∷ xs) rest inside s link e =
 -- another entry follows
 pub relinked : {b b' : Blocks} (front : Link) (words : List ℕ) (next next' : ℕ) (items : List HashItem) (rest : Entries) →
     front.field < length words → get_or words front.field 0 ≡ first_of item_addr next items →
-    Stands b (part_entries front.addr words next items rest) → (link : Link) → link ≡ link_behind front items →
+    BlocksAre b (part_entries front.addr words next items rest) → (link : Link) → link ≡ link_behind front items →
     b' ≡ with_block b link.addr (overwritten (b link.addr) (8 * link.field) (big_bytes 8 next')) →
-    Stands b' (part_entries front.addr (set words front.field (first_of item_addr next' items)) next' items rest)
+    BlocksAre b' (part_entries front.addr (set words front.field (first_of item_addr next' items)) next' items rest)
 unfolding linked
 relinked {b} {b'} front words next next' [] rest inside first s link e w =
     word_set b b' front.addr kinds.Hash words [] front.field next' [] rest
     (subst (λ (l : Link). b' ≡ with_block b l.addr (overwritten (b l.addr) (8 * l.field) (big_bytes 8 next'))) e w) inside s
 relinked {b} {b'} front words next next' (x ∷ xs) rest inside first s link e w =
-    subst (λ (ws : List ℕ). Stands b' (part_entries front.addr ws next' (x ∷ xs) rest))
+    subst (λ (ws : List ℕ). BlocksAre b' (part_entries front.addr ws next' (x ∷ xs) rest))
     (sym (set-get_or words front.field 0) ∙ ap (set words front.field) first)
     (relinked_next item_addr item_block b b' ((front.addr, words_block words) ∷ []) rest (8 * 0) 0 next next'
     (big_bytes 8 next') x xs

@@ -5,7 +5,7 @@ use Rattle.std.proofs.lemmas.List.{get_or-map, map-set, length-set}
 use Rattle.std.proofs.lemmas.List.Elements.{All-get_or}
 use Rattle.std.proofs.lemmas.List.Sums.{get_or-le-sum_by, sum_by-set}
 use Rattle.sdr_base.specs.Blocks.{Block, Blocks}
-use Rattle.sdr_base.specs.Entries.{Changes, Entries, Stands, Swaps}
+use Rattle.sdr_base.specs.Entries.{Changes, Entries, BlocksAre, Swaps}
 use Rattle.sdr_base.specs.Hashes.{HashItem, HashRow, bucket_entries, hash_block, hash_entries, item_addr}
 use Rattle.sdr_base.specs.Linked.{first_of}
 use Rattle.sdr_base.proofs.StandingLemmas.{rotated, stands_swapped_two, swaps_after, swaps_before}
@@ -75,10 +75,10 @@ opened row p fits few less =
 
 -- the bucket stands beside the hash's own block
 opened_stands : {b : Blocks} {es es' part part' : Entries} (h : ℕ × Block) (rest : Entries) → (w : Swaps es es' part part') →
-    Stands b (h ∷ (es ++ rest)) → Stands b (h ∷ (part ++ (w.before ++ (w.behind ++ rest))))
+    BlocksAre b (h ∷ (es ++ rest)) → BlocksAre b (h ∷ (part ++ (w.before ++ (w.behind ++ rest))))
 opened_stands {b} {part = part} h rest w s =
     rotated b h w.before part (w.behind ++ rest)
-    (subst (λ (es : Entries). Stands b (h ∷ es))
+    (subst (λ (es : Entries). BlocksAre b (h ∷ es))
     (ap (λ (es : Entries). es ++ rest) w.was ∙ append_assoc w.before (part ++ w.behind) rest
     ∙ ap (λ (es : Entries). w.before ++ es) (append_assoc part w.behind rest)) s)
 
@@ -91,7 +91,7 @@ keeps_bucket {b} {hash} {row} front p a f k few less =
       words = hash_words row;
       rest = w.before ++ (w.behind ++ k.rest);
       stands =
-          subst (λ (at : ℕ). Stands b
+          subst (λ (at : ℕ). BlocksAre b
           (opened_entries at (hash_words row) (get_or row.buckets p []) ++ (w.before ++ (w.behind ++ k.rest))))
           (sym a) (opened_stands (hash, hash_block row) k.rest w k.stands);
       opened =
@@ -107,7 +107,7 @@ pub closed : {b b' : Blocks} (hash : ℕ) (row : HashRow) (p : ℕ) (words : Lis
     Changes b b' (hash_entries hash row) (hash_entries hash (with_bucket row p items))
 closed {b} {b'} hash row p words items less e c = record {
   kept = λ rest s.
-      subst (λ (ws : List ℕ). Stands b' ((hash, words_block ws) ∷ (flat_map bucket_entries (set row.buckets p items) ++ rest))) e
+      subst (λ (ws : List ℕ). BlocksAre b' ((hash, words_block ws) ∷ (flat_map bucket_entries (set row.buckets p items) ++ rest))) e
       (stands_swapped_two {xs = (hash, hash_block row) ∷ []} {xs' = (hash, words_block words) ∷ []}
       {p = (hash, hash_block row) ∷ []} {p' = (hash, words_block words) ∷ []} s
       (record { before = []; behind = []; was = refl; is = refl })

@@ -2,7 +2,7 @@
 use Rattle.std.proofs.Common.{◌≡◌, ℕ, ◌+◌, ◌-◌, ◌*◌, ◌≤◌, ◌<◌, ◌^◌, List, [], ◌∷◌, ◌++◌, length, set, get_or, None, sym, ap, ◌∙◌, arith, subst, append_assoc, length-append}
 use Rattle.std.proofs.lemmas.List.{length-set}
 use Rattle.sdr_base.specs.Blocks.{Blocks, Reaches, with_block}
-use Rattle.sdr_base.specs.Entries.{Entries, Stands}
+use Rattle.sdr_base.specs.Entries.{Entries, BlocksAre}
 use Rattle.sdr_base.specs.Hashes.{HashItem, bucket_entries, item_addr, item_block}
 use Rattle.sdr_base.specs.Linked.{first_of, last_of, linked}
 use Rattle.sdr_base.specs.Making.{besides}
@@ -57,25 +57,26 @@ around xs x ys rest =
 
 -- the bucket is cut at it, and joined
 pub cut : {b : Blocks} (hash : ℕ) (words : List ℕ) (xs : List HashItem) (x : HashItem) (ys : List HashItem) (rest : Entries) →
-    Stands b (opened_entries hash words (xs ++ (x ∷ ys)) ++ rest) → Stands b
+    BlocksAre b (opened_entries hash words (xs ++ (x ∷ ys)) ++ rest) → BlocksAre b
     (part_entries hash words x.addr xs (from_it xs x ys rest))
-cut {b} hash words xs x ys rest s = subst (λ (es : Entries). Stands b ((hash, words_block words) ∷ es)) (around xs x ys rest) s
+cut {b} hash words xs x ys rest s = subst (λ (es : Entries). BlocksAre b ((hash, words_block words) ∷ es)) (around xs x ys rest) s
 
 pub joined : {b : Blocks} (hash : ℕ) (words : List ℕ) (xs : List HashItem) (x : HashItem) (ys : List HashItem) (rest : Entries) →
-    Stands b (part_entries hash words x.addr xs (from_it xs x ys rest)) → Stands b
+    BlocksAre b (part_entries hash words x.addr xs (from_it xs x ys rest)) → BlocksAre b
     (opened_entries hash words (xs ++ (x ∷ ys)) ++ rest)
 joined {b} hash words xs x ys rest s =
-    subst (λ (es : Entries). Stands b ((hash, words_block words) ∷ es)) (sym (around xs x ys rest)) s
+    subst (λ (es : Entries). BlocksAre b ((hash, words_block words) ∷ es)) (sym (around xs x ys rest)) s
 
 -- the whole call, read
 module _ (front : Link) (place : Place) (next count : ℕ) (old : Heap) (h : HasWord (old.blocks place.addr) 0 next)
     (c : HasWord (old.blocks front.addr) 2 count) where
   cut_at : {key : List ℕ} (words : List ℕ) {bucket : List HashItem} → (f : IsFirst key front bucket place) → (rest : Entries) →
-      Stands old.blocks (opened_entries front.addr words bucket ++ rest) →
-      Stands old.blocks (part_entries front.addr words f.item.addr f.before (from_it f.before f.item f.behind rest))
+      BlocksAre old.blocks (opened_entries front.addr words bucket ++ rest) →
+      BlocksAre old.blocks (part_entries front.addr words f.item.addr f.before (from_it f.before f.item f.behind rest))
   cut_at words f rest s =
       cut front.addr words f.before f.item f.behind rest
-      (subst (λ (items : List HashItem). Stands old.blocks (opened_entries front.addr words items ++ rest)) f.whole s)
+      (subst (λ (items : List HashItem). BlocksAre old.blocks (opened_entries front.addr words items ++ rest)) f.whole
+          s)
 
   first_at : {key words : List ℕ} {bucket : List HashItem} → IsOpened (length key) front.field words bucket →
       (f : IsFirst key front bucket place) →
@@ -92,9 +93,9 @@ module _ (front : Link) (place : Place) (next count : ℕ) (old : Heap) (h : Has
 
   module _ {linked_to : Heap} (l : linked_to ≡ with_word old place.link.addr place.link.field next) where
     linked_past : {key words : List ℕ} {bucket : List HashItem} → IsOpened (length key) front.field words bucket →
-        (f : IsFirst key front bucket place) → (rest : Entries) → Stands old.blocks
+        (f : IsFirst key front bucket place) → (rest : Entries) → BlocksAre old.blocks
         (opened_entries front.addr words bucket ++ rest) →
-        Stands linked_to.blocks (part_entries front.addr (set words front.field (first_of item_addr 0 (removed key bucket)))
+        BlocksAre linked_to.blocks (part_entries front.addr (set words front.field (first_of item_addr 0 (removed key bucket)))
         (first_of item_addr 0 f.behind) f.before (from_it f.before f.item f.behind rest))
     linked_past {key} {words} {bucket} o f rest s =
         let e = here (kept front rest o s) f.before f.item f.behind f.whole in
@@ -102,10 +103,10 @@ module _ (front : Link) (place : Place) (next count : ℕ) (old : Heap) (h : Has
         let first : first_of item_addr next f.before ≡ first_of item_addr 0 (removed key bucket) =
         ap (λ m. first_of item_addr m f.before) n
         ∙ sym (ap (first_of item_addr 0) (removed_is f) ∙ first-append item_addr item_block 0 f.before f.behind) in
-        subst (λ m. Stands linked_to.blocks
+        subst (λ m. BlocksAre linked_to.blocks
         (part_entries front.addr (set words front.field (first_of item_addr 0 (removed key bucket))) m f.before
         (from_it f.before f.item f.behind rest))) n
-        (subst (λ m. Stands linked_to.blocks
+        (subst (λ m. BlocksAre linked_to.blocks
         (part_entries front.addr (set words front.field m) next f.before (from_it f.before f.item f.behind rest))) first
         (relinked front words f.item.addr next f.before (from_it f.before f.item f.behind rest) o.inside
         (first_at o f) (cut_at words f rest s) place.link f.at_link
@@ -113,9 +114,9 @@ module _ (front : Link) (place : Place) (next count : ℕ) (old : Heap) (h : Has
 
     module _ (less : ℕ) {counted : Heap} (e : less ≡ count - 1) (w : counted ≡ with_word linked_to front.addr 2 less) where
       counted_stands : {key words : List ℕ} {bucket : List HashItem} → IsOpened (length key) front.field words bucket →
-          (f : IsFirst key front bucket place) → (rest : Entries) → Stands old.blocks
+          (f : IsFirst key front bucket place) → (rest : Entries) → BlocksAre old.blocks
           (opened_entries front.addr words bucket ++ rest) →
-          Stands counted.blocks
+          BlocksAre counted.blocks
           (part_entries front.addr (with_front words front.field (removed key bucket) (get_or words 2 0 - 1))
           (first_of item_addr 0 f.behind) f.before (from_it f.before f.item f.behind rest))
       counted_stands {key} {words} {bucket} o f rest s =
@@ -126,7 +127,7 @@ module _ (front : Link) (place : Place) (next count : ℕ) (old : Heap) (h : Has
           let n = e ∙ ap (λ m. m - 1) (count_is (kept front rest o s) c) in
           let more = linked item_addr item_block 0
           (first_of item_addr 0 f.behind) f.before ++ from_it f.before f.item f.behind rest in
-          subst (λ m. Stands counted.blocks ((front.addr, words_block (set (set words front.field front_word) 2 m)) ∷ more)) n
+          subst (λ m. BlocksAre counted.blocks ((front.addr, words_block (set (set words front.field front_word) 2 m)) ∷ more)) n
           (word_set linked_to.blocks counted.blocks front.addr kinds.Hash (set words front.field front_word) [] 2 less [] more
           (heap_blocks w) (omega (arith, long, behind, inside)) (linked_past o f rest s))
 
@@ -137,7 +138,7 @@ module _ (front : Link) (place : Place) (next count : ℕ) (old : Heap) (h : Has
               let after = with_front words front.field (removed key bucket) (get_or words 2 0 - 1) in
               let gone : new.blocks ≡ with_block counted.blocks f.item.addr None =
               given_blocks place.addr counted new g ∙ ap (λ p. with_block counted.blocks p None) f.at_addr in
-              subst (λ (items : List HashItem). Stands new.blocks
+              subst (λ (items : List HashItem). BlocksAre new.blocks
               ((front.addr, words_block after) ∷ (bucket_entries items ++ rest))) (sym (removed_is f))
               (taken_out item_addr item_block counted.blocks new.blocks ((front.addr, words_block after) ∷ []) rest 0 0 f.before
               (item_block 0 (first_of item_addr 0 f.behind) f.item) f.item.addr f.behind gone (counted_stands o f rest s));

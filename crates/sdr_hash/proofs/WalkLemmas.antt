@@ -5,7 +5,7 @@ use Rattle.std.specs.Option.{option_or}
 use Rattle.std.proofs.lemmas.List.Elements.{All-head, All-tail}
 use Rattle.std.proofs.lemmas.List.Folds.{find-append}
 use Rattle.sdr_base.specs.Blocks.{Blocks, Reaches}
-use Rattle.sdr_base.specs.Entries.{Few, Stands}
+use Rattle.sdr_base.specs.Entries.{Few, BlocksAre}
 use Rattle.sdr_base.specs.Hashes.{HashItem, bucket_entries, item_addr, item_block}
 use Rattle.sdr_base.specs.Linked.{first_of}
 use Rattle.sdr_base.specs.Words.{HasWord}
@@ -14,7 +14,7 @@ use Rattle.sdr_base.proofs.ChainLemmas.{linked_found}
 use Rattle.sdr_base.proofs.LinkedLemmas.{length-linked}
 use Rattle.sdr_base.proofs.StandingLemmas.{at-nowhere, found}
 use Rattle.sdr_base.proofs.WritingLemmas.{reaches, word_is}
-use Rattle.sdr_hash.specs.Buckets.{has_key}
+use Rattle.sdr_hash.specs.Buckets.{item_has_key}
 use Rattle.sdr_hash.specs.Kept.{ItemFits}
 use Rattle.sdr_hash.specs.Opened.{KeepsBucket, SomeBucket, opened_entries, words_block}
 use Rattle.sdr_hash.specs.Walks.{Compares, Searches, Walked, Walks, link_behind}
@@ -87,7 +87,7 @@ module _ {b : Blocks} {front : Link} {n : ℕ} {bucket : List HashItem} (k : Kee
       record {
         block =
             linked_found item_addr item_block b ((front.addr, words_block k.words) ∷ []) k.rest 0 0 xs x ys
-            (subst (λ (items : List HashItem). Stands b (opened_entries front.addr k.words items ++ k.rest)) e k.stands);
+            (subst (λ (items : List HashItem). BlocksAre b (opened_entries front.addr k.words items ++ k.rest)) e k.stands);
         fits = All-head (ItemFits n) x ys f;
         small = first_fits ys (All-tail (ItemFits n) x ys f);
       }
@@ -119,15 +119,15 @@ module _ {key : List ℕ} {front link : Link} {bucket : List HashItem} {cursor i
       (here k w.passed e.item e.behind (cut e))
 
   -- the first one that is left hasn't the key, and is passed
-  onward : (next : ℕ) (after : Link) (e : HasFirst w.left) → has_key key e.item ≡ false → next ≡ first_of item_addr 0 e.behind →
+  onward : (next : ℕ) (after : Link) (e : HasFirst w.left) → item_has_key key e.item ≡ false → next ≡ first_of item_addr 0 e.behind →
       after ≡ record { addr = cursor; field = 0 } → Walked key front bucket after next (i + 1)
   onward next after e fails n a = record {
     passed = w.passed ++ (e.item ∷ []);
     left = e.behind;
     whole = cut e ∙ sym (append_assoc w.passed (e.item ∷ []) e.behind);
     counted = let l = length-append w.passed (e.item ∷ []) in let c = w.counted in omega (arith, l, c);
-    none = find-append (has_key key) w.passed (e.item ∷ [])
-        ∙ ap (λ (o : Option HashItem). option_or o (find (has_key key) (e.item ∷ []))) w.none
+    none = find-append (item_has_key key) w.passed (e.item ∷ [])
+        ∙ ap (λ (o : Option HashItem). option_or o (find (item_has_key key) (e.item ∷ []))) w.none
         ∙ ap (λ v. cond v (Some e.item) None) fails;
     at_cursor = n;
     at_link = a ∙ ap (λ p. record { addr = p; field = 0 }) (cursor_is e) ∙ sym (link_behind-push front w.passed e.item);
@@ -150,9 +150,10 @@ module _ {key : List ℕ} {front link : Link} {bucket : List HashItem} {cursor i
       let c = w.counted in
       nothing w.left (omega (arith, n, a, l, whole, both, c, small, all))
 
-  not_found : w.left ≡ [] → find (has_key key) bucket ≡ None
+  not_found : w.left ≡ [] → find (item_has_key key) bucket ≡ None
   not_found none =
-      ap (find (has_key key)) (w.whole ∙ ap (λ (t : List HashItem). w.passed ++ t) none ∙ append-nil w.passed) ∙ w.none
+      ap (find (item_has_key key)) (w.whole ∙ ap (λ (t : List HashItem). w.passed ++ t) none ∙ append-nil w.passed)
+          ∙ w.none
 
 pub begun : {b : Blocks} {front : Link} {cursor : ℕ} (key : List ℕ) → HasWord (b front.addr) front.field cursor →
     Walks b front key front cursor 0

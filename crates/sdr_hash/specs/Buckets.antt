@@ -8,8 +8,8 @@ abbrev pub bucket_of : ℕ → List ℕ → ℕ
 bucket_of buckets key = sum key % buckets
 
 -- whether the entry has this key
-abbrev pub has_key : List ℕ → HashItem → Bool
-has_key key item = pointwise nat_eq key item.key
+abbrev pub item_has_key : List ℕ → HashItem → Bool
+item_has_key key item = pointwise nat_eq key item.key
 
 -- the entries in the bucket of a key
 abbrev pub items_by : HashRow → List ℕ → List HashItem
@@ -17,7 +17,7 @@ items_by row key = get_or row.buckets (bucket_of (length row.buckets) key) []
 
 -- the newest entry of a key, where there is one
 abbrev pub item_of : HashRow → List ℕ → Option HashItem
-item_of row key = find (has_key key) (items_by row key)
+item_of row key = find (item_has_key key) (items_by row key)
 
 -- the hash with other entries in the bucket of a key
 abbrev pub with_items : HashRow → List ℕ → List HashItem → HashRow
@@ -31,7 +31,7 @@ with_item row item = with_items row item.key (item ∷ items_by row item.key)
 unfoldable pub revised : List ℕ → ℕ → List HashItem → List HashItem
 revised key value [] = []
 revised key value (item ∷ items) =
-    if has_key key item then record item { value = value } ∷ items else item ∷ revised key value items
+    if item_has_key key item then record item { value = value } ∷ items else item ∷ revised key value items
 
 -- the hash with another value of a key
 abbrev pub with_value : HashRow → List ℕ → ℕ → HashRow
@@ -40,7 +40,7 @@ with_value row key value = with_items row key (revised key value (items_by row k
 -- the entries without the first of a key
 unfoldable pub removed : List ℕ → List HashItem → List HashItem
 removed key [] = []
-removed key (item ∷ items) = if has_key key item then items else item ∷ removed key items
+removed key (item ∷ items) = if item_has_key key item then items else item ∷ removed key items
 
 -- the hash without a key
 abbrev pub without_key : HashRow → List ℕ → HashRow

@@ -59,14 +59,15 @@ LacksBucket blocks hash key (Refused (refusals.BadKeyLength bytes want)) =
 LacksBucket blocks hash key stop = Misses (blocks hash) hash kinds.Hash stop
 
 -- what f tells of an entry, where there is one
-abbrev pub told_of : (HashItem → ℕ) → Option HashItem → Option ℕ
-told_of f None = None
-told_of f (Some item) = Some (f item)
+abbrev pub item_told : (HashItem → ℕ) → Option HashItem → Option ℕ
+item_told f None = None
+item_told f (Some item) = Some (f item)
 
 -- the key has this value in whichever hash is kept
 pub record FindsKey (blocks : Blocks) (hash : ℕ) (key : List ℕ) (value : ℕ) : Type 0 where
   pub is : IsKeyOf blocks hash key
-  pub finds : (row : HashRow) → KeepsHash blocks hash row → told_of (λ item. item.value) (item_of row key) ≡ Some value
+  pub finds : (row : HashRow) → KeepsHash blocks hash row → item_told (λ item. item.value) (item_of row key)
+      ≡ Some value
 
 -- whichever hash is kept hasn't the key
 pub record LacksKey (blocks : Blocks) (hash : ℕ) (key : List ℕ) : Type 0 where
@@ -108,7 +109,7 @@ InsertStops hash key old new stop = OnlyFault stop
 pub record HasKey (blocks : Blocks) (hash : ℕ) (key : List ℕ) : Type 0 where
   pub is : IsKeyOf blocks hash key
   pub addr : ℕ
-  pub here : (row : HashRow) → KeepsHash blocks hash row → told_of (λ item. item.addr) (item_of row key) ≡ Some addr
+  pub here : (row : HashRow) → KeepsHash blocks hash row → item_told (λ item. item.addr) (item_of row key) ≡ Some addr
 
 -- the key has another value in whichever hash is kept, with no move, and all else stays
 pub record RevisesKey (hash : ℕ) (key : List ℕ) (value : ℕ) (old new : Heap) : Type 0 where

@@ -1,7 +1,7 @@
 -- What the end of a hash comes to, and when it is refused.
 use Rattle.std.specs.Prelude.{◌≡◌, ℕ, List, [], ◌∷◌, ◌++◌, map, flat_map, take, drop, sum_by, length, Option, Some, None}
 use Rattle.sdr_base.specs.Blocks.{Block, IsKind}
-use Rattle.sdr_base.specs.Entries.{Changes, Entries, Stands}
+use Rattle.sdr_base.specs.Entries.{Changes, Entries, BlocksAre}
 use Rattle.sdr_base.specs.Hashes.{HashItem, HashRow, bucket_entries, hash_block, hash_entries, item_addr}
 use Rattle.sdr_base.specs.Making.{GaveSome, Made, gave}
 use Rattle.sdr_base.specs.Objects.{Heap, Misses, OnlyFault}
@@ -49,11 +49,12 @@ entries_in (Some block) = if_hash block.kind (number_at 16 block.bytes)
 
 -- so many buckets of a hash are gone, and so many entries are left
 pub record BucketsLeft (old now : Heap) (hash : ℕ) (row : HashRow) (rest : Entries) (bucket left : ℕ) : Type 0 where
-  pub stands : Stands now.blocks ((hash, hash_block row) ∷ (flat_map bucket_entries (drop bucket row.buckets) ++ rest))
+  pub stands : BlocksAre now.blocks
+      ((hash, hash_block row) ∷ (flat_map bucket_entries (drop bucket row.buckets) ++ rest))
   pub counted : left ≡ sum_by length (drop bucket row.buckets)
   pub made : Made (gave (addrs_in (take bucket row.buckets))) old now
 
 -- so it is with whichever hash is kept
 pub record GivesBuckets (old now : Heap) (hash bucket left : ℕ) : Type 0 where
-  pub gives : (row : HashRow) (rest : Entries) → Stands old.blocks (hash_entries hash row ++ rest) → HashFits row →
+  pub gives : (row : HashRow) (rest : Entries) → BlocksAre old.blocks (hash_entries hash row ++ rest) → HashFits row →
       BucketsLeft old now hash row rest bucket left

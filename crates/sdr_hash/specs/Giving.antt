@@ -1,7 +1,7 @@
 -- A bucket that is given back, the first entry first.
 use Rattle.std.specs.Prelude.{◌≡◌, ◌≤◌, ◌+◌, ◌-◌, ℕ, List, ◌∷◌, ◌++◌, length, map, Result, Ok, Err}
 use Rattle.sdr_base.specs.Blocks.{Blocks}
-use Rattle.sdr_base.specs.Entries.{Entries, Stands}
+use Rattle.sdr_base.specs.Entries.{Entries, BlocksAre}
 use Rattle.sdr_base.specs.Hashes.{HashItem, item_addr, item_block}
 use Rattle.sdr_base.specs.Making.{GaveSome, Made, gave}
 use Rattle.sdr_base.specs.Objects.{Heap, OnlyFault}
@@ -21,7 +21,7 @@ given most (Err stop) = most
 -- a bucket is opened here, of so many entries at most
 pub record OpenedAt (blocks : Blocks) (front : Link) (most key_length : ℕ) (words : List ℕ) (bucket : List HashItem)
     (rest : Entries) : Type 0 where
-  pub stands : Stands blocks (opened_entries front.addr words bucket ++ rest)
+  pub stands : BlocksAre blocks (opened_entries front.addr words bucket ++ rest)
   pub opened : IsOpened key_length front.field words bucket
   pub few : length bucket ≤ most
 
@@ -34,7 +34,7 @@ pub record SomeOpened (blocks : Blocks) (front : Link) (most : ℕ) : Type 0 whe
   pub is : OpenedAt blocks front most key_length words bucket rest
 
 -- of whichever bucket is opened there so many first entries were given back
-pub record Gives (old now : Heap) (front : Link) (most cursor i : ℕ) : Type 0 where
+pub record GivesItems (old now : Heap) (front : Link) (most cursor i : ℕ) : Type 0 where
   pub gives : (key_length : ℕ) (words : List ℕ) (bucket : List HashItem) (rest : Entries) →
       OpenedAt old.blocks front most key_length words bucket rest →
       Part (ItemFits key_length) item_addr item_block 0 old now cursor i bucket ((front.addr, words_block words) ∷ rest)
@@ -42,7 +42,7 @@ pub record Gives (old now : Heap) (front : Link) (most cursor i : ℕ) : Type 0 
 -- the bucket's entries were given back, and the other blocks stand
 pub record Gone (old new : Heap) (hash : ℕ) (words : List ℕ) (bucket : List HashItem) (rest : Entries)
     (most left : ℕ) : Type 0 where
-  pub stands : Stands new.blocks ((hash, words_block words) ∷ rest)
+  pub stands : BlocksAre new.blocks ((hash, words_block words) ∷ rest)
   pub counted : length bucket + left ≡ most
   pub made : Made (gave (map item_addr bucket)) old new
 

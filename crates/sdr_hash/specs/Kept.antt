@@ -1,7 +1,7 @@
 -- Hashes that are kept among blocks, and how large they may be.
 use Rattle.std.specs.Prelude.{◌≡◌, ◌≤◌, ◌<◌, ◌^◌, ◌⊎◌, ℕ, ◌++◌, length, All}
 use Rattle.sdr_base.specs.Blocks.{Blocks, IsKind}
-use Rattle.sdr_base.specs.Entries.{Entries, Stands}
+use Rattle.sdr_base.specs.Entries.{Entries, BlocksAre}
 use Rattle.sdr_base.specs.Hashes.{HashItem, HashRow, hash_entries}
 use Rattle.sdr_base.specs.declared.kind.Kind.TheVariants as kinds
 use Rattle.sdr_base.specs.declared.refusal.Refusal.TheVariants as refusals
@@ -46,7 +46,7 @@ pub record HashFits (row : HashRow) : Type 0 where
 -- the hash is kept among these blocks
 pub record KeepsHash (blocks : Blocks) (hash : ℕ) (row : HashRow) : Type 0 where
   pub rest : Entries
-  pub stands : Stands blocks (hash_entries hash row ++ rest)
+  pub stands : BlocksAre blocks (hash_entries hash row ++ rest)
   pub fits : HashFits row
 
 -- some hash is kept there

@@ -1,7 +1,7 @@
 -- A hash that is opened at one bucket: the hash's own block, and that bucket's entries.
 use Rattle.std.specs.Prelude.{◌≡◌, ◌≤◌, ◌<◌, ◌+◌, ◌^◌, ℕ, List, [], ◌∷◌, ◌++◌, length, set, get_or, All}
 use Rattle.sdr_base.specs.Blocks.{Block, Blocks}
-use Rattle.sdr_base.specs.Entries.{Entries, Stands}
+use Rattle.sdr_base.specs.Entries.{Entries, BlocksAre}
 use Rattle.sdr_base.specs.Hashes.{HashItem, HashRow, bucket_entries, item_addr}
 use Rattle.sdr_base.specs.Linked.{first_of}
 use Rattle.sdr_base.specs.Words.{layout}
@@ -40,7 +40,7 @@ pub record IsOpened (key_length field : ℕ) (words : List ℕ) (bucket : List H
 pub record KeepsBucket (blocks : Blocks) (front : Link) (key_length : ℕ) (bucket : List HashItem) : Type 0 where
   pub words : List ℕ
   pub rest : Entries
-  pub stands : Stands blocks (opened_entries front.addr words bucket ++ rest)
+  pub stands : BlocksAre blocks (opened_entries front.addr words bucket ++ rest)
   pub opened : IsOpened key_length front.field words bucket
 
 -- some bucket is kept there, of keys of so many bytes

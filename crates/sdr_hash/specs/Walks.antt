@@ -4,7 +4,7 @@ use Rattle.std.specs.Cmp.Lexicographic.{pointwise}
 use Rattle.sdr_base.specs.Blocks.{Block, Blocks, HasBytes}
 use Rattle.sdr_base.specs.Hashes.{HashItem, item_addr}
 use Rattle.sdr_base.specs.Linked.{first_of}
-use Rattle.sdr_hash.specs.Buckets.{has_key}
+use Rattle.sdr_hash.specs.Buckets.{item_has_key}
 use Rattle.sdr_hash.specs.Opened.{FrontsBucket, KeepsBucket}
 use Rattle.sdr_hash.specs.declared.bucket.Link.{Link}
 use Rattle.sdr_hash.specs.declared.searching.Place.{Place}
@@ -20,7 +20,7 @@ pub record Walked (key : List ℕ) (front : Link) (bucket : List HashItem) (link
   pub left : List HashItem
   pub whole : bucket ≡ passed ++ left
   pub counted : length passed ≡ i
-  pub none : find (has_key key) passed ≡ None
+  pub none : find (item_has_key key) passed ≡ None
   pub at_cursor : cursor ≡ first_of item_addr 0 left
   pub at_link : link ≡ link_behind front passed
 
@@ -34,14 +34,14 @@ pub record IsFirst (key : List ℕ) (front : Link) (bucket : List HashItem) (pla
   pub item : HashItem
   pub behind : List HashItem
   pub whole : bucket ≡ before ++ (item ∷ behind)
-  pub none : find (has_key key) before ≡ None
-  pub keyed : has_key key item ≡ true
+  pub none : find (item_has_key key) before ≡ None
+  pub keyed : item_has_key key item ≡ true
   pub at_addr : place.addr ≡ item.addr
   pub at_link : place.link ≡ link_behind front before
 
 -- this is the place of the key in the bucket, or there is none
 abbrev pub Searched : List ℕ → Link → List HashItem → Option Place → Type 0
-Searched key front bucket None = find (has_key key) bucket ≡ None
+Searched key front bucket None = find (item_has_key key) bucket ≡ None
 Searched key front bucket (Some place) = IsFirst key front bucket place
 
 -- so it is in whichever bucket is kept

@@ -2,7 +2,7 @@
 ghost use Rattle.std.specs.Prelude.{◌≡◌, ◌≤◌, ◌+◌, ◌/◌, length, IfErr, OnOk};
 ghost use Rattle.sdr_base.specs.Moves.{KeepsSome};
 ghost use Rattle.sdr_base.specs.Objects.{OnlyShort, OnlyUnmoved};
-ghost use Rattle.sdr_base.specs.Works.{Works};
+ghost use Rattle.sdr_base.specs.Works.{Spends};
 ghost use Rattle.sdr_hash.specs.Calls.{ChangeStops, InsertsKey, InsertStops, RemovesKey, RevisesKey};
 ghost use Rattle.sdr_hash.specs.Changes.{AddsFirst, SomePlace, TakesOut};
 ghost use Rattle.sdr_hash.specs.Kept.{IsHash};
@@ -22,7 +22,7 @@ pub fn insert<O: Objects>(o: &mut O, hash: Addr, key: &[u8], value: u64) -> Resu
     ensures inserted { OnOk result
         (InsertsKey hash key.now value (O.heap o.old) (O.heap o.new)) }
     ensures refused { IfErr result (InsertStops hash key.now (O.heap o.old) (O.heap o.new)) }
-    ensures works { Works O.HasHeap
+    ensures works { Spends O.HasHeap
         (30 + (KEY_FROM + length key.now) / 32) o.old o.new result }
 {
     let front = front_of(o, hash, key)?;
@@ -43,7 +43,7 @@ fn add_first<O: Objects>(o: &mut O, front: Link, key: &[u8], value: u64) -> Resu
     ensures added { OnOk result (AddsFirst front key.now value (O.heap o.old) (O.heap o.new)) }
     ensures refused { IfErr result
         (OnlyShort (KEY_FROM + length key.now) (O.heap o.old) (O.heap o.new)) }
-    ensures works { Works O.HasHeap
+    ensures works { Spends O.HasHeap
         (30 + (KEY_FROM + length key.now) / 32) o.old o.new result }
 {
     let next = word(o, front.addr, front.field)?;
@@ -60,7 +60,7 @@ pub fn revise<O: Objects>(o: &mut O, hash: Addr, key: &[u8], value: u64) -> Resu
     ensures revised { OnOk result
         (RevisesKey hash key.now value (O.heap o.old) (O.heap o.new)) }
     ensures refused { IfErr result (ChangeStops hash key.now (O.heap o.old) (O.heap o.new)) }
-    ensures works { Works O.HasHeap 2 o.old o.new result }
+    ensures works { Spends O.HasHeap 2 o.old o.new result }
 {
     let (_, place) = locate(o, hash, key)?;
     set_word(o, place.addr, words::VALUE, value)
@@ -73,7 +73,7 @@ pub fn remove<O: Objects>(o: &mut O, hash: Addr, key: &[u8]) -> Result<(), Stop>
     requires hash { IsHash (O.heap o.old).blocks hash }
     ensures removed { OnOk result (RemovesKey hash key.now (O.heap o.old) (O.heap o.new)) }
     ensures refused { IfErr result (ChangeStops hash key.now (O.heap o.old) (O.heap o.new)) }
-    ensures works { Works O.HasHeap 28 o.old o.new result }
+    ensures works { Spends O.HasHeap 28 o.old o.new result }
 {
     let (front, place) = locate(o, hash, key)?;
     take_out(o, front, place)
@@ -86,7 +86,7 @@ fn take_out<O: Objects>(o: &mut O, front: Link, place: Place) -> Result<(), Stop
     requires place { SomePlace (O.heap o.old).blocks front place }
     ensures taken { OnOk result (TakesOut front place (O.heap o.old) (O.heap o.new)) }
     ensures refused { IfErr result (OnlyUnmoved (O.heap o.old) (O.heap o.new)) }
-    ensures works { Works O.HasHeap 28 o.old o.new result }
+    ensures works { Spends O.HasHeap 28 o.old o.new result }
 {
     let next = word(o, place.addr, words::NEXT)?;
     let count = word(o, front.addr, hash_words::ENTRIES)?;

@@ -4,7 +4,7 @@ ghost use Rattle.sdr_base.specs.Blocks.{UsesRange};
 ghost use Rattle.sdr_base.specs.Moves.{KeepsSome};
 ghost use Rattle.sdr_base.specs.Objects.{OnlyUnmoved, with_given};
 ghost use Rattle.sdr_base.specs.Words.{HasWord};
-ghost use Rattle.sdr_base.specs.Works.{Works};
+ghost use Rattle.sdr_base.specs.Works.{Spends};
 ghost use Rattle.sdr_hash.specs.Destroying.{DestroysHash, DestroyStops, entries_in};
 ghost use Rattle.sdr_hash.specs.Giving.{GivesBucket, GiveStops, SomeOpened, given};
 ghost use Rattle.sdr_hash.specs.Kept.{IsHash};
@@ -22,7 +22,7 @@ pub fn destroy<O: Objects>(o: &mut O, hash: Addr) -> Result<(), Stop>
     requires hash { IsHash (O.heap o.old).blocks hash }
     ensures destroyed { OnOk result (DestroysHash hash (O.heap o.old) (O.heap o.new)) }
     ensures refused { IfErr result (DestroyStops hash (O.heap o.old) (O.heap o.new)) }
-    ensures works { Works O.HasHeap
+    ensures works { Spends O.HasHeap
         (24 * (entries_in ((O.heap o.old).blocks hash) + 1)) o.old o.new result }
 {
     let buckets = hash_word(o, hash, words::BUCKETS)?;
@@ -45,7 +45,7 @@ fn give_bucket<O: Objects>(o: &mut O, front: Link, most: u64) -> Result<u64, Sto
     requires bucket { SomeOpened (O.heap o.old).blocks front most }
     ensures given { IfOk result (GivesBucket (O.heap o.old) (O.heap o.new) front most) }
     ensures refused { IfErr result (GiveStops front most (O.heap o.old) (O.heap o.new)) }
-    ensures works { Works O.HasHeap (24 * given most result) o.old o.new result }
+    ensures works { Spends O.HasHeap (24 * given most result) o.old o.new result }
 {
     let mut entry = word(o, front.addr, front.field)?;
     for i in 0..most {
@@ -65,7 +65,7 @@ fn give_one<O: Objects>(o: &mut O, entry: Addr) -> Result<Addr, Stop>
     ensures next { IfOk result (λ next. HasWord ((O.heap o.old).blocks entry) 0 next) }
     ensures given { OnOk result (O.heap o.new ≡ with_given (O.heap o.old) entry) }
     ensures refused { IfErr result (OnlyUnmoved (O.heap o.old) (O.heap o.new)) }
-    ensures works { Works O.HasHeap 24 o.old o.new result }
+    ensures works { Spends O.HasHeap 24 o.old o.new result }
 {
     let next = word(o, entry, entry_words::NEXT)?;
     o.give(entry)?;

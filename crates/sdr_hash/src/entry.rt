@@ -3,7 +3,7 @@ ghost use Rattle.std.specs.Prelude.{◌≡◌, ◌≤◌, ◌+◌, ◌/◌, [], 
 ghost use Rattle.sdr_base.specs.Moves.{KeepsSome};
 ghost use Rattle.sdr_base.specs.Objects.{OnlyShort};
 ghost use Rattle.sdr_base.specs.Words.{TakesBytes, layout};
-ghost use Rattle.sdr_base.specs.Works.{Works};
+ghost use Rattle.sdr_base.specs.Works.{Spends};
 ghost use Rattle.sdr_base.specs.declared.kind.Kind.TheVariants as kinds;
 
 use crate::hash::LONGEST_KEY;
@@ -22,7 +22,7 @@ pub fn take_entry<O: Objects>(o: &mut O, next: Addr, value: u64, key: &[u8]) -> 
         (layout (next ∷ value ∷ []) key.now) addr (O.heap o.old) (O.heap o.new)) }
     ensures refused { IfErr result
         (OnlyShort (KEY_FROM + length key.now) (O.heap o.old) (O.heap o.new)) }
-    ensures works { Works O.HasHeap
+    ensures works { Spends O.HasHeap
         (26 + (KEY_FROM + length key.now) / 32) o.old o.new result }
 {
     let mut buffer = [0; KEY_FROM + LONGEST_KEY];

@@ -8,14 +8,14 @@ use Rattle.std.proofs.lemmas.Bool.{ltb-false}
 use Rattle.std.proofs.lemmas.Bool.Decides.{nat_tests}
 use Rattle.sdr_base.specs.KeptLarge.{KeepsLarge, is_used_of}
 use Rattle.sdr_base.specs.KeptPools.{KeepsSmall}
-use Rattle.sdr_base.specs.LargePool.{extent_of, without, placed, with_unlinked, with_used_large, with_free_large}
+use Rattle.sdr_base.specs.LargePool.{extent_of, without, with_placed, with_unlinked, with_used_large, with_free_large}
 use Rattle.sdr_base.specs.LargePool.{found_large, take_found, take_large, with_cut, with_new_large}
 use Rattle.sdr_base.specs.Pools.{PoolBlock, Pools, is_of, is_used_at}
 use Rattle.sdr_base.specs.SmallPool.{Taken, take_small}
 use Rattle.sdr_base.proofs.PoolsLemmas.{free-used-le-at}
 use Rattle.sdr_large.specs.Gap.{IsFree}
 use Rattle.sdr_large.specs.Calls.{TakesBlock, TakesBy, TakesLarge}
-use Rattle.sdr_large.proofs.BlocksLemmas.{count_by-placed, without-le}
+use Rattle.sdr_large.proofs.BlocksLemmas.{count_by-with_placed, without-le}
 use Rattle.sdr_large.proofs.BothPoolsLemmas.{SameSmall, cut_same, new_same}
 use Rattle.sdr_large.proofs.FoundLemmas.{IsFound, found_is}
 use Rattle.sdr_large.proofs.GapLemmas.{not_put}
@@ -93,17 +93,17 @@ own words addr used = grind (arith, nat_tests)
 
 -- a block that was put is there
 put_there : (words addr : ℕ) (used : Bool) (bs : List PoolBlock) →
-    0 < count_by (is_of words addr) (placed (block_of words addr used) bs)
+    0 < count_by (is_of words addr) (with_placed (block_of words addr used) bs)
 put_there words addr used bs = omega (
   arith,
-  count_by-placed (is_of words addr) (block_of words addr used) bs,
+  count_by-with_placed (is_of words addr) (block_of words addr used) bs,
   ap (λ (v : Bool). cond v 1 0 + count_by (is_of words addr) bs) (own words addr used),
 )
 
 -- one that comes into use alone
 pub put_came : (words addr : ℕ) (old bs : List PoolBlock) →
     ((w other : ℕ) → count_by (is_used_of w other) bs ≤ count_by (is_used_of w other) old) →
-    NoneCame addr old (placed (block_of words addr true) bs)
+    NoneCame addr old (with_placed (block_of words addr true) bs)
 put_came words addr old bs le = record {
   was = λ w other differ used. omega (
     arith,
@@ -134,7 +134,7 @@ module _ (P : Pools) (words : ℕ) (b : ℕ × ℕ) where
           arith,
           used,
           not_put (is_used_of w other) (block_of (b.1 - words - 4) (b.0 + extent_of words) false)
-              (placed (block_of words b.0 true) (without b.0 P.large))
+              (with_placed (block_of words b.0 true) (without b.0 P.large))
               (used_free (b.1 - words - 4) (b.0 + extent_of words) w other),
         ));
       }
@@ -144,8 +144,8 @@ module _ (P : Pools) (words : ℕ) (b : ℕ × ℕ) where
   cut_there false = omega (
     arith,
     put_there words b.0 true (without b.0 P.large),
-    count_by-placed (is_of words b.0) (block_of (b.1 - words - 4) (b.0 + extent_of words) false)
-        (placed (block_of words b.0 true) (without b.0 P.large)),
+    count_by-with_placed (is_of words b.0) (block_of (b.1 - words - 4) (b.0 + extent_of words) false)
+        (with_placed (block_of words b.0 true) (without b.0 P.large)),
   )
 
   cut_enough : (v : Bool) → words ≤ b.1 → words ≤ cond v b.1 words

@@ -5,7 +5,7 @@ use Rattle.std.specs.Prelude.{Some, None}
 use Rattle.std.specs.List.{count_by}
 use Rattle.std.proofs.lemmas.Bool.{cases_Bool, cases_lt, eq-eqb}
 use Rattle.sdr_base.specs.Blocks.{Block}
-use Rattle.sdr_base.specs.Entries.{Entries, Few, Stands, at, times}
+use Rattle.sdr_base.specs.Entries.{Entries, Few, BlocksAre, at, times}
 use Rattle.sdr_base.specs.LargePool.{without}
 use Rattle.sdr_base.specs.Pools.{PoolBlock, Pools, is_at}
 use Rattle.sdr_base.proofs.FewLemmas.{Tiles-few}
@@ -86,7 +86,7 @@ block_in-few x P keeps = record {
       );
 }
   where
-    is_there : (es : Entries) → Stands (block_in x) es → (addr : ℕ) → 0 < times addr es →
+    is_there : (es : Entries) → BlocksAre (block_in x) es → (addr : ℕ) → 0 < times addr es →
         0 < count_by (is_at addr) (P.small ++ P.large)
     is_there es stands addr listed = elim (cases_lt 0 (count_by (is_at addr) (P.small ++ P.large))) [
       | inl some ↦ some

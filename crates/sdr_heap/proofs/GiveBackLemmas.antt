@@ -13,8 +13,8 @@ use Rattle.sdr_base.specs.SmallPool.{give_small}
 use Rattle.sdr_base.specs.Stored.{number_at}
 use Rattle.sdr_base.proofs.KeptPoolsLemmas.{in_order}
 use Rattle.sdr_base.proofs.ObjectsLemmas.{with_block-here, with_block-apart}
-use Rattle.sdr_small.specs.Calls.{Gives as SmallGives, KeepsUsedSmall}
-use Rattle.sdr_large.specs.Calls.{Gives, KeepsUsedLarge}
+use Rattle.sdr_small.specs.Calls.{GivesSmall as SmallGives, KeepsUsedSmall}
+use Rattle.sdr_large.specs.Calls.{GivesLarge, KeepsUsedLarge}
 use Rattle.sdr_heap.specs.Calls.{GivesBack}
 use Rattle.sdr_base.specs.KeptHeap.{KeepsHeap, KeepsSomeHeap, block_in}
 use Rattle.sdr_heap.proofs.BesideLemmas.{IsWithout}
@@ -95,7 +95,7 @@ small_back x mid y addr kept uses low same gives = given_back x y addr kept uses
 
 -- and one above to the large pool
 pub large_back : (x mid y : List ℕ) (addr : ℕ) → KeepsSomeHeap x → Uses (block_in x) addr → number_at 16 x ≤ addr - 8 →
-    mid ≡ x → Gives addr mid y → GivesBack addr x y
+    mid ≡ x → GivesLarge addr mid y → GivesBack addr x y
 large_back x mid y addr kept uses high same gives = given_back x y addr kept uses (λ P keeps.
     let used = high_large x P addr keeps uses high in
     subst (λ (Q : Pools). IsWithout Q addr x y)
@@ -104,7 +104,7 @@ large_back x mid y addr kept uses high same gives = given_back x y addr kept use
       (large_block x P keeps.small keeps.large addr used).first,
       keeps.small.tiles.bounds.order,
     ))))
-    (large_given P addr x y keeps used (subst (λ (l : List ℕ). Gives addr l y) same gives)))
+    (large_given P addr x y keeps used (subst (λ (l : List ℕ). GivesLarge addr l y) same gives)))
 
 -- and so it can be given back there
 pub small_can : (x y : List ℕ) (addr : ℕ) → KeepsSomeHeap x → Uses (block_in x) addr → addr - 8 < number_at 16 x →

@@ -8,7 +8,7 @@ use Rattle.sdr_base.specs.LargeGiving.{Loose, loosened, with_below, with_above, 
 use Rattle.sdr_base.specs.LargeGiving.{is_free_at, is_free_below, give_large}
 use Rattle.sdr_base.specs.LargePool.{extent_of, without, with_free_large}
 use Rattle.sdr_base.specs.Pools.{PoolBlock, Pools, IsUsed, is_at, is_of, is_used_at}
-use Rattle.sdr_large.specs.Calls.{Gives}
+use Rattle.sdr_large.specs.Calls.{GivesLarge}
 use Rattle.sdr_large.proofs.BlocksLemmas.{without-le, without-here, used_at_is}
 use Rattle.sdr_large.proofs.BothPoolsLemmas.{give_same}
 use Rattle.sdr_large.proofs.GapLemmas.{not_put}
@@ -80,7 +80,7 @@ given_gone P addr = omega (
 
 -- a large block given back
 module _ (P : Pools) (addr : ℕ) (x y : List ℕ) (keeps : KeepsHeap x P) (used : IsUsed P.large addr)
-    (gives : Gives addr x y) where
+    (gives : GivesLarge addr x y) where
   pub large_given : IsWithout (give_large P addr) addr x y
   large_given =
       let Q : Pools = give_large P addr in

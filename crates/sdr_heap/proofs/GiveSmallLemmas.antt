@@ -4,7 +4,7 @@ use Rattle.std.proofs.Common.{List, refl, arith}
 use Rattle.sdr_base.specs.Pools.{Pools, IsUsed}
 use Rattle.sdr_base.specs.SmallPool.{give_small, words_at}
 use Rattle.sdr_base.proofs.SmallPoolLemmas.{words_at-is, used-with_used_given}
-use Rattle.sdr_small.specs.Calls.{Gives as SmallGives}
+use Rattle.sdr_small.specs.Calls.{GivesSmall as SmallGives}
 use Rattle.sdr_base.specs.KeptHeap.{KeepsHeap}
 use Rattle.sdr_heap.proofs.BesideLemmas.{IsWithout, without_kept}
 use Rattle.sdr_heap.proofs.BlockInLemmas.{small_block}

@@ -5,7 +5,7 @@ use Rattle.sdr_base.specs.KeptHeap.{KeepsRegion, block_in, root_in}
 use Rattle.sdr_base.specs.Moves.{KeepsSome, Moves}
 use Rattle.sdr_base.specs.Objects.{Heap, IsUnmoved, OnlyFull, OnlyUnmoved, Settled}
 use Rattle.sdr_base.specs.Transaction.{Transaction, HasReason, TouchesAtMost, TouchesNone}
-use Rattle.sdr_base.specs.Works.{LeadsOn, Looks, StaysQuiet, Works}
+use Rattle.sdr_base.specs.Works.{LeadsOn, Looks, StaysQuiet, Spends}
 use Rattle.sdr_base.specs.declared.has_heap.HasHeap.{Ghosts}
 use Rattle.sdr_base.specs.declared.stop.Stop.{Stop}
 use Rattle.sdr_base.proofs.MovesLemmas.{Moves-kept, Moves-then}
@@ -51,7 +51,7 @@ module _ {C : Type 0} (bytes : C → List ℕ) (transaction : C → Transaction)
       inside.moves new.moves) →
       TouchesAtMost lines (transaction inside.cells) (transaction new.cells) result →
       HasReason (transaction inside.cells) (transaction new.cells) result → quiet inside.cells new.cells →
-      Works (ghosts_of bytes transaction quiet) lines seen new result
+      Spends (ghosts_of bytes transaction quiet) lines seen new result
   held_works lines inside seen new result is size kept moved room cause more = record {
     kept = Settled-then result (λ m.
         Moves-kept (KeepsRegion inside.size (bytes inside.cells)) (KeepsRegion new.size (bytes new.cells)) inside.moves

@@ -7,7 +7,7 @@ use Rattle.sdr_base.specs.KeptLarge.{KeepsLarge, is_used_of}
 use Rattle.sdr_base.specs.KeptPools.{IsOutside, KeepsSmall, StaysBeside, list_place}
 use Rattle.sdr_base.specs.Pools.{Pools, is_of, is_free_of}
 use Rattle.sdr_base.specs.Stored.{leader_words}
-use Rattle.sdr_base.proofs.KeptPoolsLemmas.{Chain-moved, IsBlock, IsInOrder, in_order, is_block, free_is, listed_is}
+use Rattle.sdr_base.proofs.KeptPoolsLemmas.{ChainFrom-moved, IsBlock, IsInOrder, in_order, is_block, free_is, listed_is}
 use Rattle.sdr_base.proofs.PoolsLemmas.{apart, free-used-le-at}
 use Rattle.sdr_base.proofs.StartBitsLemmas.{start_bit-same}
 use Rattle.sdr_base.proofs.StoredLemmas.{number_at-same, leader_kind-same, leader_words-same, leader_length-same}
@@ -79,7 +79,7 @@ module _ (x y : List ℕ) (P : Pools) (words addr : ℕ) (small : KeepsSmall x P
     low = number_at-same 16 x y (λ i ge lt. front i (omega (arith, lt, o.control))) ∙ small.low;
     high = number_at-same 24 x y (λ i ge lt. front i (omega (arith, lt, o.control))) ∙ small.high;
     lists = λ w some few.
-        Chain-moved x y (list_place w) (list_place w) (P.small_lists w)
+        ChainFrom-moved x y (list_place w) (list_place w) (P.small_lists w)
         (number_at-same (list_place w) x y (λ i ge lt. front i (omega (arith, lt, few, o.control))))
         (λ a there.
         let is = listed_is x P w a small there in

@@ -6,7 +6,7 @@ use Rattle.sdr_base.specs.Objects.{Heap, TakesZeros}
 use Rattle.sdr_base.specs.declared.kind.Kind.TheVariants as kinds
 use Rattle.sdr_base.proofs.ObjectsLemmas.{with_block-here}
 use Rattle.sdr_base.proofs.StoredLemmas.{number_at-zeros}
-use Rattle.sdr_heap.specs.Raw.{IsUnnamed, IsWhole}
+use Rattle.sdr_heap.specs.Raw.{IsUnnamed, HasSourceWord}
 
 -- a block that was taken stands at its address
 taken_here : (bytes addr : ℕ) (old new : Heap) → TakesZeros kinds.Raw (8 + bytes) addr old new →
@@ -16,9 +16,9 @@ taken_here bytes addr old new t =
 
 -- it has its source word
 pub taken_whole : (bytes addr : ℕ) (old new : Heap) → TakesZeros kinds.Raw (8 + bytes) addr old new →
-    IsWhole (new.blocks addr)
+    HasSourceWord (new.blocks addr)
 taken_whole bytes addr old new t =
-    subst IsWhole (sym (taken_here bytes addr old new t))
+    subst HasSourceWord (sym (taken_here bytes addr old new t))
     (λ _. omega (arith, length-replicate {A = ℕ} (8 + bytes) 0))
 
 -- which is 0

@@ -12,7 +12,7 @@ use Rattle.sdr_base.specs.KeptLarge.{KeepsLarge, is_entry, large_place}
 use Rattle.sdr_base.specs.KeptPools.{KeepsSmall, list_place}
 use Rattle.sdr_base.specs.Pools.{Pools, is_of, is_used_at}
 use Rattle.sdr_base.specs.Stored.{number_at, with_number}
-use Rattle.sdr_base.proofs.KeptPoolsLemmas.{Chain-moved, IsInOrder, in_order, is_block, free_is, listed_is}
+use Rattle.sdr_base.proofs.KeptPoolsLemmas.{ChainFrom-moved, IsInOrder, in_order, is_block, free_is, listed_is}
 use Rattle.sdr_base.proofs.PoolsLemmas.{at-first, used-le-at}
 use Rattle.sdr_large.proofs.FollowsLemmas.{at_first}
 use Rattle.sdr_base.proofs.StartBitsLemmas.{start_bit-same}
@@ -52,7 +52,7 @@ module _ (x y : List ℕ) (P : Pools) (keeps : KeepsHeap x P) (size : length y �
     low = number_at-same 16 x y (λ i ge lt. stays i (inl (omega (arith, lt)))) ∙ keeps.small.low;
     high = number_at-same 24 x y (λ i ge lt. stays i (inl (omega (arith, lt)))) ∙ keeps.small.high;
     lists = λ w some few.
-        Chain-moved x y (list_place w) (list_place w) (P.small_lists w)
+        ChainFrom-moved x y (list_place w) (list_place w) (P.small_lists w)
         (number_at-same (list_place w) x y (λ i ge lt. stays i (inl (omega (arith, lt, few)))))
         (λ a there.
         let b = is_block x P w a keeps.small (free_is P w a (listed_is x P w a keeps.small there)) in

@@ -18,9 +18,9 @@ use Rattle.sdr_base.specs.declared.stop.Stop.TheVariants.{Refused}
 use Rattle.sdr_heap.specs.declared.raw.TheConstants.{LONGEST_RAW, LONGEST_READ}
 
 -- a raw object has its source word
-abbrev pub IsWhole : Option Block → Type 0
-IsWhole None = ⊤
-IsWhole (Some block) = block.kind ≡ kinds.Raw → BYTES ≤ length block.bytes
+abbrev pub HasSourceWord : Option Block → Type 0
+HasSourceWord None = ⊤
+HasSourceWord (Some block) = block.kind ≡ kinds.Raw → BYTES ≤ length block.bytes
 
 -- no source names a raw object: its source word is 0
 abbrev pub IsUnnamed : Option Block → Type 0
@@ -111,7 +111,7 @@ WriteStops found addr place count old new (Refused refusal) =
 WriteStops found addr place count old new stop = OnlyFault stop
 
 -- a raw object of so many zero bytes was made, which no source names
-pub record Makes (bytes addr : ℕ) (old new : Heap) : Type 0 where
+pub record MakesRaw (bytes addr : ℕ) (old new : Heap) : Type 0 where
   pub short : bytes ≤ LONGEST_RAW
   pub taken : TakesZeros kinds.Raw (BYTES + bytes) addr old new
 

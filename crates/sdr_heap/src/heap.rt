@@ -79,7 +79,7 @@ impl<C: Cells> Heap<C> {
     }
 
     /// Forgets the moves, so that there is room for those of any one call.
-    pub fn fresh(&mut self)
+    pub fn clear_moves(&mut self)
         ensures none { self.new ≡ record self.old { moves = []; spare = self.new.spare } }
         ensures room { self.old.size / 4 + 4 ≤ self.new.spare }
     {

@@ -2,10 +2,10 @@
 ghost use Rattle.std.specs.Prelude.{◌≡◌, ◌+◌, ◌/◌, ◌≤◌, ◌<◌, length, IfOk, IfErr, OnErr, OnOk};
 ghost use Rattle.sdr_base.specs.Moves.{KeepsSome};
 ghost use Rattle.sdr_base.specs.Objects.{with_mark};
-ghost use Rattle.sdr_base.specs.Works.{Looks, Works};
+ghost use Rattle.sdr_base.specs.Works.{Looks, Spends};
 ghost use Rattle.sdr_base.specs.declared.layout.raw.TheConstants.{BYTES};
-ghost use Rattle.sdr_heap.specs.Raw.{HasTold, IsMissing, IsUnnamed, IsWhole};
-ghost use Rattle.sdr_heap.specs.Raw.{Makes, MallocStops, Frees, FreeStops};
+ghost use Rattle.sdr_heap.specs.Raw.{HasTold, IsMissing, IsUnnamed, HasSourceWord};
+ghost use Rattle.sdr_heap.specs.Raw.{MakesRaw, MallocStops, Frees, FreeStops};
 ghost use Rattle.sdr_heap.specs.Raw.{ReadsRaw, ReadStops, Stages, WritesRaw, WriteStops};
 
 use sdr_base::layout::raw::BYTES;
@@ -21,9 +21,9 @@ pub const LONGEST_READ: u64 = 4096;
 pub fn malloc<O: Objects>(o: &mut O, bytes: u64) -> Result<Addr, Stop>
     requires kept { KeepsSome (O.keeps o.old) }
     requires spare { 1 ≤ (O.heap o.old).spare }
-    ensures made { IfOk result (λ addr. Makes bytes addr (O.heap o.old) (O.heap o.new)) }
+    ensures made { IfOk result (λ addr. MakesRaw bytes addr (O.heap o.old) (O.heap o.new)) }
     ensures refused { IfErr result (MallocStops bytes (O.heap o.old) (O.heap o.new)) }
-    ensures works { Works O.HasHeap (24 + (BYTES + bytes) / 64) o.old o.new result }
+    ensures works { Spends O.HasHeap (24 + (BYTES + bytes) / 64) o.old o.new result }
 {
     check_failed(o)?;
     if bytes > LONGEST_RAW {
@@ -43,7 +43,7 @@ pub fn free<O: Objects>(o: &mut O, addr: Addr) -> Result<(), Stop>
     ensures given { OnOk result (Frees addr (O.heap o.old) (O.heap o.new)) }
     ensures refused { IfErr result
         (FreeStops ((O.heap o.old).blocks addr) addr (O.heap o.old) (O.heap o.new)) }
-    ensures works { Works O.HasHeap 24 o.old o.new result }
+    ensures works { Spends O.HasHeap 24 o.old o.new result }
 {
     match o.kind(addr)? {
         None => Err(Stop::Refused(Refusal::BadAddress { addr })),
@@ -106,7 +106,7 @@ fn check_count(count: u64) -> Result<(), Stop>
 /// Fills a buffer, of 4,096 bytes at most, with the bytes of a raw object from a place on.
 pub fn read<O: Objects>(o: &mut O, addr: Addr, place: u64, into: &mut [u8]) -> Result<(), Stop>
     requires kept { KeepsSome (O.keeps o.old) }
-    requires whole { IsWhole ((O.heap o.old).blocks addr) }
+    requires whole { HasSourceWord ((O.heap o.old).blocks addr) }
     ensures given { OnOk result
         (ReadsRaw ((O.heap o.old).blocks addr) place (length into.old) into.new) }
     ensures refused { IfErr result
@@ -122,12 +122,12 @@ pub fn read<O: Objects>(o: &mut O, addr: Addr, place: u64, into: &mut [u8]) -> R
 /// Writes bytes into a raw object from a place on, where it was taken or staged in this transaction.
 pub fn write<O: Objects>(o: &mut O, addr: Addr, place: u64, from: &[u8]) -> Result<(), Stop>
     requires kept { KeepsSome (O.keeps o.old) }
-    requires whole { IsWhole ((O.heap o.old).blocks addr) }
+    requires whole { HasSourceWord ((O.heap o.old).blocks addr) }
     ensures written { OnOk result
         (WritesRaw addr place from.now (O.heap o.old) (O.heap o.new)) }
     ensures refused { IfErr result (WriteStops ((O.heap o.old).blocks addr) addr place
         (length from.now) (O.heap o.old) (O.heap o.new)) }
-    ensures works { Works O.HasHeap (2 + length from.now / 64) o.old o.new result }
+    ensures works { Spends O.HasHeap (2 + length from.now / 64) o.old o.new result }
 {
     let have = expect_kind(o, addr, Kind::Raw)?;
     check_range(addr, place, from.len() as u64, have)?;
@@ -141,7 +141,7 @@ pub fn write<O: Objects>(o: &mut O, addr: Addr, place: u64, from: &[u8]) -> Resu
 /// in this transaction from now on.
 pub fn stage<O: Objects>(o: &mut O, addr: Addr, into: &mut [u8]) -> Result<(), Stop>
     requires kept { KeepsSome (O.keeps o.old) }
-    requires whole { IsWhole ((O.heap o.old).blocks addr) }
+    requires whole { HasSourceWord ((O.heap o.old).blocks addr) }
     ensures given { OnOk result
         (ReadsRaw ((O.heap o.old).blocks addr) 0 (length into.old) into.new) }
     ensures marked { OnOk result (O.heap o.new ≡ with_mark (O.heap o.old) addr) }

@@ -2,7 +2,7 @@
 use Rattle.std.proofs.Common.{◌≡◌, ◌<◌, ◌≤◌, ℕ, ◌+◌, ◌*◌, true, List, [], ◌∷◌, length, sym, ap, ◌∙◌, arith}
 use Rattle.sdr_base.proofs.PartsLemmas.{length-part}
 use Rattle.sdr_log.specs.Batch.{batch_size, with_batch}
-use Rattle.sdr_log.specs.Calls.{AreNamed, HoldLines, Opens, with_records}
+use Rattle.sdr_log.specs.Calls.{AreNamed, HoldLines, OpensBatch, with_records}
 use Rattle.sdr_log.specs.Log.{AreLines, are_good, heap_of, put_records}
 use Rattle.sdr_log.specs.Logged.{IsAtRest, IsOpen, Logs}
 use Rattle.sdr_log.specs.declared.frame.Frame.{Frame}
@@ -39,7 +39,7 @@ module _ (f : Frame) (olds news : List Record) (x : List ℕ) (h : HasBytes f (h
   whole = AreLines-HoldLines f.heap_lines olds (heap_of f x) good (omega (arith, length-heap_of f x h.regions)) own
 
   -- the batch is open
-  opened : Opens f 0 olds x (with_batch 0 olds x) (λ image. image ≡ with_batch 0 olds x)
+  opened : OpensBatch f 0 olds x (with_batch 0 olds x) (λ image. image ≡ with_batch 0 olds x)
   opened =
       opens_written f 0 olds x (λ image. image ≡ x) (rest_may_open f olds x _ rests good own) whole some fits
       (with_batch 0 olds x) (λ image. image ≡ with_batch 0 olds x)

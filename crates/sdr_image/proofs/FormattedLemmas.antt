@@ -9,7 +9,7 @@ use Rattle.sdr_base.specs.Parts.{overwrite, part}
 use Rattle.sdr_base.proofs.FreshHeapLemmas.{length-fresh_heap}
 use Rattle.sdr_base.proofs.PartsLemmas.{length-overwrite, get_or-overwrite_inside, get_or-overwrite_outside}
 use Rattle.sdr_base.proofs.PartsLemmas.{overwrite-apart, part-overwrite}
-use Rattle.sdr_log.specs.Frame.{IsInLimits, disk_bytes, heap_place, frame_in, frame_of, head_of, four, number}
+use Rattle.sdr_log.specs.Frame.{IsInLimits, disk_bytes, heap_place, frame_in, frame_of, head_of, four, first_number}
 use Rattle.sdr_log.specs.Log.{heap_of, put_back_of}
 use Rattle.sdr_log.specs.declared.frame.Frame.{Frame}
 use Rattle.sdr_log.proofs.FrameLemmas.{frame_of_head, length-head_of}
@@ -18,7 +18,7 @@ use Rattle.sdr_image.specs.Format.{formatted}
 
 -- the lengths that stand in the head of some regions are theirs
 frame_in-head_of : (f : Frame) → IsInLimits f → frame_in (head_of f) ≡ f
-unfolding head_of four number
+unfolding head_of four first_number
 frame_in-head_of f limits i = record {
   log_lines = big_number-reads_back 4 f.log_lines (four f.heap_lines ++ replicate 44 0) (omega (arith, limits.most_log)) i;
   heap_lines = big_number-reads_back 4 f.heap_lines (replicate 44 0) (omega (arith, limits.most_heap)) i;

@@ -8,7 +8,7 @@ use Rattle.sdr_base.specs.Parts.{overwrite, part}
 use Rattle.sdr_base.proofs.PartsLemmas.{sides, length-overwrite, get_or-overwrite_outside, length-part}
 use Rattle.sdr_disk.specs.Told.{IfTold}
 use Rattle.sdr_log.specs.Frame.{room_of}
-use Rattle.sdr_log.specs.Log.{is_named, put_records}
+use Rattle.sdr_log.specs.Log.{names_line, put_records}
 use Rattle.sdr_log.specs.declared.frame.Frame.{Frame}
 use Rattle.sdr_log.specs.declared.record.Record.{Record}
 use Rattle.sdr_log.proofs.RecordsLemmas.{SameBut-put_records, put_records-same_but, put_records-own}
@@ -20,14 +20,14 @@ use Rattle.sdr_image.proofs.TouchedLemmas.{is_among-lines_named, is_among-lines_
 module _ (size : ℕ) (told : Option (List ℕ)) (f : Frame) (bytes : List ℕ) (undo : Olds)
     (memory : ℕ) (is_open failed : Bool) (i : IsImage size told f bytes undo memory is_open failed) where
   -- where a line more is kept, the bytes at begin are the same
-  pub begun-keep : (r : Record) → r.line < f.heap_lines → is_named undo.olds r.line ≡ false →
+  pub begun-keep : (r : Record) → r.line < f.heap_lines → names_line undo.olds r.line ≡ false →
       r.bytes ≡ part (64 * r.line) 64 bytes → put_records (undo.olds ++ r ∷ []) bytes ≡ put_records undo.olds bytes
   begun-keep r below new own =
       put_records-own f.heap_lines undo.olds r bytes i.good i.whole (omega (arith, i.long)) below new own
 
   -- and the image after it
   pub IsImage-keep : (r : Record) (undo' : Olds) → undo' ≡ record undo { olds = undo.olds ++ r ∷ [] } →
-      r.line < f.heap_lines → is_named undo.olds r.line ≡ false → length undo.olds < room_of f →
+      r.line < f.heap_lines → names_line undo.olds r.line ≡ false → length undo.olds < room_of f →
       r.bytes ≡ part (64 * r.line) 64 bytes → IsImage size told f bytes undo' memory true failed
   IsImage-keep r undo' is below new few own =
       let inside : 64 * r.line + 64 ≤ length bytes = omega (arith, i.long, below) in
@@ -58,7 +58,7 @@ module _ (size : ℕ) (told : Option (List ℕ)) (f : Frame) (bytes : List ℕ) 
         same = λ k other. get_or-overwrite_outside place from bytes k inside (outside k other);
       })
     where
-      outside : (k : ℕ) → is_named undo.olds (k / 64) ≡ false → (k < place) ⊎ (place + length from ≤ k)
+      outside : (k : ℕ) → names_line undo.olds (k / 64) ≡ false → (k < place) ⊎ (place + length from ≤ k)
       outside k other = elim (sides place (length from) k) [
         | inl out ↦ out
         | inr w ↦

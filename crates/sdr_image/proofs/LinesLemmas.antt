@@ -11,7 +11,7 @@ use Rattle.std.proofs.lemmas.List.Sums.{sum_by-cons}
 use Rattle.sdr_base.proofs.PartsLemmas.{length-overwrite, length-part, part-overwrite}
 use Rattle.sdr_base.specs.Parts.{overwrite, part}
 use Rattle.sdr_log.specs.Calls.{AreBelow, AreNamed, HoldLines}
-use Rattle.sdr_log.specs.Log.{AreLines, are_good, is_named, put_records}
+use Rattle.sdr_log.specs.Log.{AreLines, are_good, names_line, put_records}
 use Rattle.sdr_log.specs.declared.record.Record.{Record}
 use Rattle.sdr_log.proofs.GoodLemmas.{AreBelow-good, put_records-all_own}
 use Rattle.sdr_log.proofs.RecordsLemmas.{SameBut, SameBut-put_records, are_good-cons, part-same_but}
@@ -38,8 +38,8 @@ HoldLines-permutation heap a b p own = back b (All-permutation (Holds heap) a b 
     back [] all = tt
     back (r ∷ rs) all = (all 0 r (omega arith), back rs (λ k d lt. all (suc k) d (omega arith)))
 
-pub is_named-permutation : (a b : List Record) (line : ℕ) → IsPermutation a b → is_named b line ≡ is_named a line
-is_named-permutation a b line p =
+pub names_line-permutation : (a b : List Record) (line : ℕ) → IsPermutation a b → names_line b line ≡ names_line a line
+names_line-permutation a b line p =
     sym (is_among-lines_named b line)
     ∙ sym (list_any-IsPermutation (λ other. other == line) (lines_named a) (lines_named b)
     (IsPermutation-map (λ (r : Record). r.line) a b p))
@@ -52,19 +52,19 @@ once named = cond named 1 0
 abbrev times : ℕ → Record → ℕ
 times line r = once (r.line == line)
 
-times-none : (rs : List Record) (line : ℕ) → is_named rs line ≡ false → sum_by (times line) rs ≡ 0
+times-none : (rs : List Record) (line : ℕ) → names_line rs line ≡ false → sum_by (times line) rs ≡ 0
 times-none [] line other = refl
 times-none (r ∷ rs) line other =
     let first : (r.line == line) ≡ false = grind (arith, nat_tests) in
     let rest = times-none rs line (grind (arith, nat_tests)) in
     omega (arith, sum_by-cons (times line) r rs, ap once first, rest)
 
-times-some : (rs : List Record) (line : ℕ) → is_named rs line ≡ true → 1 ≤ sum_by (times line) rs
+times-some : (rs : List Record) (line : ℕ) → names_line rs line ≡ true → 1 ≤ sum_by (times line) rs
 times-some [] line is = absurd cc
 times-some (r ∷ rs) line is = by (r.line == line) refl is (times-some rs line)
   where
-    by : (b : Bool) → (r.line == line) ≡ b → (b || is_named rs line) ≡ true →
-        (is_named rs line ≡ true → 1 ≤ sum_by (times line) rs) → 1 ≤ sum_by (times line) (r ∷ rs)
+    by : (b : Bool) → (r.line == line) ≡ b → (b || names_line rs line) ≡ true →
+        (names_line rs line ≡ true → 1 ≤ sum_by (times line) rs) → 1 ≤ sum_by (times line) (r ∷ rs)
     by true same is rest = omega (arith, sum_by-cons (times line) r rs, ap once same)
     by false same is rest = omega (arith, sum_by-cons (times line) r rs, rest is)
 
@@ -73,15 +73,15 @@ times-good n [] line good = omega arith
 times-good n (r ∷ rs) line good =
     let g = are_good-cons n r rs good in by (r.line == line) refl g.1 (times-good n rs line g.2)
   where
-    by : (b : Bool) → (r.line == line) ≡ b → is_named rs r.line ≡ false → sum_by (times line) rs ≤ 1 →
+    by : (b : Bool) → (r.line == line) ≡ b → names_line rs r.line ≡ false → sum_by (times line) rs ≤ 1 →
         sum_by (times line) (r ∷ rs) ≤ 1
     by true same other le =
         let at : r.line ≡ line = grind (arith, nat_tests) in
-        let none = times-none rs line (ap (is_named rs) (sym at) ∙ other) in
+        let none = times-none rs line (ap (names_line rs) (sym at) ∙ other) in
         omega (arith, sum_by-cons (times line) r rs, ap once same, none)
     by false same other le = omega (arith, sum_by-cons (times line) r rs, ap once same, le)
 
-below-good : (n : ℕ) (rs : List Record) (line : ℕ) → are_good n rs ≡ true → is_named rs line ≡ true → line < n
+below-good : (n : ℕ) (rs : List Record) (line : ℕ) → are_good n rs ≡ true → names_line rs line ≡ true → line < n
 below-good n [] line good is = absurd cc
 below-good n (r ∷ rs) line good is =
     let g = are_good-cons n r rs good in
@@ -90,14 +90,14 @@ below-good n (r ∷ rs) line good is =
       | inr other ↦ below-good n rs line g.2 (grind (arith, nat_tests))
     ]
 
-good-times : (n : ℕ) (rs : List Record) → ((line : ℕ) → is_named rs line ≡ true → line < n) →
+good-times : (n : ℕ) (rs : List Record) → ((line : ℕ) → names_line rs line ≡ true → line < n) →
     ((line : ℕ) → sum_by (times line) rs ≤ 1) → are_good n rs ≡ true
 good-times n [] below few = refl
 good-times n (r ∷ rs) below few =
     let first : r.line < n = below r.line (grind (arith, nat_tests)) in
     let rest = good-times n rs (λ line is. below line (or_true (r.line == line) is))
     (λ line. omega (arith, few line, sum_by-cons (times line) r rs)) in
-    let new = apart (is_named rs r.line) refl in
+    let new = apart (names_line rs r.line) refl in
     grind (arith, nat_tests, first, rest, new)
   where
     or_true : (b : Bool) {c : Bool} → c ≡ true → (b || c) ≡ true
@@ -106,7 +106,7 @@ good-times n (r ∷ rs) below few =
     own : (k : ℕ) → (k == k) ≡ true
     own k = grind (arith, nat_tests)
 
-    apart : (b : Bool) → is_named rs r.line ≡ b → is_named rs r.line ≡ false
+    apart : (b : Bool) → names_line rs r.line ≡ b → names_line rs r.line ≡ false
     apart false is = is
     apart true is = absurd (omega (
       arith,
@@ -118,7 +118,7 @@ good-times n (r ∷ rs) below few =
 
 pub are_good-permutation : (n : ℕ) (a b : List Record) → IsPermutation a b → are_good n a ≡ true → are_good n b ≡ true
 are_good-permutation n a b p good =
-    good-times n b (λ line is. below-good n a line good (sym (is_named-permutation a b line p) ∙ is))
+    good-times n b (λ line is. below-good n a line good (sym (names_line-permutation a b line p) ∙ is))
     (λ line. omega (arith, sum_by-IsPermutation (times line) a b p, times-good n a line good))
 
 -- Records put into a heap stand there.
@@ -160,10 +160,10 @@ module _ (heap : List ℕ) where
   own_lines_in (line ∷ lines) = (refl, own_lines_in lines)
 
   -- they name the same lines
-  pub is_named-lines_in : (records : List Record) (line : ℕ) →
-      is_named (lines_in heap (lines_named records)) line ≡ is_named records line
-  is_named-lines_in [] line = refl
-  is_named-lines_in (r ∷ records) line = ap (λ (b : Bool). r.line == line || b) (is_named-lines_in records line)
+  pub names_line-lines_in : (records : List Record) (line : ℕ) →
+      names_line (lines_in heap (lines_named records)) line ≡ names_line records line
+  names_line-lines_in [] line = refl
+  names_line-lines_in (r ∷ records) line = ap (λ (b : Bool). r.line == line || b) (names_line-lines_in records line)
 
   pub AreNamed-lines_in : (all records : List Record) → AreNamed all records →
       AreNamed all (lines_in heap (lines_named records))
@@ -185,7 +185,7 @@ module _ (heap : List ℕ) where
   are_good-lines_in n (r ∷ records) good =
       let g = are_good-cons n r records good in
       let rest = are_good-lines_in n records g.2 in
-      let new = is_named-lines_in records r.line ∙ g.1 in
+      let new = names_line-lines_in records r.line ∙ g.1 in
       grind (arith, nat_tests, g.0, rest, new)
 
   pub AreLines-lines_in : (n : ℕ) (records : List Record) → AreBelow n records → 64 * n ≤ length heap →
@@ -203,6 +203,6 @@ put_records-lines_in n records heap other good le s =
     let lines = AreLines-lines_in heap n records (AreBelow-good n records good) le in
     put_records-same_but n news heap other good' lines le (record {
       long = s.long;
-      same = λ i unnamed. s.same i (sym (is_named-lines_in heap records (i / 64)) ∙ unnamed);
+      same = λ i unnamed. s.same i (sym (names_line-lines_in heap records (i / 64)) ∙ unnamed);
     })
     ∙ put_records-all_own n [] news heap good' tt lines le (own_lines_in heap (lines_named records))

@@ -12,7 +12,7 @@ use Rattle.sdr_disk.proofs.ToldLemmas.{told_before}
 use Rattle.sdr_log.specs.Calls.{MayPutBack, PutsBack}
 use Rattle.sdr_log.specs.Frame.{frame_of}
 use Rattle.sdr_log.specs.Log.{heap_of, put_back_of, put_records}
-use Rattle.sdr_log.specs.Logged.{Gives, GivesSame, IsLogged}
+use Rattle.sdr_log.specs.Logged.{GivesHeap, GivesSame, IsLogged}
 use Rattle.sdr_log.specs.declared.frame.Frame.{Frame}
 use Rattle.sdr_log.specs.declared.record.Record.{Record}
 use Rattle.sdr_log.proofs.LoggedLemmas.{logged_same}
@@ -25,7 +25,7 @@ module _ (size : ℕ) (told : Option (List ℕ)) (f : Frame) (bytes : List ℕ) 
     (memory : ℕ) (is_open failed : Bool) (i : IsImage size told f bytes undo memory is_open failed)
     (sound : failed ≡ false) where
   -- opening the disk gives the bytes at begin
-  pub image_back : IfTold told (Gives (put_records undo.olds bytes))
+  pub image_back : IfTold told (GivesHeap (put_records undo.olds bytes))
   image_back x is = bytes_back f (put_records undo.olds bytes) x (i.disk sound x is)
 
   -- where nothing is touched, these are the bytes now
@@ -34,41 +34,43 @@ module _ (size : ℕ) (told : Option (List ℕ)) (f : Frame) (bytes : List ℕ) 
       subst (λ (olds : List Record). HasBytes f (put_records olds bytes) x) none (i.disk sound x is)
 
 -- Images whose disks rest.
-module _ {D : Type 0} (told : D → Option (List ℕ)) (moment : D → ℕ) (may_leave : D → ℕ → List ℕ → Type 0) where
+module _ {D : Type 0} (told : D → Option (List ℕ)) (moment : D → ℕ) (may_hold_after : D → ℕ → List ℕ → Type 0) where
   -- a crash leaves what gives the bytes at begin
-  pub rests_leaves : (i : Opened D) → i.failed ≡ false → Rests told moment may_leave i →
-      LeavesHeap told moment may_leave i.begun i.disk
+  pub rests_leaves : (i : Opened D) → i.failed ≡ false → Rests told moment may_hold_after i →
+      LeavesHeap told moment may_hold_after i.begun i.disk
   rests_leaves i sound rests x is image of_left = holds_gives i.frame i.begun x _ (rests sound x is) image of_left
 
   -- at the moment now it does
-  pub rests_now : (i : Opened D) → i.failed ≡ false → Rests told moment may_leave i →
-      IfTold (told i.disk) (λ _. AtEach moment may_leave i.disk i.disk (Gives i.begun))
-  rests_now i sound rests x is = at_first moment may_leave i.disk (Gives i.begun) (rests_leaves i sound rests x is)
+  pub rests_now : (i : Opened D) → i.failed ≡ false → Rests told moment may_hold_after i →
+      IfTold (told i.disk) (λ _. AtEach moment may_hold_after i.disk i.disk (GivesHeap i.begun))
+  rests_now i sound rests x is = at_first moment may_hold_after i.disk (GivesHeap i.begun)
+      (rests_leaves i sound rests x is)
 
   -- the disk still rests where it and the bytes at begin are the same
-  pub rests_same : (old new : Opened D) → IsQuiet old new → Rests told moment may_leave old →
-      Rests told moment may_leave new
+  pub rests_same : (old new : Opened D) → IsQuiet old new → Rests told moment may_hold_after old →
+      Rests told moment may_hold_after new
   rests_same old new q rests sound =
-      subst (λ (disk : D). IfTold (told disk) (λ x. HoldsHeap new.frame new.begun x (may_leave disk (moment disk))))
+      subst (λ (disk : D). IfTold (told disk)
+          (λ x. HoldsHeap new.frame new.begun x (may_hold_after disk (moment disk))))
       (sym q.disk)
       (subst (λ (f : Frame). IfTold (told old.disk)
-      (λ x. HoldsHeap f new.begun x (may_leave old.disk (moment old.disk)))) (sym q.frame)
+      (λ x. HoldsHeap f new.begun x (may_hold_after old.disk (moment old.disk)))) (sym q.frame)
       (subst (λ (heap : List ℕ). IfTold (told old.disk)
-      (λ x. HoldsHeap old.frame heap x (may_leave old.disk (moment old.disk)))) (sym q.begun)
+      (λ x. HoldsHeap old.frame heap x (may_hold_after old.disk (moment old.disk)))) (sym q.begun)
       (rests (sym q.failed ∙ sound))))
 
   -- what is quiet keeps the bytes at begin
-  pub quiet_keeps : (old new : Opened D) → IsQuiet old new → KeepsBegun told moment may_leave old new
+  pub quiet_keeps : (old new : Opened D) → IsQuiet old new → KeepsBegun told moment may_hold_after old new
   quiet_keeps old new q = record {
     rests = rests_same old new q;
     any_moment = λ sound rests x is.
-        subst (λ (disk : D). AtEach moment may_leave old.disk disk (Gives old.begun)) (sym q.disk)
+        subst (λ (disk : D). AtEach moment may_hold_after old.disk disk (GivesHeap old.begun)) (sym q.disk)
         (rests_now old sound rests x is);
   }
 
   -- where nothing is pending, the disk rests
   pub rests_synced : (i : Opened D) → (i.failed ≡ false → IfTold (told i.disk) (HasBytes i.frame i.begun)) →
-      IsSynced told moment may_leave i.disk → Rests told moment may_leave i
+      IsSynced told moment may_hold_after i.disk → Rests told moment may_hold_after i
   rests_synced i has synced sound x is = bytes_held i.frame i.begun x _ (has sound x is) (synced x is)
 
 -- The disk before it is opened.
@@ -87,15 +89,15 @@ may_put_back f x left head (inr stopped) =
     (same_Some _ _ (sym stopped.logged.logs.regions.head ∙ head)) stopped.logged)
 
 -- Reads, before and behind other calls.
-module _ {D : Type 0} (bytes : D → Option (List ℕ)) (moment : D → ℕ) (may_leave : D → ℕ → List ℕ → Type 0) where
-  module _ (old now : D) (r : Reads bytes moment may_leave old now) where
-    left_before : (image : List ℕ) → may_leave now (moment now) image → may_leave old (moment old) image
+module _ {D : Type 0} (bytes : D → Option (List ℕ)) (moment : D → ℕ) (may_hold_after : D → ℕ → List ℕ → Type 0) where
+  module _ (old now : D) (r : Reads bytes moment may_hold_after old now) where
+    left_before : (image : List ℕ) → may_hold_after now (moment now) image → may_hold_after old (moment old) image
     left_before image of_left =
-        r.past.now_then (moment old) image (omega arith) (subst (λ (m : ℕ). may_leave now m image) r.time of_left)
+        r.past.now_then (moment old) image (omega arith) (subst (λ (m : ℕ). may_hold_after now m image) r.time of_left)
 
     -- they leave a disk that may be opened
-    pub reads_may : (x : List ℕ) → MayBeOpened x (may_leave old (moment old)) →
-        MayBeOpened x (may_leave now (moment now))
+    pub reads_may : (x : List ℕ) → MayBeOpened x (may_hold_after old (moment old)) →
+        MayBeOpened x (may_hold_after now (moment now))
     reads_may x (inl only) = inl (λ image of_left. only image (left_before image of_left))
     reads_may x (inr stopped) = inr record {
       frame = stopped.frame;
@@ -107,29 +109,29 @@ module _ {D : Type 0} (bytes : D → Option (List ℕ)) (moment : D → ℕ) (ma
     }
 
     -- and one on which nothing is pending
-    pub reads_synced : IsSynced bytes moment may_leave old → IsSynced bytes moment may_leave now
+    pub reads_synced : IsSynced bytes moment may_hold_after old → IsSynced bytes moment may_hold_after now
     reads_synced synced x is image of_left = synced x (sym r.same ∙ is) image (left_before image of_left)
 
-    pub at_reads : (x : List ℕ) → MayBeOpened x (may_leave old (moment old)) →
-        AtEach moment may_leave old now (GivesSame x)
+    pub at_reads : (x : List ℕ) → MayBeOpened x (may_hold_after old (moment old)) →
+        AtEach moment may_hold_after old now (GivesSame x)
     at_reads x may =
-        at_read moment may_leave old old now (GivesSame x)
-        (at_first moment may_leave old (GivesSame x) (λ image l. opened_same x image _ may l)) r.time r.past
+        at_read moment may_hold_after old old now (GivesSame x)
+        (at_first moment may_hold_after old (GivesSame x) (λ image l. opened_same x image _ may l)) r.time r.past
 
   -- at each moment of reads, other calls, and reads
-  pub at_between : (old mid mid' new : D) (x : List ℕ) → Reads bytes moment may_leave old mid →
-      MayBeOpened x (may_leave old (moment old)) → AtEach moment may_leave mid mid' (GivesSame x) →
-      Reads bytes moment may_leave mid' new → AtEach moment may_leave old new (GivesSame x)
+  pub at_between : (old mid mid' new : D) (x : List ℕ) → Reads bytes moment may_hold_after old mid →
+      MayBeOpened x (may_hold_after old (moment old)) → AtEach moment may_hold_after mid mid' (GivesSame x) →
+      Reads bytes moment may_hold_after mid' new → AtEach moment may_hold_after old new (GivesSame x)
   at_between old mid mid' new x f may g r =
-      at_read moment may_leave old mid' new (GivesSame x)
-      (at_both moment may_leave old mid mid' (GivesSame x) (GivesSame x) (GivesSame x) (at_reads old mid f x may) g
+      at_read moment may_hold_after old mid' new (GivesSame x)
+      (at_both moment may_hold_after old mid mid' (GivesSame x) (GivesSame x) (GivesSame x) (at_reads old mid f x may) g
       (λ image s. s) (λ image s. s))
       r.time r.past
 
   -- the heap that was read, of a disk whose open batches were put back
   pub loaded : (f : Frame) (count : ℕ) (heap y : List ℕ) (first old new : D) →
       is_some (bytes old) ≡ is_some (bytes first) → Both (bytes first) (bytes old) (PutsBack f count) →
-      Reads bytes moment may_leave old new → IfTold (bytes old) (λ z. heap ≡ heap_of f z) → bytes new ≡ Some y →
+      Reads bytes moment may_hold_after old new → IfTold (bytes old) (λ z. heap ≡ heap_of f z) → bytes new ≡ Some y →
       HasBytes f heap y
   loaded f count heap y first old new tells back reads given is =
       let was : bytes old ≡ Some y = sym reads.same ∙ is in

@@ -12,7 +12,7 @@ use Rattle.sdr_disk.specs.Told.{Both, IfTold}
 use Rattle.sdr_log.specs.Calls.{AreBelow, AreNamed, HasPlace, HoldLines}
 use Rattle.sdr_log.specs.Frame.{IsInLimits}
 use Rattle.sdr_log.specs.Log.{AreLines, are_good, heap_of, put_back_of, put_records}
-use Rattle.sdr_log.specs.Logged.{Gives, IsAtRest}
+use Rattle.sdr_log.specs.Logged.{GivesHeap, IsAtRest}
 use Rattle.sdr_log.specs.declared.frame.Frame.{Frame}
 use Rattle.sdr_log.specs.declared.record.Record.{Record}
 use Rattle.sdr_log.proofs.GoodLemmas.{AreBelow-good, AreNamed-own}
@@ -25,7 +25,7 @@ use Rattle.sdr_image.specs.Saved.{HasMemory, MaySave, Saves, calls_of}
 use Rattle.sdr_image.specs.Undo.{Olds}
 use Rattle.sdr_image.proofs.LinesLemmas.{AreBelow-lines_in, AreLines-lines_in, AreNamed-lines_in, HoldLines-lines_in}
 use Rattle.sdr_image.proofs.LinesLemmas.{HoldLines-permutation, HoldLines-put_records, are_good-permutation}
-use Rattle.sdr_image.proofs.LinesLemmas.{is_named-permutation, length-lines_in, put_records-lines_in}
+use Rattle.sdr_image.proofs.LinesLemmas.{names_line-permutation, length-lines_in, put_records-lines_in}
 
 -- old lines by rising number, and the same lines as they are in a region
 pub record Gathered (olds : List Record) (region : List ℕ) (rising news : List Record) : Type 0 where
@@ -93,7 +93,7 @@ module _ (f : Frame) (memory : ℕ) (olds : List Record) (region : List ℕ) (m 
         ∙ put_records-lines_in f.heap_lines rising region (put_records olds region) (rising_good rising g.lines)
         (omega (arith, m.long)) (record {
           long = s.long;
-          same = λ i other. s.same i (sym (is_named-permutation olds rising (i / 64) g.lines) ∙ other);
+          same = λ i other. s.same i (sym (names_line-permutation olds rising (i / 64) g.lines) ∙ other);
         })
 
     -- what the changes leave
@@ -108,15 +108,16 @@ module _ (f : Frame) (memory : ℕ) (olds : List Record) (region : List ℕ) (m 
         (AreLines-lines_in region f.heap_lines rising (rising_below rising g.lines) (omega (arith, m.long)))))
 
     -- and what a crash leaves of them
-    pub saved_each : {D : Type 0} (moment : D → ℕ) (may_leave : D → ℕ → List ℕ → Type 0) (old new : D) (x : List ℕ)
+    pub saved_each : {D : Type 0} (moment : D → ℕ) (may_hold_after : D → ℕ → List ℕ → Type 0) (old new : D) (x : List ℕ)
         (left : List ℕ → Type 0) → HoldsHeap f (put_records olds region) x left →
         (IsAtRest f x left → HoldLines (heap_of f x) rising →
-        AtEach moment may_leave old new (GivesEither (heap_of f x) (put_records news (heap_of f x)))) →
-        AtEach moment may_leave old new (GivesEither (put_records olds region) region)
-    saved_each moment may_leave old new x left h then =
-        subst (λ (heap : List ℕ). AtEach moment may_leave old new (GivesEither (put_records olds region) heap))
+        AtEach moment may_hold_after old new (GivesEither (heap_of f x) (put_records news (heap_of f x)))) →
+        AtEach moment may_hold_after old new (GivesEither (put_records olds region) region)
+    saved_each moment may_hold_after old new x left h then =
+        subst (λ (heap : List ℕ). AtEach moment may_hold_after old new (GivesEither (put_records olds region) heap))
         (ap (put_records news) h.heap ∙ becomes)
-        (subst (λ (heap : List ℕ). AtEach moment may_leave old new (GivesEither heap (put_records news (heap_of f x))))
+        (subst (λ (heap : List ℕ). AtEach moment may_hold_after old new
+            (GivesEither heap (put_records news (heap_of f x))))
         h.heap (then h.rest (subst (λ (heap : List ℕ). HoldLines heap rising) (sym h.heap) own)))
 
     pub saved_as : (x y : List ℕ) → y ≡ changed f rising news x → HasChanged f olds region x y
@@ -128,7 +129,7 @@ module _ (f : Frame) (memory : ℕ) (olds : List Record) (region : List ℕ) (m 
     }
 
 -- with no open batch, opening gives the heap region
-pub bytes_back : (f : Frame) (bytes x : List ℕ) → HasBytes f bytes x → Gives bytes x
+pub bytes_back : (f : Frame) (bytes x : List ℕ) → HasBytes f bytes x → GivesHeap bytes x
 bytes_back f bytes x h =
     let limits = HasRegions-limits f x h.regions in
     put_back_of-closed f x h.regions.head (omega (arith, limits.least_log)) h.regions.inside h.gate ∙ ap Some h.heap
@@ -141,19 +142,20 @@ bytes_held f bytes x left h only =
 
 -- at rest, a crash leaves what gives the heap region too
 pub holds_gives : (f : Frame) (bytes x : List ℕ) (left : List ℕ → Type 0) → HoldsHeap f bytes x left →
-    (image : List ℕ) → left image → Gives bytes image
+    (image : List ℕ) → left image → GivesHeap bytes image
 holds_gives f bytes x left h image of_left =
     ap put_back_of (h.rest.only image of_left) ∙ rest_gives f x left h.rest ∙ ap Some h.heap
 
 -- what a commit leaves, of the fields of an image and as contracts see it
-pub Saves-from : {D : Type 0} (told : D → Option (List ℕ)) (moment : D → ℕ) (may_leave : D → ℕ → List ℕ → Type 0)
+pub Saves-from : {D : Type 0} (told : D → Option (List ℕ)) (moment : D → ℕ) (may_hold_after : D → ℕ → List ℕ → Type 0)
     (old new : Opened D) (disk : D) (f : Frame) (bytes : List ℕ) (olds : List Record) → disk ≡ old.disk →
     f ≡ old.frame → bytes ≡ old.bytes → put_records olds bytes ≡ old.begun → lines_named olds ≡ old.touched →
     are_good f.heap_lines olds ≡ true → AreLines olds → length bytes ≡ 64 * f.heap_lines →
     (old.touched ≢ [] → Both (told disk) (told new.disk) (HasChanged f olds bytes)) →
-    IfTold (told new.disk) (HasBytes f bytes) → (old.touched ≢ [] → Rests told moment may_leave new) →
-    Saves told moment may_leave old new
-Saves-from told moment may_leave old new disk f bytes olds disk_is f_is bytes_is begun_is touched_is good whole long
+    IfTold (told new.disk) (HasBytes f bytes) → (old.touched ≢ [] → Rests told moment may_hold_after new) →
+    Saves told moment may_hold_after old new
+Saves-from told moment may_hold_after old new disk f bytes olds disk_is f_is bytes_is begun_is touched_is good whole
+    long
     written holds rests =
     let own = HoldLines-lines_in (put_records olds bytes) olds
     (HoldLines-put_records f.heap_lines olds bytes good whole (omega (arith, long))) in

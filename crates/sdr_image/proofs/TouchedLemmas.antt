@@ -11,12 +11,12 @@ use Rattle.std.proofs.lemmas.List.Folds.{list_any-append}
 use Rattle.std.proofs.lemmas.Bool.{cases_eq}
 use Rattle.std.proofs.lemmas.Bool.Decides.{nat_tests}
 use Rattle.sdr_base.specs.Cells.{lines_of, is_among, with_lines}
-use Rattle.sdr_log.specs.Log.{is_named}
+use Rattle.sdr_log.specs.Log.{names_line}
 use Rattle.sdr_log.specs.declared.record.Record.{Record}
 use Rattle.sdr_image.specs.Opened.{lines_named}
 
 -- the lines that are named are those of the records
-pub is_among-lines_named : (olds : List Record) (line : ℕ) → is_among (lines_named olds) line ≡ is_named olds line
+pub is_among-lines_named : (olds : List Record) (line : ℕ) → is_among (lines_named olds) line ≡ names_line olds line
 is_among-lines_named [] line = refl
 is_among-lines_named (r ∷ olds) line = ap (λ (b : Bool). r.line == line || b) (is_among-lines_named olds line)
 
@@ -147,7 +147,7 @@ touched_few olds touched same = ap length (sym same) ∙ length-map olds (λ (r 
 -- there is room for a line more
 pub few_more : (olds : List Record) (touched : List ℕ) (line room room' : ℕ) → lines_named olds ≡ touched →
     room ≡ room' →
-    is_named olds line ≡ false → (is_among touched line ≡ false → length touched < room') → length olds < room
+    names_line olds line ≡ false → (is_among touched line ≡ false → length touched < room') → length olds < room
 few_more olds touched line room room' same room_same new few =
     let other : is_among touched line ≡ false =
     ap (λ (t : List ℕ). is_among t line) (sym same) ∙ is_among-lines_named olds line ∙ new in
@@ -155,7 +155,7 @@ few_more olds touched line room room' same room_same new few =
 
 -- a line more among those touched
 pub lines_named-push : (olds : List Record) (touched : List ℕ) (r : Record) → lines_named olds ≡ touched →
-    is_named olds r.line ≡ false → lines_named (olds ++ r ∷ []) ≡ with_lines touched (r.line ∷ [])
+    names_line olds r.line ≡ false → lines_named (olds ++ r ∷ []) ≡ with_lines touched (r.line ∷ [])
 lines_named-push olds touched r same new =
     map-append (λ (o : Record). o.line) olds (r ∷ [])
     ∙ ap (λ (t : List ℕ). t ++ r.line ∷ []) same
@@ -164,7 +164,7 @@ lines_named-push olds touched r same new =
 
 -- a line that is among them already
 pub lines_named-again : (olds : List Record) (touched : List ℕ) (line : ℕ) → lines_named olds ≡ touched →
-    is_named olds line ≡ true → lines_named olds ≡ with_lines touched (line ∷ [])
+    names_line olds line ≡ true → lines_named olds ≡ with_lines touched (line ∷ [])
 lines_named-again olds touched line same named =
     same
     ∙ sym (with_lines-touched touched line
@@ -172,11 +172,11 @@ lines_named-again olds touched line same named =
 
 -- the lines touched, and those of a run that weren't, counted
 pub touched_count : (olds : List Record) (touched own : List ℕ) → lines_named olds ≡ touched →
-    length olds + length (filter (λ line. not (is_named olds line)) own) ≡ length (with_lines touched own)
+    length olds + length (filter (λ line. not (names_line olds line)) own) ≡ length (with_lines touched own)
 unfolding with_lines
 touched_count olds touched own same =
     let fresh : ℕ → Bool = λ line. not (is_among touched line) in
-    let agree = filter_agree (λ line. not (is_named olds line)) fresh
+    let agree = filter_agree (λ line. not (names_line olds line)) fresh
     (λ line. ap not (sym (is_among-lines_named olds line) ∙ ap (λ (t : List ℕ). is_among t line) same)) own in
     omega (arith, ap length agree, touched_few olds touched same, length-append touched (filter fresh own))
 

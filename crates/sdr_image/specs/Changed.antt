@@ -5,14 +5,14 @@ use Rattle.sdr_base.specs.declared.line.TheConstants.{LINE}
 use Rattle.sdr_base.specs.Parts.{overwrite, part}
 use Rattle.sdr_log.specs.Batch.{with_batch}
 use Rattle.sdr_log.specs.Calls.{with_records}
-use Rattle.sdr_log.specs.Logged.{Gives}
+use Rattle.sdr_log.specs.Logged.{GivesHeap}
 use Rattle.sdr_log.specs.declared.frame.Frame.{Frame}
 use Rattle.sdr_log.specs.declared.record.Record.{Record}
 use Rattle.sdr_image.specs.Opened.{lines_named}
 
 -- opening the image gives one of two heaps
 abbrev pub GivesEither : List ℕ → List ℕ → List ℕ → Type 0
-GivesEither old new image = Gives old image ⊎ Gives new image
+GivesEither old new image = GivesHeap old image ⊎ GivesHeap new image
 
 -- the disk with new lines in its heap region, and in the log region the batch of the old ones behind a closed gate
 abbrev pub changed : Frame → List Record → List Record → List ℕ → List ℕ

@@ -8,7 +8,7 @@ use Rattle.sdr_disk.specs.Moments.{AtEach}
 use Rattle.sdr_disk.specs.Told.{IfTold}
 use Rattle.sdr_log.specs.Frame.{IsInLimits, room_of, disk_bytes}
 use Rattle.sdr_log.specs.Log.{are_good, AreLines, first_gate, put_records, heap_of}
-use Rattle.sdr_log.specs.Logged.{Gives, HasRegions, IsAtRest}
+use Rattle.sdr_log.specs.Logged.{GivesHeap, HasRegions, IsAtRest}
 use Rattle.sdr_log.specs.declared.frame.Frame.{Frame}
 use Rattle.sdr_log.specs.declared.record.Record.{Record}
 use Rattle.sdr_image.specs.Undo.{Olds}
@@ -65,21 +65,22 @@ pub record HoldsHeap (f : Frame) (bytes disk : List ℕ) (left : List ℕ → Ty
 -- a crash now leaves only what gives this heap, where the disk tells its bytes
 abbrev pub LeavesHeap : {D : Type 0} → (D → Option (List ℕ)) → (D → ℕ) → (D → ℕ → List ℕ → Type 0) → List ℕ → D
     → Type 0
-LeavesHeap told moment may_leave bytes disk =
-    IfTold (told disk) (λ _. (image : List ℕ) → may_leave disk (moment disk) image → Gives bytes image)
+LeavesHeap told moment may_hold_after bytes disk =
+    IfTold (told disk) (λ _. (image : List ℕ) → may_hold_after disk (moment disk) image → GivesHeap bytes image)
 
 -- the disk of an image is at rest, with the bytes at begin in its heap region, unless it has failed
 abbrev pub Rests : {D : Type 0} → (D → Option (List ℕ)) → (D → ℕ) → (D → ℕ → List ℕ → Type 0) → Opened D → Type 0
-Rests told moment may_leave i =
-    i.failed ≡ false → IfTold (told i.disk) (λ x. HoldsHeap i.frame i.begun x (may_leave i.disk (moment i.disk)))
+Rests told moment may_hold_after i =
+    i.failed ≡ false → IfTold (told i.disk) (λ x. HoldsHeap i.frame i.begun x (may_hold_after i.disk (moment i.disk)))
 
 -- where the disk of an image rests, it still does later; and at each moment up to then a crash leaves what gives the
 -- bytes at begin, where the disk had not failed before
-pub record KeepsBegun {D : Type 0} (told : D → Option (List ℕ)) (moment : D → ℕ) (may_leave : D → ℕ → List ℕ → Type 0)
+pub record KeepsBegun {D : Type 0} (told : D → Option (List ℕ)) (moment : D → ℕ)
+    (may_hold_after : D → ℕ → List ℕ → Type 0)
     (old new : Opened D) : Type 0 where
-  pub rests : Rests told moment may_leave old → Rests told moment may_leave new
-  pub any_moment : old.failed ≡ false → Rests told moment may_leave old →
-      IfTold (told old.disk) (λ _. AtEach moment may_leave old.disk new.disk (Gives old.begun))
+  pub rests : Rests told moment may_hold_after old → Rests told moment may_hold_after new
+  pub any_moment : old.failed ≡ false → Rests told moment may_hold_after old →
+      IfTold (told old.disk) (λ _. AtEach moment may_hold_after old.disk new.disk (GivesHeap old.begun))
 
 -- what each image keeps: its lengths, its old lines, and memory for a commit; and unless its disk has failed, that
 -- this has the heap at begin and no open batch

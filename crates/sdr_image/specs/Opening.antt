@@ -53,13 +53,15 @@ MayBeOpened x left = Only x left ⊎ IsStopped x left
 
 -- An image that was just opened. The bytes are those of the heap that the disk gives; the open batches are put back;
 -- nothing is touched, and no transaction is open. The disk rests, where it may be opened.
-pub record IsOpened {D : Type 0} (told : D → Option (List ℕ)) (moment : D → ℕ) (may_leave : D → ℕ → List ℕ → Type 0)
+pub record IsOpened {D : Type 0} (told : D → Option (List ℕ)) (moment : D → ℕ)
+    (may_hold_after : D → ℕ → List ℕ → Type 0)
     (disk : D) (i : Opened D) : Type 0 where
   pub limits : IsInLimits i.frame
   pub head : IfTold (told disk) (λ x. frame_of (part 0 LINE x) ≡ Some i.frame)
   pub heap : IfTold (told disk) (λ x. put_back_of x ≡ Some i.bytes)
   pub back : Both (told disk) (told i.disk) (PutsBack i.frame i.restored)
-  pub rests : IfTold (told disk) (λ x. MayBeOpened x (may_leave disk (moment disk))) → Rests told moment may_leave i
+  pub rests : IfTold (told disk) (λ x. MayBeOpened x (may_hold_after disk (moment disk))) →
+      Rests told moment may_hold_after i
   pub begun : i.begun ≡ i.bytes
   pub touched : i.touched ≡ []
   pub closed : i.is_open ≡ false

@@ -27,12 +27,12 @@ pub record MaySave (f : Frame) (memory : ℕ) (olds : List Record) (region : Lis
   pub long : length region ≡ LINE * f.heap_lines
 
 -- The touched lines are changed on the disk, and opening it gives the bytes now. Where there were any, the disk rests.
-pub record Saves {D : Type 0} (told : D → Option (List ℕ)) (moment : D → ℕ) (may_leave : D → ℕ → List ℕ → Type 0)
+pub record Saves {D : Type 0} (told : D → Option (List ℕ)) (moment : D → ℕ) (may_hold_after : D → ℕ → List ℕ → Type 0)
     (old new : Opened D) : Type 0 where
   pub written : old.touched ≢ [] → Both (told old.disk) (told new.disk)
       (HasChanged old.frame (lines_in old.begun old.touched) old.bytes)
   pub back : IfTold (told new.disk) (λ x. put_back_of x ≡ Some old.bytes)
-  pub rests : old.touched ≢ [] → Rests told moment may_leave new
+  pub rests : old.touched ≢ [] → Rests told moment may_hold_after new
 
 -- how many writes and syncs the end of a transaction that touched so many lines makes at most: one for each and seven
 -- more, none without a line

@@ -38,13 +38,13 @@ pub fn change_lines<D: Disk>(
     ensures bytes { OnOk result (Both (D.bytes disk.old) (D.bytes disk.new)
         (λ x y. HasBytes frame (heap_of frame x) x → HoldLines (heap_of frame x) olds.now
         → AreLines news.now → HasBytes frame (put_records news.now (heap_of frame x)) y)) }
-    ensures synced { OnOk result (IsSynced D.bytes D.moment D.may_leave disk.new) }
+    ensures synced { OnOk result (IsSynced D.bytes D.moment D.may_hold_after disk.new) }
     ensures calls { D.moment disk.new ≤ D.moment disk.old + 2 * (length news.now + 7) }
     // A crash leaves all lines as they were, or all as they are now.
     ensures any_moment { IfTold (D.bytes disk.old)
-        (λ x. IsAtRest frame x (D.may_leave disk.old (D.moment disk.old))
+        (λ x. IsAtRest frame x (D.may_hold_after disk.old (D.moment disk.old))
         → HoldLines (heap_of frame x) olds.now
-        → AtEach D.moment D.may_leave disk.old disk.new
+        → AtEach D.moment D.may_hold_after disk.old disk.new
         (GivesEither (heap_of frame x) (put_records news.now (heap_of frame x)))) }
 {
     write_batch(disk, frame, 0, olds, buffer)?;

@@ -74,7 +74,7 @@ fn write_head<D: Disk>(disk: &mut D, frame: &Frame) -> Result<(), DiskFault>
     ensures size { D.size disk.new ≡ D.size disk.old }
     ensures cause { HasCause (D.faults disk.old) (D.faults disk.new) result }
     ensures durable { OnOk result (IfTold (D.bytes disk.new)
-        (λ x. Only x (D.may_leave disk.new (D.moment disk.new)))) }
+        (λ x. Only x (D.may_hold_after disk.new (D.moment disk.new)))) }
 {
     disk.write_at(0, &frame.head())?;
     disk.sync()
@@ -89,7 +89,7 @@ pub fn format<D: Disk>(disk: &mut D, frame: Frame) -> Result<(), FormatError>
         (λ x. D.bytes disk.new ≡ Some (formatted frame x))) }
 
     ensures durable { OnOk result (IfTold (D.bytes disk.new)
-        (λ x. Only x (D.may_leave disk.new (D.moment disk.new)))) }
+        (λ x. Only x (D.may_hold_after disk.new (D.moment disk.new)))) }
 
     ensures same { IfTooSmall result (disk.new ≡ disk.old) }
     ensures cause { HasFormatCause (disk_bytes frame) (D.size disk.old)

@@ -11,7 +11,7 @@ ghost use Rattle.sdr_disk.specs.Told.{IfTold};
 ghost use Rattle.sdr_log.specs.Calls.{KeepsDisk};
 ghost use Rattle.sdr_log.specs.Frame.{room_of};
 ghost use Rattle.sdr_log.specs.Log.{first_gate, put_back_of};
-ghost use Rattle.sdr_log.specs.Logged.{Gives, GivesSame};
+ghost use Rattle.sdr_log.specs.Logged.{GivesHeap, GivesSame};
 ghost use Rattle.sdr_image.specs.Changed.{GivesEither};
 ghost use Rattle.sdr_image.specs.Opened.{transaction_of, KeepsBegun, LeavesHeap, Rests, StaysAt};
 ghost use Rattle.sdr_image.specs.Opening.{MayBeOpened, OnNotFormatted};
@@ -78,17 +78,17 @@ impl<D: Disk> Image<D> {
     /// first write. A crash on the way leaves the same heap as one before, where nothing is pending
     /// on the disk that is handed in, or a recovery of it was stopped.
     pub fn open(alloc: Global, mut disk: D) -> Result<Image<D>, ImageShut<D>>
-        ensures opened { IfOk result (IsOpened D.bytes D.moment D.may_leave disk) }
+        ensures opened { IfOk result (IsOpened D.bytes D.moment D.may_hold_after disk) }
         ensures not_formatted { IfErr result (λ shut. OnNotFormatted shut.why
             (IfTold (D.bytes disk) (λ x. put_back_of x ≡ None))) }
         ensures disk { Returns D.size D.bytes D.faults disk result }
         ensures quiet { IfTold (D.bytes disk) (λ x. first_gate x ≡ 0
-            → Reads D.bytes D.moment D.may_leave disk (disk_in result)) }
+            → Reads D.bytes D.moment D.may_hold_after disk (disk_in result)) }
         ensures calls { IfOk result (λ i.
             D.moment i.disk ≤ D.moment disk + 2 * (i.restored + 3)) }
         ensures any_moment { IfTold (D.bytes disk)
-            (λ x. MayBeOpened x (D.may_leave disk (D.moment disk))
-            → AtEach D.moment D.may_leave disk (disk_in result) (GivesSame x)) }
+            (λ x. MayBeOpened x (D.may_hold_after disk (D.moment disk))
+            → AtEach D.moment D.may_hold_after disk (disk_in result) (GivesSame x)) }
     {
         match load(alloc, &mut disk) {
             Ok(loaded) => Ok(Image {
@@ -140,10 +140,10 @@ impl<D: Disk> Image<D> {
     /// one at each moment since any state before it in the transaction.
     pub fn now(&self) -> u64
         ensures moment { result ≡ D.moment self.now.disk }
-        ensures leaves { self.now.failed ≡ false → Rests D.bytes D.moment D.may_leave self.now
-            → LeavesHeap D.bytes D.moment D.may_leave self.now.begun self.now.disk }
+        ensures leaves { self.now.failed ≡ false → Rests D.bytes D.moment D.may_hold_after self.now
+            → LeavesHeap D.bytes D.moment D.may_hold_after self.now.begun self.now.disk }
         ensures any_moment { (before : Opened D) → ⟦<Image<D> as Cells>⟧.quiet before self.now
-            → KeepsBegun D.bytes D.moment D.may_leave before self.now }
+            → KeepsBegun D.bytes D.moment D.may_hold_after before self.now }
     {
         self.disk.now()
     }
@@ -215,9 +215,9 @@ impl<D: Disk> Image<D> {
           touched = [];
           is_open = false;
         }) }
-        ensures back { OnOk result (IfTold (D.bytes self.new.disk) (Gives self.old.begun)) }
-        ensures rests { Rests D.bytes D.moment D.may_leave self.old
-            → Rests D.bytes D.moment D.may_leave self.new }
+        ensures back { OnOk result (IfTold (D.bytes self.new.disk) (GivesHeap self.old.begun)) }
+        ensures rests { Rests D.bytes D.moment D.may_hold_after self.old
+            → Rests D.bytes D.moment D.may_hold_after self.new }
 
         ensures answered { IfRefused result (λ _. ⊥) }
         ensures cause { HasReason (transaction_of D.faults self.old)
@@ -228,15 +228,15 @@ impl<D: Disk> Image<D> {
         ensures idle { self.old.touched ≡ [] → self.new.disk ≡ self.old.disk }
         ensures calls { D.moment self.new.disk
             ≤ D.moment self.old.disk + 2 * calls_of (length self.old.touched) }
-        ensures any_moment { self.old.failed ≡ false → Rests D.bytes D.moment D.may_leave self.old
+        ensures any_moment { self.old.failed ≡ false → Rests D.bytes D.moment D.may_hold_after self.old
             → IfTold (D.bytes self.old.disk)
-            (λ _. AtEach D.moment D.may_leave self.old.disk self.new.disk (Gives self.old.begun)) }
+            (λ _. AtEach D.moment D.may_hold_after self.old.disk self.new.disk (GivesHeap self.old.begun)) }
     {
         let lines = self.frame.heap_lines;
         if self.failed {
             return Err(Stop::Failed);
         }
-        self.bytes.put_back(self.undo.olds(), lines);
+        self.bytes.roll_back(self.undo.olds(), lines);
         self.undo.clear();
         self.is_open = false;
         Ok(())
@@ -253,9 +253,9 @@ impl<D: Disk> Image<D> {
           touched = [];
           is_open = false;
         }) }
-        ensures saved { OnOk result (Saves D.bytes D.moment D.may_leave self.old self.new) }
-        ensures rests { Rests D.bytes D.moment D.may_leave self.old
-            → Rests D.bytes D.moment D.may_leave self.new }
+        ensures saved { OnOk result (Saves D.bytes D.moment D.may_hold_after self.old self.new) }
+        ensures rests { Rests D.bytes D.moment D.may_hold_after self.old
+            → Rests D.bytes D.moment D.may_hold_after self.new }
 
         ensures answered { IfRefused result (λ _. ⊥) }
         ensures cause { HasReason (transaction_of D.faults self.old)
@@ -266,9 +266,9 @@ impl<D: Disk> Image<D> {
         ensures idle { self.old.touched ≡ [] → self.new.disk ≡ self.old.disk }
         ensures calls { D.moment self.new.disk
             ≤ D.moment self.old.disk + 2 * calls_of (length self.old.touched) }
-        ensures any_moment { self.old.failed ≡ false → Rests D.bytes D.moment D.may_leave self.old
+        ensures any_moment { self.old.failed ≡ false → Rests D.bytes D.moment D.may_hold_after self.old
             → IfTold (D.bytes self.old.disk)
-            (λ _. AtEach D.moment D.may_leave self.old.disk self.new.disk
+            (λ _. AtEach D.moment D.may_hold_after self.old.disk self.new.disk
             (GivesEither self.old.begun self.old.bytes)) }
     {
         let touched = self.undo.olds();
@@ -292,8 +292,8 @@ impl<D: Disk> Image<D> {
           touched = [];
           is_open = false;
         }) }
-        ensures saved { OnOk result (Saves D.bytes D.moment D.may_leave self.old self.new) }
-        ensures rests { Rests D.bytes D.moment D.may_leave self.new }
+        ensures saved { OnOk result (Saves D.bytes D.moment D.may_hold_after self.old self.new) }
+        ensures rests { Rests D.bytes D.moment D.may_hold_after self.new }
 
         ensures answered { IfRefused result (λ _. ⊥) }
         ensures cause { HasReason (transaction_of D.faults self.old)
@@ -303,9 +303,9 @@ impl<D: Disk> Image<D> {
         ensures disk { KeepsDisk D.size D.bytes self.old.disk self.new.disk }
         ensures calls { D.moment self.new.disk
             ≤ D.moment self.old.disk + 2 * (length self.old.touched + 7) }
-        ensures any_moment { Rests D.bytes D.moment D.may_leave self.old
+        ensures any_moment { Rests D.bytes D.moment D.may_hold_after self.old
             → IfTold (D.bytes self.old.disk)
-            (λ _. AtEach D.moment D.may_leave self.old.disk self.new.disk
+            (λ _. AtEach D.moment D.may_hold_after self.old.disk self.new.disk
             (GivesEither self.old.begun self.old.bytes)) }
     {
         let olds = self.undo.olds();
@@ -324,8 +324,8 @@ impl<D: Disk> Image<D> {
     /// The disk. What was not committed is lost.
     pub fn into_disk(self) -> D
         ensures disk { result ≡ self.disk }
-        ensures leaves { self.failed ≡ false → Rests D.bytes D.moment D.may_leave self
-            → LeavesHeap D.bytes D.moment D.may_leave self.begun result }
+        ensures leaves { self.failed ≡ false → Rests D.bytes D.moment D.may_hold_after self
+            → LeavesHeap D.bytes D.moment D.may_hold_after self.begun result }
     {
         let Image {
             disk,

@@ -66,15 +66,15 @@ fn restore<D: Disk>(alloc: Global, disk: &mut D, frame: Frame) -> Result<u64, Im
     ensures disk { KeepsDisk D.size D.bytes disk.old disk.new }
     ensures same { IfErr result (λ why. UnlessFault why (D.bytes disk.new ≡ D.bytes disk.old)) }
     ensures synced { OnOk result (IfTold (D.bytes disk.old)
-        (λ x. MayBeOpened x (D.may_leave disk.old (D.moment disk.old))
-        → IsSynced D.bytes D.moment D.may_leave disk.new)) }
+        (λ x. MayBeOpened x (D.may_hold_after disk.old (D.moment disk.old))
+        → IsSynced D.bytes D.moment D.may_hold_after disk.new)) }
     ensures quiet { IfTold (D.bytes disk.old) (λ x. first_gate x ≡ 0
-        → Reads D.bytes D.moment D.may_leave disk.old disk.new) }
+        → Reads D.bytes D.moment D.may_hold_after disk.old disk.new) }
     ensures calls { IfOk result (λ count.
         D.moment disk.new ≤ D.moment disk.old + 2 * (count + 3)) }
     ensures any_moment { IfTold (D.bytes disk.old)
-        (λ x. MayBeOpened x (D.may_leave disk.old (D.moment disk.old))
-        → AtEach D.moment D.may_leave disk.old disk.new (GivesSame x)) }
+        (λ x. MayBeOpened x (D.may_hold_after disk.old (D.moment disk.old))
+        → AtEach D.moment D.may_hold_after disk.old disk.new (GivesSame x)) }
 {
     match put_back_found(alloc, disk, frame) {
         Ok(count) => Ok(count),
@@ -94,7 +94,7 @@ fn read_heap<D: Disk>(disk: &mut D, frame: &Frame, mut bytes: Vec<u8>) -> Result
     ensures long { IfOk result (λ region. length region ≡ LINE * frame.now.heap_lines) }
     ensures cause { HasCause (D.faults disk.old) (D.faults disk.new) result }
     ensures size { D.size disk.new ≡ D.size disk.old }
-    ensures reads { Reads D.bytes D.moment D.may_leave disk.old disk.new }
+    ensures reads { Reads D.bytes D.moment D.may_hold_after disk.old disk.new }
 {
     disk.read_at(frame.heap_place(), &mut bytes)?;
     Ok(Region::of(bytes))
@@ -109,8 +109,8 @@ pub fn load<D: Disk>(alloc: Global, disk: &mut D) -> Result<Loaded, ImageError>
     ensures ready { IfOk result (λ l. IsReserved l.frame (length l.bytes) l.undo l.saving) }
     ensures bytes { IfOk result (λ l. IfTold (D.bytes disk.new) (HasBytes l.frame l.bytes)) }
     ensures synced { OnOk result (IfTold (D.bytes disk.old)
-        (λ x. MayBeOpened x (D.may_leave disk.old (D.moment disk.old))
-        → IsSynced D.bytes D.moment D.may_leave disk.new)) }
+        (λ x. MayBeOpened x (D.may_hold_after disk.old (D.moment disk.old))
+        → IsSynced D.bytes D.moment D.may_hold_after disk.new)) }
 
     ensures not_formatted { IfErr result (λ why. OnNotFormatted why
         (IfTold (D.bytes disk.old) (λ x. put_back_of x ≡ None))) }
@@ -119,12 +119,12 @@ pub fn load<D: Disk>(alloc: Global, disk: &mut D) -> Result<Loaded, ImageError>
 
     ensures disk { KeepsDisk D.size D.bytes disk.old disk.new }
     ensures quiet { IfTold (D.bytes disk.old) (λ x. first_gate x ≡ 0
-        → Reads D.bytes D.moment D.may_leave disk.old disk.new) }
+        → Reads D.bytes D.moment D.may_hold_after disk.old disk.new) }
     ensures calls { IfOk result (λ l.
         D.moment disk.new ≤ D.moment disk.old + 2 * (l.restored + 3)) }
     ensures any_moment { IfTold (D.bytes disk.old)
-        (λ x. MayBeOpened x (D.may_leave disk.old (D.moment disk.old))
-        → AtEach D.moment D.may_leave disk.old disk.new (GivesSame x)) }
+        (λ x. MayBeOpened x (D.may_hold_after disk.old (D.moment disk.old))
+        → AtEach D.moment D.may_hold_after disk.old disk.new (GivesSame x)) }
 {
     let Some(frame) = read_frame(disk)? else {
         return Err(ImageError::NotFormatted);

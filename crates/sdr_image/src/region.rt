@@ -67,7 +67,7 @@ impl Region {
     }
 
     /// Puts old lines back, of so many lines.
-    pub fn put_back(&mut self, olds: &[Record], lines: u64)
+    pub fn roll_back(&mut self, olds: &[Record], lines: u64)
         requires good { are_good lines olds.now ≡ true }
         requires long { length self.old ≡ LINE * lines }
         ensures { self.new ≡ put_records olds.now self.old }

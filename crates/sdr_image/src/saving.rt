@@ -115,12 +115,12 @@ impl Saving {
         ensures bytes { OnOk result (Both (D.bytes disk.old) (D.bytes disk.new)
             (λ x y. HasBytes frame (put_records olds.now region.now) x
             → HasBytes frame region.now y)) }
-        ensures synced { OnOk result (IsSynced D.bytes D.moment D.may_leave disk.new) }
+        ensures synced { OnOk result (IsSynced D.bytes D.moment D.may_hold_after disk.new) }
         ensures calls { D.moment disk.new ≤ D.moment disk.old + 2 * (length olds.now + 7) }
         ensures any_moment { IfTold (D.bytes disk.old)
             (λ x. HoldsHeap frame (put_records olds.now region.now) x
-            (D.may_leave disk.old (D.moment disk.old))
-            → AtEach D.moment D.may_leave disk.old disk.new
+            (D.may_hold_after disk.old (D.moment disk.old))
+            → AtEach D.moment D.may_hold_after disk.old disk.new
             (GivesEither (put_records olds.now region.now) region.now)) }
     {
         gather_rising(olds, &mut self.olds);

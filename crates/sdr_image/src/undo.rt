@@ -2,7 +2,7 @@
 ghost use Rattle.std.specs.Prelude.{◌≡◌, ◌≤◌, ◌<◌, ◌-◌, ◌++◌, ◌∷◌, [], ℕ, false, true, not, ◌&&◌};
 ghost use Rattle.std.specs.Prelude.{length, get_or, IfOk, filter, count_by};
 ghost use Rattle.std.specs.List.{range_with_len};
-ghost use Rattle.sdr_log.specs.Log.{is_named};
+ghost use Rattle.sdr_log.specs.Log.{names_line};
 
 use sdr_base::NoMemory;
 use sdr_log::Record;
@@ -44,9 +44,9 @@ fn count_unmarked(marks: &[bool]) -> usize
 
 // The marks without those of these lines.
 fn unmark(marks: &mut [bool], olds: &[Record])
-    requires { (line : ℕ) → is_named olds.now line ≡ true → line < length marks.old }
+    requires { (line : ℕ) → names_line olds.now line ≡ true → line < length marks.old }
     ensures { (line : ℕ) → get_or marks.new line false
-        ≡ (get_or marks.old line false && not (is_named olds.now line)) }
+        ≡ (get_or marks.old line false && not (names_line olds.now line)) }
 {
     let mut rest = olds;
     while let Some((old, after)) = rest.split_first() {
@@ -79,7 +79,7 @@ impl Undo {
     /// Whether the line was touched.
     pub fn is_touched(&self, line: u64) -> bool
         requires { line < self.now.lines }
-        ensures { result ≡ is_named self.now.olds line }
+        ensures { result ≡ names_line self.now.olds line }
     {
         self.marks[line as usize]
     }
@@ -88,7 +88,7 @@ impl Undo {
     pub fn untouched(&self, first: u64, end: u64) -> u64
         requires order { first ≤ end }
         requires below { end ≤ self.now.lines }
-        ensures { result ≡ length (filter (λ line. not (is_named self.now.olds line))
+        ensures { result ≡ length (filter (λ line. not (names_line self.now.olds line))
             (range_with_len first (end - first))) }
     {
         count_unmarked(&self.marks[first as usize..end as usize]) as u64
@@ -97,7 +97,7 @@ impl Undo {
     /// Touches a line, which had these bytes.
     pub fn keep(&mut self, old: Record)
         requires below { old.line < self.old.lines }
-        requires untouched { is_named self.old.olds old.line ≡ false }
+        requires untouched { names_line self.old.olds old.line ≡ false }
         requires room { length self.old.olds < self.old.room }
         ensures { self.new ≡ record self.old { olds = self.old.olds ++ old ∷ [] } }
     {

@@ -6,7 +6,7 @@ use Rattle.std.proofs.lemmas.List.{take_all}
 use Rattle.sdr_base.specs.Blocks.{Block}
 use Rattle.sdr_base.specs.Cells.{IsRegionSize}
 use Rattle.sdr_base.specs.KeptHeap.{block_in}
-use Rattle.sdr_keys.specs.Texts.{bytes_of}
+use Rattle.sdr_owner.specs.Reading.{bytes_of}
 use Rattle.sdr_owner.proofs.RegionLemmas.{is_part}
 use Rattle.sdr_owner.specs.View.{length_of}
 

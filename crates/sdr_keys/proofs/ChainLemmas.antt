@@ -11,13 +11,14 @@ use Rattle.sdr_keys.proofs.MembersLemmas.{followed-end, followed-next}
 use Rattle.sdr_keys.specs.Members.{AreMembers, followed, members}
 use Rattle.sdr_owner.proofs.MarksLemmas.{counted, is_addr}
 use Rattle.sdr_owner.proofs.RegionLemmas.{is_whole}
-use Rattle.sdr_owner.specs.Chains.{AreOnce, Chain, ChainsReach, Goes, IsChain, addrs_of, first_of, is_among, next_of}
+use Rattle.sdr_owner.specs.Chains.{Chain, ChainsReach, ChainGoes, IsChain, addrs_of, first_link, is_among, next_of}
+use Rattle.sdr_base.specs.Entries.{AreOnce}
 use Rattle.sdr_owner.specs.Owners.{kind_in}
 use Rattle.sdr_owner.specs.View.{View, view_in}
 use Rattle.sdr_owner.specs.declared.owner.Owner.{Owner}
 
 -- a chain goes over what its links lead to, where as many are asked for
-followed-goes : (heap : View) (owner : Owner) (before link : ℕ) (addrs : List ℕ) (last most : ℕ) → Goes heap owner before link addrs last 0 →
+followed-goes : (heap : View) (owner : Owner) (before link : ℕ) (addrs : List ℕ) (last most : ℕ) → ChainGoes heap owner before link addrs last 0 →
     length addrs ≤ most → followed heap owner most link ≡ addrs
 followed-goes heap owner before link [] last most (b, none) few = ap (followed heap owner most) none ∙ followed-end heap owner most
 followed-goes heap owner before link (a ∷ addrs) last zero goes few = absurd (omega (arith, few))
@@ -33,7 +34,7 @@ pub record IsInside (words addr : ℕ) : Type 0 where
 
 -- those of a chain are such
 goes_inside : (bytes : List ℕ) (owner : Owner) (before link : ℕ) (addrs : List ℕ) (last next : ℕ) → length bytes % 8 ≡ 0 →
-    Goes (view_in bytes) owner before link addrs last next → All (IsInside (length bytes / 8)) addrs
+    ChainGoes (view_in bytes) owner before link addrs last next → All (IsInside (length bytes / 8)) addrs
 goes_inside bytes owner before link [] last next full goes = All-nil (IsInside (length bytes / 8))
 goes_inside bytes owner before link (a ∷ addrs) last next full (is, some, member, named, more) =
     let w = is_whole bytes a (kind_in owner) member in
@@ -124,9 +125,9 @@ all_members bytes (chain ∷ chains) full right once =
     let heap = view_in bytes in
     let words : ℕ = length bytes / 8 in
     let here = All-head (IsChain heap) chain chains right in
-    let inside = goes_inside bytes chain.owner 0 (first_of heap chain.owner) chain.addrs here.last 0 full here.goes in
+    let inside = goes_inside bytes chain.owner 0 (first_link heap chain.owner) chain.addrs here.last 0 full here.goes in
     All-cons (λ (c : Chain). c.addrs ≡ members heap words c.owner) chain chains
-    (sym (followed-goes heap chain.owner 0 (first_of heap chain.owner) chain.addrs here.last words here.goes
+    (sym (followed-goes heap chain.owner 0 (first_link heap chain.owner) chain.addrs here.last words here.goes
     (few words chain.addrs inside (once_first chain chains once))))
     (all_members bytes chains full (All-tail (IsChain heap) chain chains right) (once_rest chain chains once))
 

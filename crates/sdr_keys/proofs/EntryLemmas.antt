@@ -9,7 +9,7 @@ use Rattle.std.proofs.lemmas.Nat.{mul-le}
 use Rattle.sdr_keys.proofs.MembersLemmas.{length-followed}
 use Rattle.sdr_base.specs.declared.kind.Kind.TheVariants as kinds
 use Rattle.sdr_keys.specs.Entries.{bucket, buckets, entry_count, keeps_bucket, keeps_entries}
-use Rattle.sdr_owner.specs.Chains.{first_of}
+use Rattle.sdr_owner.specs.Chains.{first_link}
 use Rattle.sdr_owner.specs.View.{View, is_kind, word_of}
 use Rattle.sdr_owner.specs.declared.owner.Owner.TheVariants as owners
 
@@ -36,7 +36,7 @@ pub few_entries : (heap : View) (words addr buckets : ℕ) → words < 2 ^ 30 �
 few_entries heap words addr buckets few few' =
     let f : ℕ → ℕ = λ number. length (bucket heap words addr number) in
     let one : (number : ℕ) → f number ≤ words =
-    λ number. length-followed heap (owners.Bucket addr (3 + number)) words (first_of heap (owners.Bucket addr (3 + number))) in
+    λ number. length-followed heap (owners.Bucket addr (3 + number)) words (first_link heap (owners.Bucket addr (3 + number))) in
     let all = sum_by-le f words (range_with_len 0 buckets) (all_small f words one (range_with_len 0 buckets)) in
     let n = ap (λ (n : ℕ). n * words) (length-range_with_len 0 buckets) in
     let most = mul-le buckets words (2 ^ 30) (2 ^ 30) (omega (arith, few')) (omega (arith, few)) in

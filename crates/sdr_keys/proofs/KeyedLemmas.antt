@@ -12,13 +12,13 @@ use Rattle.sdr_keys.proofs.PlacesLemmas.{all_pass, both_none, either_none, found
 use Rattle.sdr_keys.specs.Entries.{buckets, entry_count, keeps_bucket}
 use Rattle.sdr_keys.specs.Members.{members}
 use Rattle.sdr_owner.specs.declared.owner.Owner.TheVariants as owners
-use Rattle.sdr_keys.specs.Keyed.{IsKeyed, catalogue, keeps, wrong_key}
+use Rattle.sdr_keys.specs.Keyed.{IsKeyed, catalogue, keeps_key_rule, wrong_key}
 use Rattle.sdr_keys.specs.Places.{first_failing, places}
 use Rattle.sdr_keys.specs.Texts.{first_repeated, is_repeated, repeated_among, text_at}
-use Rattle.sdr_keys.specs.declared.rules.Rule.{Rule}
-use Rattle.sdr_keys.specs.declared.rules.Rule.TheVariants as which
-use Rattle.sdr_keys.specs.declared.texts.Text.{Text}
-use Rattle.sdr_keys.specs.declared.texts.Text.TheVariants as texts
+use Rattle.sdr_keys.specs.declared.rules.KeyRule.{KeyRule}
+use Rattle.sdr_keys.specs.declared.rules.KeyRule.TheVariants as which
+use Rattle.sdr_keys.specs.declared.texts.EntryText.{EntryText}
+use Rattle.sdr_keys.specs.declared.texts.EntryText.TheVariants as texts
 use Rattle.sdr_model.specs.Valid.{AreDistinct}
 use Rattle.sdr_owner.specs.View.{View, is_kind, view_in, word_of}
 
@@ -32,7 +32,7 @@ apart a b off = elim (cases_Bool (pointwise nat_eq b a)) [
       cc
 ]
 
-module _ (heap : View) (text : Text) where
+module _ (heap : View) (text : EntryText) where
   -- none of these has the text of one of others
   abbrev AreNew : List ℕ → List ℕ → Type 0
   AreNew others addrs = AllByRecursion (λ addr. is_repeated heap text others addr ≡ false) addrs
@@ -99,7 +99,7 @@ module _ (heap : View) (text : Text) where
   from_distinct addrs distinct = none_repeated [] addrs (new_none addrs) distinct
 
 -- where no block is, each rule is kept
-unused : (bytes : List ℕ) (words : ℕ) (rule : Rule) (addr : ℕ) → block_in bytes addr ≡ None → keeps (view_in bytes) words rule addr ≡ true
+unused : (bytes : List ℕ) (words : ℕ) (rule : KeyRule) (addr : ℕ) → block_in bytes addr ≡ None → keeps_key_rule (view_in bytes) words rule addr ≡ true
 unused bytes words which.Length addr none =
     ap (λ (b : Option Block). not (is_kind kinds.List b) || word_of b 1 == length (members (view_in bytes) words (owners.List addr))) none
 unused bytes words which.Entries addr none =
@@ -112,22 +112,22 @@ unused bytes words which.Entries addr none =
 pub keyed : (bytes : List ℕ) (words : ℕ) → length bytes ≤ 8 * words → wrong_key (view_in bytes) words ≡ None → IsKeyed (view_in bytes) words
 keyed bytes words long none =
     let heap = view_in bytes in
-    let first = either_none (first_failing (keeps heap words which.Length) words) _ none in
-    let second = either_none (first_failing (keeps heap words which.Entries) words) _ first.1 in
+    let first = either_none (first_failing (keeps_key_rule heap words which.Length) words) _ none in
+    let second = either_none (first_failing (keeps_key_rule heap words which.Entries) words) _ first.1 in
     let third = either_none (first_repeated heap texts.Name (catalogue heap words)) _ second.1 in
     record {
       kept = λ rule. by_rule rule first.0 second.0;
       names = distinct_from heap texts.Name (catalogue heap words) third.0;
     }
   where
-    by_rule : (rule : Rule) → first_failing (keeps (view_in bytes) words which.Length) words ≡ None →
-        first_failing (keeps (view_in bytes) words which.Entries) words ≡ None → (addr : ℕ) → keeps (view_in bytes) words rule addr ≡ true
-    by_rule which.Length a b = all_pass bytes words (keeps (view_in bytes) words which.Length) long (unused bytes words which.Length) a
-    by_rule which.Entries a b = all_pass bytes words (keeps (view_in bytes) words which.Entries) long (unused bytes words which.Entries) b
+    by_rule : (rule : KeyRule) → first_failing (keeps_key_rule (view_in bytes) words which.Length) words ≡ None →
+        first_failing (keeps_key_rule (view_in bytes) words which.Entries) words ≡ None → (addr : ℕ) → keeps_key_rule (view_in bytes) words rule addr ≡ true
+    by_rule which.Length a b = all_pass bytes words (keeps_key_rule (view_in bytes) words which.Length) long (unused bytes words which.Length) a
+    by_rule which.Entries a b = all_pass bytes words (keeps_key_rule (view_in bytes) words which.Entries) long (unused bytes words which.Entries) b
 
 -- and what is right isn't found wrong
 pub keyed_not_wrong : (heap : View) (words : ℕ) → IsKeyed heap words → wrong_key heap words ≡ None
 keyed_not_wrong heap words right =
-    both_none _ _ (found_none (keeps heap words which.Length) (right.kept which.Length) (places words))
-    (both_none _ _ (found_none (keeps heap words which.Entries) (right.kept which.Entries) (places words))
+    both_none _ _ (found_none (keeps_key_rule heap words which.Length) (right.kept which.Length) (places words))
+    (both_none _ _ (found_none (keeps_key_rule heap words which.Entries) (right.kept which.Entries) (places words))
     (both_none _ None (from_distinct heap texts.Name (catalogue heap words) right.names) refl))

@@ -5,7 +5,7 @@ use Rattle.std.specs.Cmp.Lexicographic.{pointwise}
 use Rattle.std.specs.List.{list_any}
 use Rattle.std.proofs.lemmas.List.{drop_more, map-append, take_more}
 use Rattle.sdr_keys.specs.Texts.{first_repeated, is_repeated, repeated_among, text_at}
-use Rattle.sdr_keys.specs.declared.texts.Text.{Text}
+use Rattle.sdr_keys.specs.declared.texts.EntryText.{EntryText}
 use Rattle.sdr_owner.specs.View.{View}
 
 -- a test of what is read of each
@@ -14,7 +14,7 @@ any_map p f [] = refl
 any_map p f (x ∷ xs) = ap (λ (t : Bool). p (f x) || t) (any_map p f xs)
 
 -- whether a text is among those of some keys is whether it is repeated
-pub among_keys : {X : Type 0} (heap : View) (text : Text) (items : X → List ℕ) (keys : List X) (seen : List ℕ) (addr : ℕ) (own : List ℕ) →
+pub among_keys : {X : Type 0} (heap : View) (text : EntryText) (items : X → List ℕ) (keys : List X) (seen : List ℕ) (addr : ℕ) (own : List ℕ) →
     map items keys ≡ map (text_at heap text) seen → own ≡ text_at heap text addr →
     list_any (λ key. pointwise nat_eq own (items key)) keys ≡ is_repeated heap text seen addr
 among_keys heap text items keys seen addr own same is =
@@ -23,7 +23,7 @@ among_keys heap text items keys seen addr own same is =
     ∙ sym (any_map (pointwise nat_eq own) (text_at heap text) seen)
     ∙ ap (λ (l : List ℕ). list_any (λ other. pointwise nat_eq l (text_at heap text other)) seen) is
 
-module _ (heap : View) (text : Text) (addrs : List ℕ) (i d : ℕ) (less : i < length addrs) where
+module _ (heap : View) (text : EntryText) (addrs : List ℕ) (i d : ℕ) (less : i < length addrs) where
   -- an entry that is repeated is so first, where none before it is
   pub repeated_here : repeated_among heap text (take i addrs) (drop i addrs) ≡ first_repeated heap text addrs →
       is_repeated heap text (take i addrs) (get_or addrs i d) ≡ true → Some (get_or addrs i d) ≡ first_repeated heap text addrs

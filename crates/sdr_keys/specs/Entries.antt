@@ -7,7 +7,7 @@ use Rattle.sdr_base.specs.declared.layout.list.TheConstants as list
 use Rattle.sdr_base.specs.declared.line.TheConstants.{WORD}
 use Rattle.sdr_keys.specs.Members.{members}
 use Rattle.sdr_keys.specs.Texts.{first_repeated, text_at}
-use Rattle.sdr_keys.specs.declared.texts.Text.TheVariants as texts
+use Rattle.sdr_keys.specs.declared.texts.EntryText.TheVariants as texts
 use Rattle.sdr_model.specs.HashSteps.{bucket_of}
 use Rattle.sdr_owner.specs.View.{View, is_kind, length_of, word_of}
 use Rattle.sdr_owner.specs.declared.owner.Owner.TheVariants as owners

@@ -1,7 +1,7 @@
 -- The blocks in the chain of an owner, one after another.
 use Rattle.std.specs.Prelude.{◌≡◌, ◌==◌, ℕ, zero, suc, cond, List, [], ◌∷◌}
 use Rattle.std.specs.List.{All}
-use Rattle.sdr_owner.specs.Chains.{Chain, first_of, next_of}
+use Rattle.sdr_owner.specs.Chains.{Chain, first_link, next_of}
 use Rattle.sdr_owner.specs.View.{View}
 use Rattle.sdr_owner.specs.declared.owner.Owner.{Owner}
 
@@ -13,7 +13,7 @@ followed heap owner (suc most) link =
 
 -- the blocks in the chain of an owner, in a heap of so many words
 abbrev pub members : View → ℕ → Owner → List ℕ
-members heap words owner = followed heap owner words (first_of heap owner)
+members heap words owner = followed heap owner words (first_link heap owner)
 
 -- each of these chains goes over the blocks in the chain of its owner
 abbrev pub AreMembers : View → ℕ → List Chain → Type 0

@@ -6,8 +6,8 @@ ghost use Rattle.sdr_keys.specs.Keyed.{wrong_key};
 ghost use Rattle.sdr_owner.specs.View.{view_in};
 
 use crate::chain::members;
-use crate::rules::{Rule, first_broken};
-use crate::texts::{Text, first_repeated};
+use crate::rules::{KeyRule, first_broken};
+use crate::texts::{EntryText, first_repeated};
 use sdr_base::{Addr, NoMemory};
 use sdr_owner::Owner;
 use std::alloc::Global;
@@ -22,12 +22,12 @@ pub fn wrong_key(alloc: Global, heap: &[u8]) -> Result<Option<Addr>, NoMemory>
     requires region { IsRegionSize (length heap.now) }
     ensures { IfOk result (λ addr. addr ≡ wrong_key (view_in heap.now) (length heap.now / WORD)) }
 {
-    if let Some(addr) = first_broken(alloc, heap, Rule::Length)? {
+    if let Some(addr) = first_broken(alloc, heap, KeyRule::Length)? {
         return Ok(Some(addr));
     }
-    if let Some(addr) = first_broken(alloc, heap, Rule::Entries)? {
+    if let Some(addr) = first_broken(alloc, heap, KeyRule::Entries)? {
         return Ok(Some(addr));
     }
     let names = members(alloc, heap, Owner::Catalogue)?;
-    first_repeated(alloc, heap, Text::Name, &names)
+    first_repeated(alloc, heap, EntryText::Name, &names)
 }

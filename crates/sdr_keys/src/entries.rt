@@ -8,7 +8,7 @@ ghost use Rattle.sdr_model.specs.HashSteps.{bucket_of};
 ghost use Rattle.sdr_owner.specs.View.{view_in};
 
 use crate::chain::members;
-use crate::texts::{Text, first_repeated, text_at};
+use crate::texts::{EntryText, first_repeated, text_at};
 use sdr_base::layout::{hash, list};
 use sdr_base::{Addr, Kind, NoMemory, WORD};
 use sdr_owner::{Owner, is_kind, length_of, word};
@@ -58,7 +58,7 @@ fn fit_bucket(heap: &[u8], addr: Addr, number: u64, entries: &[Addr]) -> bool
     let buckets = bucket_count(heap, addr);
     let count = word(heap, addr, hash::KEY_LENGTH);
     for entry in entries {
-        let key = text_at(heap, Text::Key, *entry);
+        let key = text_at(heap, EntryText::Key, *entry);
         if key.len() as u64 != count || bucket_of(buckets, key) != number {
             return false;
         }
@@ -87,7 +87,7 @@ fn bucket_length(
     if !fit_bucket(heap, addr, number, &entries) {
         return Ok(None);
     }
-    match first_repeated(alloc, heap, Text::Key, &entries)? {
+    match first_repeated(alloc, heap, EntryText::Key, &entries)? {
         Some(_) => Ok(None),
         None => Ok(Some(entries.len() as u64)),
     }

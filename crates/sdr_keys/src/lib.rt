@@ -26,5 +26,5 @@ mod texts;
 pub use chain::members;
 pub use check::wrong_key;
 pub use laws::{chains_are_members, keyed_regions_are_not_wrong};
-pub use rules::Rule;
-pub use texts::Text;
+pub use rules::KeyRule;
+pub use texts::EntryText;

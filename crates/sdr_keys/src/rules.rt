@@ -2,7 +2,7 @@
 ghost use Rattle.std.specs.Prelude.{◌≡◌, ◌/◌, length, IfOk};
 ghost use Rattle.sdr_base.specs.Cells.{IsRegionSize};
 ghost use Rattle.sdr_base.specs.declared.line.TheConstants.{WORD};
-ghost use Rattle.sdr_keys.specs.Keyed.{keeps};
+ghost use Rattle.sdr_keys.specs.Keyed.{keeps_key_rule};
 ghost use Rattle.sdr_keys.specs.Places.{first_failing};
 ghost use Rattle.sdr_owner.specs.View.{view_in};
 
@@ -12,7 +12,7 @@ use std::alloc::Global;
 
 /// What each block has to keep, if the rule speaks of its kind.
 #[derive(Clone, Copy)]
-pub enum Rule {
+pub enum KeyRule {
     /// A list tells how many elements it has.
     Length,
     /// A hash tells how many entries it has, each has a key of its length, in its bucket, and no two have the same.
@@ -20,22 +20,22 @@ pub enum Rule {
 }
 
 // Whether the block at an address keeps a rule.
-fn keeps(alloc: Global, heap: &[u8], rule: Rule, addr: Addr) -> Result<bool, NoMemory>
+fn keeps(alloc: Global, heap: &[u8], rule: KeyRule, addr: Addr) -> Result<bool, NoMemory>
     requires region { IsRegionSize (length heap.now) }
-    ensures { IfOk result (λ yes. yes ≡ keeps (view_in heap.now)
+    ensures { IfOk result (λ yes. yes ≡ keeps_key_rule (view_in heap.now)
         (length heap.now / WORD) rule addr) }
 {
     match rule {
-        Rule::Length => keeps_length(alloc, heap, addr),
-        Rule::Entries => keeps_entries(alloc, heap, addr),
+        KeyRule::Length => keeps_length(alloc, heap, addr),
+        KeyRule::Entries => keeps_entries(alloc, heap, addr),
     }
 }
 
 /// The address of the first block that doesn't keep a rule, `None` where each does.
-pub fn first_broken(alloc: Global, heap: &[u8], rule: Rule) -> Result<Option<Addr>, NoMemory>
+pub fn first_broken(alloc: Global, heap: &[u8], rule: KeyRule) -> Result<Option<Addr>, NoMemory>
     requires region { IsRegionSize (length heap.now) }
     ensures { IfOk result (λ addr. addr ≡ first_failing
-        (keeps (view_in heap.now) (length heap.now / WORD) rule) (length heap.now / WORD)) }
+        (keeps_key_rule (view_in heap.now) (length heap.now / WORD) rule) (length heap.now / WORD)) }
 {
     for number in 0..heap.len() as u64 / WORD {
         let addr = WORD * number;

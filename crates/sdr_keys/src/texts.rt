@@ -2,7 +2,8 @@
 ghost use Rattle.std.specs.Prelude.{◌≡◌, length, IfOk};
 ghost use Rattle.sdr_base.specs.Cells.{IsRegionSize};
 ghost use Rattle.sdr_base.specs.KeptHeap.{block_in};
-ghost use Rattle.sdr_keys.specs.Texts.{bytes_of, first_repeated, text_at, text_in};
+ghost use Rattle.sdr_keys.specs.Texts.{first_repeated, text_at, text_in};
+ghost use Rattle.sdr_owner.specs.Reading.{bytes_of};
 ghost use Rattle.sdr_owner.specs.View.{view_in};
 
 use indexmap::IndexSet;
@@ -13,7 +14,7 @@ use std::alloc::Global;
 
 /// What an entry holds as a text.
 #[derive(Clone, Copy)]
-pub enum Text {
+pub enum EntryText {
     /// An entry of a hash, its key.
     Key,
     /// An entry of the catalogue, its name.
@@ -34,7 +35,7 @@ fn bytes_of(heap: &[u8], addr: Addr) -> &[u8]
 
 // The name in the bytes of an entry of the catalogue.
 fn name_in(bytes: &[u8]) -> &[u8]
-    ensures { result.now ≡ text_in Text.Name bytes.now }
+    ensures { result.now ≡ text_in EntryText.Name bytes.now }
 {
     let place = (WORD * name::WORDS) as usize;
     if bytes.len() <= place {
@@ -46,7 +47,7 @@ fn name_in(bytes: &[u8]) -> &[u8]
 
 // The key in the bytes of an entry of a hash.
 fn key_in(bytes: &[u8]) -> &[u8]
-    ensures { result.now ≡ text_in Text.Key bytes.now }
+    ensures { result.now ≡ text_in EntryText.Key bytes.now }
 {
     let place = (WORD * hash_entry::WORDS) as usize;
     if bytes.len() <= place {
@@ -56,14 +57,14 @@ fn key_in(bytes: &[u8]) -> &[u8]
 }
 
 /// The text of the entry at an address.
-pub fn text_at(heap: &[u8], text: Text, addr: Addr) -> &[u8]
+pub fn text_at(heap: &[u8], text: EntryText, addr: Addr) -> &[u8]
     requires region { IsRegionSize (length heap.now) }
     ensures { result.now ≡ text_at (view_in heap.now) text addr }
 {
     let bytes = bytes_of(heap, addr);
     match text {
-        Text::Key => key_in(bytes),
-        Text::Name => name_in(bytes),
+        EntryText::Key => key_in(bytes),
+        EntryText::Name => name_in(bytes),
     }
 }
 
@@ -71,7 +72,7 @@ pub fn text_at(heap: &[u8], text: Text, addr: Addr) -> &[u8]
 pub fn first_repeated(
     alloc: Global,
     heap: &[u8],
-    text: Text,
+    text: EntryText,
     addrs: &[Addr],
 ) -> Result<Option<Addr>, NoMemory>
     requires region { IsRegionSize (length heap.now) }

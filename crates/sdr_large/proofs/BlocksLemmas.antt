@@ -9,7 +9,7 @@ use Rattle.std.proofs.lemmas.List.Sums.{sum_by-cons}
 use Rattle.sdr_base.specs.Pools.{PoolBlock, is_at, is_of, is_free_of, is_used_at}
 use Rattle.sdr_base.specs.KeptLarge.{FollowsLarge, is_used_of}
 use Rattle.sdr_base.specs.LargeGiving.{is_free_at}
-use Rattle.sdr_base.specs.LargePool.{without, placed}
+use Rattle.sdr_base.specs.LargePool.{without, with_placed}
 use Rattle.sdr_base.proofs.PoolsLemmas.{count_by-yes, count_by-no, is_at-true, is_at-other}
 use Rattle.sdr_large.proofs.FollowsLemmas.{follows-le}
 
@@ -135,37 +135,37 @@ without-between addr b (x ∷ xs) ys none_before here none_behind = elim (cases_
 ]
 
 -- a block that is put stands first, or the first stays
-placed-first : (b c : PoolBlock) (cs : List PoolBlock) →
-    (placed b (c ∷ cs) ≡ b ∷ c ∷ cs) ⊎ (placed b (c ∷ cs) ≡ c ∷ placed b cs)
-unfolding placed
-placed-first b c cs = elim (cases_Bool (nat_lt b.addr c.addr)) [
-  | inl before ↦ inl (ap (λ (v : Bool). cond v (b ∷ c ∷ cs) (c ∷ placed b cs)) before)
-  | inr behind ↦ inr (ap (λ (v : Bool). cond v (b ∷ c ∷ cs) (c ∷ placed b cs)) behind)
+with_placed-first : (b c : PoolBlock) (cs : List PoolBlock) →
+    (with_placed b (c ∷ cs) ≡ b ∷ c ∷ cs) ⊎ (with_placed b (c ∷ cs) ≡ c ∷ with_placed b cs)
+unfolding with_placed
+with_placed-first b c cs = elim (cases_Bool (nat_lt b.addr c.addr)) [
+  | inl before ↦ inl (ap (λ (v : Bool). cond v (b ∷ c ∷ cs) (c ∷ with_placed b cs)) before)
+  | inr behind ↦ inr (ap (λ (v : Bool). cond v (b ∷ c ∷ cs) (c ∷ with_placed b cs)) behind)
 ]
 
 -- what a block that was put adds
-pub count_by-placed : (p : PoolBlock → Bool) (b : PoolBlock) (bs : List PoolBlock) →
-    count_by p (placed b bs) ≡ cond (p b) 1 0 + count_by p bs
-unfolding placed
-count_by-placed p b [] = sum_by-cons (λ x. cond (p x) 1 0) b []
-count_by-placed p b (c ∷ cs) = elim (placed-first b c cs) [
+pub count_by-with_placed : (p : PoolBlock → Bool) (b : PoolBlock) (bs : List PoolBlock) →
+    count_by p (with_placed b bs) ≡ cond (p b) 1 0 + count_by p bs
+unfolding with_placed
+count_by-with_placed p b [] = sum_by-cons (λ x. cond (p x) 1 0) b []
+count_by-with_placed p b (c ∷ cs) = elim (with_placed-first b c cs) [
   | inl before ↦ ap (λ (l : List PoolBlock). count_by p l) before ∙ sum_by-cons (λ x. cond (p x) 1 0) b (c ∷ cs)
   | inr behind ↦
-      let first = sum_by-cons (λ x. cond (p x) 1 0) c (placed b cs) in
+      let first = sum_by-cons (λ x. cond (p x) 1 0) c (with_placed b cs) in
       let was = sum_by-cons (λ x. cond (p x) 1 0) c cs in
-      ap (λ (l : List PoolBlock). count_by p l) behind ∙ omega (arith, first, was, count_by-placed p b cs)
+      ap (λ (l : List PoolBlock). count_by p l) behind ∙ omega (arith, first, was, count_by-with_placed p b cs)
 ]
 
 -- a block that is put stands behind those that end before it, and in front of those that begin behind it
-pub placed-between : (b : PoolBlock) (from to end to' : ℕ) (xs ys : List PoolBlock) → FollowsLarge from xs to →
-    to + 16 ≤ b.addr → b.addr < end + 16 → FollowsLarge end ys to' → placed b (xs ++ ys) ≡ xs ++ b ∷ ys
-unfolding placed
-placed-between b from to end to' [] [] before behind above follows = refl
-placed-between b from to end to' [] (y ∷ ys) before behind above follows =
-    ap (λ (v : Bool). cond v (b ∷ y ∷ ys) (y ∷ placed b ys))
+pub with_placed-between : (b : PoolBlock) (from to end to' : ℕ) (xs ys : List PoolBlock) → FollowsLarge from xs to →
+    to + 16 ≤ b.addr → b.addr < end + 16 → FollowsLarge end ys to' → with_placed b (xs ++ ys) ≡ xs ++ b ∷ ys
+unfolding with_placed
+with_placed-between b from to end to' [] [] before behind above follows = refl
+with_placed-between b from to end to' [] (y ∷ ys) before behind above follows =
+    ap (λ (v : Bool). cond v (b ∷ y ∷ ys) (y ∷ with_placed b ys))
     (lt-ltb b.addr y.addr (omega (arith, above, follows.0)))
-placed-between b from to end to' (x ∷ xs) ys before behind above follows =
-    ap (λ (v : Bool). cond v (b ∷ x ∷ (xs ++ ys)) (x ∷ placed b (xs ++ ys)))
+with_placed-between b from to end to' (x ∷ xs) ys before behind above follows =
+    ap (λ (v : Bool). cond v (b ∷ x ∷ (xs ++ ys)) (x ∷ with_placed b (xs ++ ys)))
     (le-ltb b.addr x.addr (omega (arith, behind, before.0, follows-le (from + 8 * (4 + x.words)) to xs before.2)))
     ∙ ap (λ (l : List PoolBlock). x ∷ l)
-    (placed-between b (from + 8 * (4 + x.words)) to end to' xs ys before.2 behind above follows)
+    (with_placed-between b (from + 8 * (4 + x.words)) to end to' xs ys before.2 behind above follows)

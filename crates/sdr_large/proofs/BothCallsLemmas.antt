@@ -15,9 +15,9 @@ use Rattle.sdr_base.proofs.FreshPoolsLemmas.{fresh_keeps}
 use Rattle.sdr_base.proofs.FreshLargeLemmas.{fresh_keeps_large}
 use Rattle.sdr_base.proofs.KeptPoolsLemmas.{in_order, is_block, free_is, front_free, large_stays}
 use Rattle.sdr_base.proofs.SmallPoolLemmas.{words_at-is}
-use Rattle.sdr_small.specs.Calls.{TakesBy as SmallTakesBy, TakesSmall, Gives as SmallGives, KeepsUsedSmall}
+use Rattle.sdr_small.specs.Calls.{TakesBy as SmallTakesBy, TakesSmall, GivesSmall as SmallGives, KeepsUsedSmall}
 use Rattle.sdr_large.specs.Both.{KeepsBoth}
-use Rattle.sdr_large.specs.Calls.{Becomes, TakesBy, TakesLarge, KeepsUsedLarge, KeepsOthers, Gives}
+use Rattle.sdr_large.specs.Calls.{Becomes, TakesBy, TakesLarge, KeepsUsedLarge, KeepsOthers, GivesLarge}
 use Rattle.sdr_large.proofs.BothPoolsLemmas.{SameSmall, SameLarge, small_kept, large_kept, cut_same, new_same, give_same}
 use Rattle.sdr_large.proofs.CallsLemmas.{used_in}
 
@@ -182,7 +182,7 @@ large_taken x y words found k takes = either (found_large k.pools words) (takes.
         after_large (with_cut k.pools words block) block.0 x y k (cut_same k.pools words block) by.becomes
 
 -- giving back to the large pool keeps both
-pub large_given : (x y : List ℕ) (addr : ℕ) → KeepsBoth x → KeepsUsedLarge addr x → Gives addr x y → KeepsBoth y
+pub large_given : (x y : List ℕ) (addr : ℕ) → KeepsBoth x → KeepsUsedLarge addr x → GivesLarge addr x y → KeepsBoth y
 large_given x y addr k u gives =
     after_large (give_large k.pools addr) addr x y k (give_same k.pools addr)
     (gives.rule k.pools k.large (used_in x u.pools k.pools addr u.keeps k.large u.used))

@@ -7,12 +7,12 @@ use Rattle.std.proofs.lemmas.Bool.{cases_lt}
 use Rattle.sdr_base.specs.Pools.{PoolBlock, Pools, is_of}
 use Rattle.sdr_base.specs.LargePool.{with_free_large}
 use Rattle.sdr_base.specs.LargePool.{with_cut, with_new_large}
-use Rattle.sdr_base.specs.LargeGiving.{Loose, loosened, with_below, with_above, joined_below, joined_above, put_back}
+use Rattle.sdr_base.specs.LargeGiving.{Loose, loosened, with_below, with_above, joined_below, joined_above, large_freed}
 use Rattle.sdr_base.specs.LargeGiving.{is_free_at, is_free_below, give_large}
 use Rattle.sdr_base.specs.KeptPools.{KeepsSmall, StaysLarge, list_place}
 use Rattle.sdr_base.specs.KeptLarge.{HoldsLarge, KeepsLarge, StaysSmall, large_place}
 use Rattle.sdr_base.specs.Stored.{number_at}
-use Rattle.sdr_base.proofs.KeptPoolsLemmas.{Chain-moved, IsInOrder, in_order as small_order, IsBlock, is_block, free_is, listed_is}
+use Rattle.sdr_base.proofs.KeptPoolsLemmas.{ChainFrom-moved, IsInOrder, in_order as small_order, IsBlock, is_block, free_is, listed_is}
 use Rattle.sdr_base.proofs.PoolsLemmas.{at-last, used-le-at}
 use Rattle.sdr_base.proofs.StoredLemmas.{number_at-same, leader_words-same, leader_kind-same, leader_length-same}
 use Rattle.sdr_large.specs.Gap.{TilesAround, IsFree}
@@ -119,7 +119,7 @@ module _ (P Q : Pools) (x y : List ℕ) (keeps : KeepsSmall x P) (stays : StaysS
     low = number_at-same 16 x y (λ i ge lt. stays.front i (omega (arith, lt))) ∙ keeps.low;
     high = high;
     lists = λ words some few.
-        Chain-moved x y (list_place words) (list_place words) (P.small_lists words)
+        ChainFrom-moved x y (list_place words) (list_place words) (P.small_lists words)
         (number_at-same (list_place words) x y (λ i ge lt. stays.lists i (omega (arith, ge, some)) (omega (arith, lt, few))))
         (λ a there.
         let b = at words a (free_is P words a (listed_is x P words a keeps there)) in
@@ -268,7 +268,7 @@ pub new_same : (P : Pools) (words : ℕ) → SameSmall P (with_new_large P words
 new_same P words = same_of P _ _ _
 
 -- so does giving back
-give_same_from : (P : Pools) (loose : Loose) → SameSmall P loose.pools → SameSmall P (put_back loose)
+give_same_from : (P : Pools) (loose : Loose) → SameSmall P loose.pools → SameSmall P (large_freed loose)
 give_same_from P loose s =
     same_either (loose.addr == loose.pools.high + 16) P
     (record loose.pools { high = loose.addr - 16 + 8 * (4 + loose.words) })

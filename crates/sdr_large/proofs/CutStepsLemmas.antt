@@ -5,13 +5,13 @@ use Rattle.std.specs.Prelude.{Some}
 use Rattle.std.specs.List.{count_by}
 use Rattle.std.proofs.lemmas.Bool.{eq-eqb, lt-ltb, le-ltb}
 use Rattle.sdr_base.specs.Pools.{PoolBlock, Pools, IsUsed, is_used_at}
-use Rattle.sdr_base.specs.LargePool.{without, placed, with_unlinked, with_used_large, with_free_large}
+use Rattle.sdr_base.specs.LargePool.{without, with_placed, with_unlinked, with_used_large, with_free_large}
 use Rattle.sdr_base.specs.KeptLarge.{TilesLarge, KeepsLarge, is_used_of}
 use Rattle.sdr_base.proofs.StoredLemmas.{leader_kind-same, leader_length-same}
 use Rattle.sdr_large.specs.Calls.{TakesBlock, CanCut, Cuts}
 use Rattle.sdr_large.specs.Gap.{IsFree, Steps, StaysBelow}
 use Rattle.sdr_large.specs.Steps.{HoldsFree, HoldsGap, Unlinks, PutsUsed, PutsFree}
-use Rattle.sdr_large.proofs.BlocksLemmas.{count_by-placed}
+use Rattle.sdr_large.proofs.BlocksLemmas.{count_by-with_placed}
 use Rattle.sdr_large.proofs.CutLemmas.{gap, begins, low_fits, low_tiles, whole_tiles, rest_fits, rest_begins}
 use Rattle.sdr_large.proofs.CutLemmas.{split_tiles}
 use Rattle.sdr_large.proofs.StaysLemmas.{below_trans, small_stays, all_used, used_without, used_placed}
@@ -19,21 +19,21 @@ use Rattle.sdr_large.proofs.WalkLemmas.{tiles_whole}
 
 -- a block in use that was put is there
 put_is : (P : Pools) (addr words : ℕ) (blocks : List PoolBlock) →
-    IsUsed (placed (record { addr = addr; words = words; used = true }) blocks) addr
+    IsUsed (with_placed (record { addr = addr; words = words; used = true }) blocks) addr
 put_is P addr words blocks = record {
   used = omega (
     arith,
-    count_by-placed (is_used_at addr) (record { addr = addr; words = words; used = true }) blocks,
+    count_by-with_placed (is_used_at addr) (record { addr = addr; words = words; used = true }) blocks,
     ap (λ (v : Bool). cond (v && true) 1 0 + count_by (is_used_at addr) blocks) (eq-eqb addr addr refl),
   );
 }
 
 put_is_of : (addr words : ℕ) (blocks : List PoolBlock) →
-    0 < count_by (is_used_of words addr) (placed (record { addr = addr; words = words; used = true }) blocks)
+    0 < count_by (is_used_of words addr) (with_placed (record { addr = addr; words = words; used = true }) blocks)
 put_is_of addr words blocks =
     omega (
       arith,
-      count_by-placed (is_used_of words addr) (record { addr = addr; words = words; used = true }) blocks,
+      count_by-with_placed (is_used_of words addr) (record { addr = addr; words = words; used = true }) blocks,
       ap (λ (v : Bool). cond (v && words == words && true) 1 0 + count_by (is_used_of words addr) blocks)
           (eq-eqb addr addr refl),
       ap (λ (v : Bool). cond (true && v && true) 1 0 + count_by (is_used_of words addr) blocks)
@@ -157,7 +157,7 @@ module _ (x y z : List ℕ) (words has addr : ℕ) (unlinks : Unlinks has addr x
             used = omega (
               arith,
               (put_is P addr words (without addr P.large)).used,
-              count_by-placed (is_used_at addr)
+              count_by-with_placed (is_used_at addr)
                   (record { addr = addr + 8 * (4 + words); words = has - words - 4; used = false }) low.large,
             );
           };

@@ -4,13 +4,13 @@ use Rattle.std.proofs.Common.{List, [], ◌∷◌, sym, ap, ◌∙◌, arith, su
 use Rattle.std.specs.List.{count_by}
 use Rattle.std.proofs.lemmas.Bool.{cases_Bool}
 use Rattle.sdr_base.specs.Pools.{PoolBlock, Pools, is_at, is_used_at}
-use Rattle.sdr_base.specs.LargePool.{placed, order_of}
+use Rattle.sdr_base.specs.LargePool.{with_placed, order_of}
 use Rattle.sdr_base.specs.KeptPools.{IsOutside}
 use Rattle.sdr_base.specs.KeptLarge.{Links, HoldsLarge, is_entry, large_place}
 use Rattle.sdr_base.specs.Stored.{number_at}
 use Rattle.sdr_base.proofs.PoolsLemmas.{used-le-at}
 use Rattle.sdr_large.specs.Gap.{TilesAround, IsFree}
-use Rattle.sdr_large.proofs.BlocksLemmas.{count_by-placed}
+use Rattle.sdr_large.proofs.BlocksLemmas.{count_by-with_placed}
 use Rattle.sdr_large.proofs.FollowsLemmas.{at_first, at_last}
 use Rattle.sdr_large.proofs.LinksLemmas.{FreeAt, first_entry}
 use Rattle.sdr_large.proofs.ListsLemmas.{entry_free}
@@ -18,23 +18,23 @@ use Rattle.sdr_large.proofs.PartedLemmas.{both_sides}
 use Rattle.sdr_large.proofs.PlacesLemmas.{InOrder, in_order, at_block, free_of, entered_free, unique}
 
 -- what a block that is put among others passes, or they pass before
-pub put_or_was : (p : PoolBlock → Bool) (b : PoolBlock) (bs : List PoolBlock) → 0 < count_by p (placed b bs) →
+pub put_or_was : (p : PoolBlock → Bool) (b : PoolBlock) (bs : List PoolBlock) → 0 < count_by p (with_placed b bs) →
     (p b ≡ true) ⊎ (0 < count_by p bs)
 put_or_was p b bs some = elim (cases_Bool (p b)) [
   | inl here ↦ inl here
   | inr other ↦ inr (omega (
     arith,
     some,
-    count_by-placed p b bs,
+    count_by-with_placed p b bs,
     ap (λ (v : Bool). cond v 1 0 + count_by p bs) other,
   ))
 ]
 
 -- a test that the block fails
 pub not_put : (p : PoolBlock → Bool) (b : PoolBlock) (bs : List PoolBlock) → p b ≡ false →
-    count_by p (placed b bs) ≡ count_by p bs
+    count_by p (with_placed b bs) ≡ count_by p bs
 not_put p b bs fails =
-    omega (arith, count_by-placed p b bs, ap (λ (v : Bool). cond v 1 0 + count_by p bs) fails)
+    omega (arith, count_by-with_placed p b bs, ap (λ (v : Bool). cond v 1 0 + count_by p bs) fails)
 
 -- an entry at an address
 pub record IsEntered (list : List (ℕ × ℕ)) (addr : ℕ) : Type 0 where

@@ -6,16 +6,16 @@ use Rattle.std.specs.List.{count_by, find}
 use Rattle.sdr_base.specs.Pools.{PoolBlock, Pools, IsUsed}
 use Rattle.sdr_base.specs.LargePool.{with_free_large}
 use Rattle.sdr_base.specs.LargeGiving.{Loose, loosened, is_free_at, is_free_below, with_below, with_above, joined_below, joined_above}
-use Rattle.sdr_base.specs.LargeGiving.{put_back, give_large}
+use Rattle.sdr_base.specs.LargeGiving.{large_freed, give_large}
 use Rattle.sdr_base.specs.KeptLarge.{HoldsLarge, KeepsLarge, KeepsSomeLarge, is_used_of}
 use Rattle.sdr_large.specs.declared.block.Block.{Block}
-use Rattle.sdr_large.specs.Calls.{Becomes, KeepsUsedLarge, KeepsOthers, Gives}
+use Rattle.sdr_large.specs.Calls.{Becomes, KeepsUsedLarge, KeepsOthers, GivesLarge}
 use Rattle.sdr_large.specs.Gap.{TilesAround, Steps, StaysBelow}
-use Rattle.sdr_large.specs.Giving.{IsLoose, StandsAlone, Names, HoldsLoose, Loosens, JoinsBelow, JoinsAbove, PutsBack}
+use Rattle.sdr_large.specs.Giving.{IsLoose, StandsAlone, Names, HoldsLoose, Loosens, JoinsBelow, JoinsAbove, SetsFree}
 use Rattle.sdr_large.proofs.BlocksLemmas.{without-other, used_of_is}
 use Rattle.sdr_large.proofs.CallsLemmas.{Becomes-others, used_in}
 use Rattle.sdr_large.proofs.LooseLemmas.{words, loosened_is, below_is, below_alone, below_there, from_below, above_is}
-use Rattle.sdr_large.proofs.LooseLemmas.{above_alone, above_there, to_above, put_back-tiles}
+use Rattle.sdr_large.proofs.LooseLemmas.{above_alone, above_there, to_above, large_freed-tiles}
 use Rattle.sdr_large.proofs.StaysLemmas.{below_trans, small_stays, all_used, used_without, used_placed}
 
 -- so far the bytes hold other pools, whose ends are the same, and blocks in use but one stay
@@ -193,17 +193,17 @@ module _ (addr : ℕ) (own lower whole : Block) (x a b c y : List ℕ) (P : Pool
       put_used_still false w n there =
           used_placed (record { addr = third.addr; words = third.words; used = false }) third.pools.large w n there
 
-      pub given : PutsBack whole c y → Becomes P (give_large P addr) addr x y
+      pub given : SetsFree whole c y → Becomes P (give_large P addr) addr x y
       given puts =
           let step = puts.rule third lower_from (to_above second lower_from upper_to is_second above) is_third
           way_third.holds joined_third.0 in
-          let tiles = put_back-tiles third lower_from (to_above second lower_from upper_to is_second above) is_third
+          let tiles = large_freed-tiles third lower_from (to_above second lower_from upper_to is_second above) is_third
           alone in
           record {
             keeps = record { tiles = tiles; holds = step.holds };
             still = λ w n there differ. put_used_still (third.addr == third.pools.high + 16) w n
                 (way_third.still w n there differ);
-            small = small_stays P (put_back third) P.high x y
+            small = small_stays P (large_freed third) P.high x y
                 (below_trans P.start P.low P.high x c y way_third.below
                 (below_of P third.pools c y way_third.start way_third.low way_third.high step.below))
                 (inl (omega arith)) step.holds tiles.follow
@@ -219,19 +219,19 @@ module _ (addr : ℕ) (own lower whole : Block) (x a b c y : List ℕ) (P : Pool
 
 -- after all steps the block is back
 pub gives : (addr : ℕ) (own lower whole : Block) (x a b c y : List ℕ) → Loosens addr own x a →
-    JoinsBelow own lower a b → JoinsAbove lower whole b c → PutsBack whole c y → Gives addr x y
+    JoinsBelow own lower a b → JoinsAbove lower whole b c → SetsFree whole c y → GivesLarge addr x y
 gives addr own lower whole x a b c y loose below above puts = record {
   rule = λ P keeps used. given addr own lower whole x a b c y P keeps used loose below above puts;
 }
 
 -- and the bytes keep a pool
-pub Gives-kept : (x y : List ℕ) (addr : ℕ) → KeepsUsedLarge addr x → Gives addr x y → KeepsSomeLarge y
-Gives-kept x y addr k gives =
+pub GivesLarge-kept : (x y : List ℕ) (addr : ℕ) → KeepsUsedLarge addr x → GivesLarge addr x y → KeepsSomeLarge y
+GivesLarge-kept x y addr k gives =
     record { pools = give_large k.pools addr; keeps = (gives.rule k.pools k.keeps k.used).keeps }
 
 -- and the others go on being in use
-pub Gives-others : (x y : List ℕ) (addr : ℕ) → KeepsUsedLarge addr x → Gives addr x y → KeepsOthers addr x y
-Gives-others x y addr used gives = record {
+pub GivesLarge-others : (x y : List ℕ) (addr : ℕ) → KeepsUsedLarge addr x → GivesLarge addr x y → KeepsOthers addr x y
+GivesLarge-others x y addr used gives = record {
   still = λ other differ k.
       Becomes-others k.pools (give_large k.pools addr) addr other x y
       (gives.rule k.pools k.keeps (used_in x used.pools k.pools addr used.keeps k.keeps used.used)) k.keeps k.used differ;

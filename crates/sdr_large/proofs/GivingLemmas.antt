@@ -11,7 +11,7 @@ use Rattle.sdr_base.specs.KeptLarge.{HoldsLarge}
 use Rattle.sdr_base.specs.Stored.{number_at, with_number, leader_words}
 use Rattle.sdr_large.specs.declared.block.Block.{Block}
 use Rattle.sdr_large.specs.Gap.{IsFree, Steps}
-use Rattle.sdr_large.specs.Giving.{IsLoose, Names, HoldsLoose, JoinsBelow, JoinsAbove, PutsBack}
+use Rattle.sdr_large.specs.Giving.{IsLoose, Names, HoldsLoose, JoinsBelow, JoinsAbove, SetsFree}
 use Rattle.sdr_large.specs.Steps.{HoldsFree, HoldsGap, Unlinks, PutsFree}
 use Rattle.sdr_large.proofs.HighLemmas.{high_holds, high_below, high_used}
 use Rattle.sdr_large.proofs.JoinLemmas.{steps_same, IsFound, none_at_high, none_below, found_below, below_words}
@@ -227,7 +227,7 @@ module _ (block : Block) (x : List ℕ) (words : ℕ)
 
 -- `high` was raised over the block
 pub puts_high : (block : Block) (x y : List ℕ) (high : ℕ) → high ≡ number_at 24 x → block.addr ≡ high + 16 →
-    y ≡ with_number 24 (block.addr + 8 * block.words + 16) x → PutsBack block x y
+    y ≡ with_number 24 (block.addr + 8 * block.words + 16) x → SetsFree block x y
 puts_high block x y high high_is at written = record {
   rule = λ loose from to is holds names.
       let o = in_order loose.pools from to is.tiles in
@@ -268,7 +268,7 @@ loose_gap block x z k same = subst (HoldsGap block.words block.addr) (sym same) 
 
 -- it was put there
 pub puts_free_back : (block : Block) (x z y : List ℕ) (high : ℕ) → high ≡ number_at 24 x → z ≡ x →
-    block.addr ≢ high + 16 → PutsFree block.words block.addr z y → PutsBack block x y
+    block.addr ≢ high + 16 → PutsFree block.words block.addr z y → SetsFree block x y
 puts_free_back block x z y high high_is same differ puts = record {
   rule = λ loose from to is holds names.
       subst (λ (v : Bool). Steps loose.pools

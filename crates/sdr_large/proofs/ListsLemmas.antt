@@ -16,7 +16,7 @@ use Rattle.sdr_base.specs.KeptLarge.{ListsFree, is_entry}
 use Rattle.sdr_base.proofs.PoolsLemmas.{free-free-le-at}
 use Rattle.sdr_base.proofs.SmallPoolLemmas.{with_list-here, with_list-other}
 use Rattle.sdr_large.specs.Gap.{IsFree}
-use Rattle.sdr_large.proofs.BlocksLemmas.{filter_kept, filter_lost, without-other, without-here, free_of_is, count_by-placed}
+use Rattle.sdr_large.proofs.BlocksLemmas.{filter_kept, filter_lost, without-other, without-here, free_of_is, count_by-with_placed}
 
 -- the order of a number of words is the place of its highest bit
 order_upto-le : (most words : ℕ) → order_upto most words ≤ most
@@ -169,7 +169,7 @@ lists_used P words addr lists = record {
   listed = λ order w at.
       lists.listed order w at
       ∙ ap (λ (n : ℕ). cond (order == order_of w) n 0)
-      (sym (count_by-placed (is_free_of w at) (record { addr = addr; words = words; used = true }) P.large
+      (sym (count_by-with_placed (is_free_of w at) (record { addr = addr; words = words; used = true }) P.large
       ∙ ap (λ (v : Bool). cond v 1 0 + count_by (is_free_of w at) P.large) (never (is_of w at (block true)))
       ∙ zero_add (count_by (is_free_of w at) P.large)));
 }
@@ -190,7 +190,7 @@ lists_pushed P words addr lists = record {
   listed = λ order w at.
       count_list order w at (cases_eq order (order_of words))
       ∙ sym (ap (λ (n : ℕ). cond (order == order_of w) n 0)
-      (count_by-placed (is_free_of w at) block P.large
+      (count_by-with_placed (is_free_of w at) block P.large
       ∙ ap (λ (v : Bool). cond v 1 0 + count_by (is_free_of w at) P.large) (always (is_of w at block))));
 }
   where

@@ -7,7 +7,7 @@ use Rattle.std.proofs.lemmas.Bool.{cases_Bool, ne_eqb, eqb-true, eqb-false, and_
 use Rattle.sdr_base.specs.Pools.{PoolBlock, Pools, IsUsed, is_at, is_of, is_free_of}
 use Rattle.sdr_base.specs.SmallPool.{words_at}
 use Rattle.sdr_base.specs.LargePool.{without, with_unlinked, with_free_large}
-use Rattle.sdr_base.specs.LargeGiving.{Loose, loosened, is_free_at, is_free_below, with_below, with_above, put_back}
+use Rattle.sdr_base.specs.LargeGiving.{Loose, loosened, is_free_at, is_free_below, with_below, with_above, large_freed}
 use Rattle.sdr_base.specs.KeptLarge.{TilesLarge, ListsFree}
 use Rattle.sdr_base.proofs.PoolsLemmas.{count_by-le, free-used-le-at, is_of-true}
 use Rattle.sdr_base.proofs.SmallPoolLemmas.{words_at-is}
@@ -293,8 +293,8 @@ module _ (loose : Loose) (from to : ℕ) (is : IsLoose loose from to) where
       end_is : loose.addr + 8 * (4 + loose.words) ≡ to + 16
       end_is = omega (arith, is.at, is.ends)
 
-  pub put_back-tiles : StandsAlone loose → TilesLarge (put_back loose)
-  put_back-tiles alone = elim (cases_Bool (loose.addr == P.high + 16)) [
+  pub large_freed-tiles : StandsAlone loose → TilesLarge (large_freed loose)
+  large_freed-tiles alone = elim (cases_Bool (loose.addr == P.high + 16)) [
     | inl same ↦
         subst (λ (v : Bool). TilesLarge (cond v (record P { high = loose.addr - 16 + 8 * (4 + loose.words) })
         (with_free_large P loose.addr loose.words))) (sym same)

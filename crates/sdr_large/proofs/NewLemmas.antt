@@ -14,7 +14,7 @@ use Rattle.sdr_base.proofs.PoolsLemmas.{count_by-le}
 use Rattle.sdr_large.specs.Calls.{TakesBlock, TakesBy, TakesNew}
 use Rattle.sdr_large.specs.Gap.{TilesAround, Steps}
 use Rattle.sdr_large.specs.Steps.{HoldsGap, PutsUsed}
-use Rattle.sdr_large.proofs.BlocksLemmas.{count_by-placed}
+use Rattle.sdr_large.proofs.BlocksLemmas.{count_by-with_placed}
 use Rattle.sdr_large.proofs.FollowsLemmas.{at_first}
 use Rattle.sdr_large.proofs.GapLemmas.{put_or_was, not_put}
 use Rattle.sdr_large.proofs.HighLemmas.{high_holds, high_below, high_used}
@@ -123,7 +123,8 @@ module _ (x : List ℕ) (words : ℕ) (P : Pools) (keeps : KeepsLarge x P) (some
       used = record {
         used = omega (
           arith,
-          count_by-placed (is_used_at (high + 16)) (record { addr = high + 16; words = words; used = true }) P.large,
+          count_by-with_placed (is_used_at (high + 16)) (record { addr = high + 16; words = words; used = true })
+              P.large,
           ap (λ (v : Bool). cond (v && true) 1 0 + count_by (is_used_at (high + 16)) P.large)
               (eq-eqb (high + 16) (high + 16) refl),
         );

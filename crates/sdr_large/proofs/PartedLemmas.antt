@@ -5,12 +5,12 @@ use Rattle.std.specs.List.{count_by}
 use Rattle.std.proofs.lemmas.Bool.{cases_Bool, cases_lt}
 use Rattle.std.proofs.lemmas.Bool.Decides.{nat_tests}
 use Rattle.sdr_base.specs.Pools.{PoolBlock, is_at, is_of}
-use Rattle.sdr_base.specs.LargePool.{without, placed}
+use Rattle.sdr_base.specs.LargePool.{without, with_placed}
 use Rattle.sdr_base.specs.KeptLarge.{FollowsLarge}
 use Rattle.sdr_base.proofs.PoolsLemmas.{count_by-append, count_by-no, is_of-true, of-le-at}
 use Rattle.sdr_large.specs.Gap.{IsParted}
 use Rattle.sdr_large.proofs.FollowsLemmas.{follows-le, within, at_first, at_last, at_once, apart, follows-whole}
-use Rattle.sdr_large.proofs.BlocksLemmas.{without-between, placed-between}
+use Rattle.sdr_large.proofs.BlocksLemmas.{without-between, with_placed-between}
 
 -- one block at a place, between those before and behind it
 pub record IsCut (from to words addr : ℕ) (bs : List PoolBlock) : Type 0 where
@@ -115,15 +115,15 @@ raised high end from to bs p same =
 -- a block at the low end of the gap narrows it
 pub filled : (high end from to words : ℕ) (used : Bool) (bs : List PoolBlock) → IsParted high end bs from to →
     1 ≤ words → from + 8 * (4 + words) ≤ to →
-    IsParted high end (placed (record { addr = from + 16; words = words; used = used }) bs)
+    IsParted high end (with_placed (record { addr = from + 16; words = words; used = used }) bs)
     (from + 8 * (4 + words)) to
 filled high end from to words used bs p some fits =
     let b : PoolBlock = record { addr = from + 16; words = words; used = used } in
     record {
       below = p.below ++ b ∷ [];
       above = p.above;
-      parts = ap (λ (l : List PoolBlock). placed b l) p.parts
-          ∙ placed-between b high from to end p.below p.above p.first (omega arith) (omega (arith, fits)) p.second
+      parts = ap (λ (l : List PoolBlock). with_placed b l) p.parts
+          ∙ with_placed-between b high from to end p.below p.above p.first (omega arith) (omega (arith, fits)) p.second
           ∙ sym (append_assoc p.below (b ∷ []) p.above);
       first = follows-append high from (from + 8 * (4 + words)) p.below (b ∷ []) p.first (refl, some, refl);
       gap = fits;

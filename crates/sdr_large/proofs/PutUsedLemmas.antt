@@ -4,7 +4,7 @@ use Rattle.std.proofs.Common.{List, get_or, refl, sym, ap, ◌∙◌, arith, sub
 use Rattle.std.specs.List.{count_by}
 use Rattle.std.proofs.lemmas.Bool.{cases_eq, eq-eqb, ne_eqb, and_parts}
 use Rattle.sdr_base.specs.Pools.{PoolBlock, Pools, is_of, is_free_of, is_used_at}
-use Rattle.sdr_base.specs.LargePool.{placed, with_used_large}
+use Rattle.sdr_base.specs.LargePool.{with_placed, with_used_large}
 use Rattle.sdr_base.specs.KeptPools.{IsOutside}
 use Rattle.sdr_base.specs.KeptLarge.{Links, HoldsLarge, IsUsedBlock, is_used_of, large_place}
 use Rattle.sdr_base.specs.Stored.{number_at, leader_words, start_bit, SetsStartBit}
@@ -13,7 +13,7 @@ use Rattle.sdr_base.proofs.StartBitsLemmas.{start_bit-same}
 use Rattle.sdr_base.proofs.StoredLemmas.{number_at-same, leader_words-same}
 use Rattle.sdr_large.specs.Frame.{HasFrame}
 use Rattle.sdr_large.specs.Gap.{TilesAround, IsFree, Steps}
-use Rattle.sdr_large.proofs.BlocksLemmas.{count_by-placed}
+use Rattle.sdr_large.proofs.BlocksLemmas.{count_by-with_placed}
 use Rattle.sdr_large.proofs.ChangeLemmas.{MayChange, ChangesOnly, leaders_kept, free_kept, used_kept, used_stays}
 use Rattle.sdr_large.proofs.ChangeLemmas.{control_kept, below_stays}
 use Rattle.sdr_large.proofs.GapLemmas.{put_or_was, not_put, none_used, positive, other_addr, next_out, back_out}
@@ -139,12 +139,12 @@ module _ (x z y : List ℕ) (words addr : ℕ) (least : 16 ≤ addr) (frame : Ha
         (inl (omega (arith, within, at, order.small, order.order, order.first))))
 
     bits : (word : ℕ) → word < 8 * (P.start - 1024) → P.low ≤ 8 * word →
-        start_bit word y ≡ count_by (is_used_at (8 * word + 16)) (placed block P.large)
+        start_bit word y ≡ count_by (is_used_at (8 * word + 16)) (with_placed block P.large)
     bits word within ge = elim (cases_eq (8 * word + 16) addr) [
       | inl here ↦
           ap (λ (w : ℕ). start_bit w y) (omega (arith, here)) ∙ sets.set
-          ∙ sym (ap (λ (n : ℕ). count_by (is_used_at n) (placed block P.large)) here
-          ∙ count_by-placed (is_used_at addr) block P.large
+          ∙ sym (ap (λ (n : ℕ). count_by (is_used_at n) (with_placed block P.large)) here
+          ∙ count_by-with_placed (is_used_at addr) block P.large
           ∙ ap (λ (v : Bool). cond (v && true) 1 0 + count_by (is_used_at addr) P.large) (eq-eqb addr addr refl)
           ∙ ap (λ (n : ℕ). 1 + n) (none_used P from to x tiles holds words addr at fits))
       | inr differ ↦

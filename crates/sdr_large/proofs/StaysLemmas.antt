@@ -3,11 +3,11 @@ use Rattle.std.proofs.Common.{◌≡◌, ◌≢◌, ◌≤◌, ◌<◌, ◌⊎�
 use Rattle.std.proofs.Common.{List, get_or, sym, ◌∙◌, arith, subst}
 use Rattle.std.specs.List.{count_by}
 use Rattle.sdr_base.specs.Pools.{PoolBlock, Pools}
-use Rattle.sdr_base.specs.LargePool.{without, placed}
+use Rattle.sdr_base.specs.LargePool.{without, with_placed}
 use Rattle.sdr_base.specs.KeptLarge.{FollowsLarge, HoldsLarge, StaysSmall, StaysUsed, is_used_of}
 use Rattle.sdr_base.proofs.PoolsLemmas.{used-le-at}
 use Rattle.sdr_large.specs.Gap.{TilesAround, StaysBelow, IsFree}
-use Rattle.sdr_large.proofs.BlocksLemmas.{without-other, used_of_is, count_by-placed}
+use Rattle.sdr_large.proofs.BlocksLemmas.{without-other, used_of_is, count_by-with_placed}
 use Rattle.sdr_large.proofs.FollowsLemmas.{at_first}
 use Rattle.sdr_large.proofs.PlacesLemmas.{at_block, used_of, never_both}
 
@@ -82,5 +82,5 @@ used_without P from to words addr w b tiles free used =
 
 -- it is there when another comes
 pub used_placed : (block : PoolBlock) (bs : List PoolBlock) (w b : ℕ) → 0 < count_by (is_used_of w b) bs →
-    0 < count_by (is_used_of w b) (placed block bs)
-used_placed block bs w b used = omega (arith, used, count_by-placed (is_used_of w b) block bs)
+    0 < count_by (is_used_of w b) (with_placed block bs)
+used_placed block bs w b used = omega (arith, used, count_by-with_placed (is_used_of w b) block bs)

@@ -51,7 +51,7 @@ IsGiveable None bytes = ⊤
 IsGiveable (Some addr) bytes = KeepsUsedLarge addr bytes
 
 -- the block is back, for whatever pools the bytes keep
-pub record Gives (addr : ℕ) (old new : List ℕ) : Type 0 where
+pub record GivesLarge (addr : ℕ) (old new : List ℕ) : Type 0 where
   pub rule : (P : Pools) → KeepsLarge old P → IsUsed P.large addr → Becomes P (give_large P addr) addr old new
 
 -- the free block that was found can be cut for so many words

@@ -2,7 +2,7 @@
 use Rattle.std.specs.Prelude.{◌≡◌, ◌≤◌, ◌<◌, ◌+◌, ◌*◌, ℕ, List, count_by}
 use Rattle.sdr_base.specs.Pools.{Pools, IsUsed, is_free_of}
 use Rattle.sdr_base.specs.LargePool.{extent_of}
-use Rattle.sdr_base.specs.LargeGiving.{Loose, loosened, is_free_at, is_free_below, joined_below, joined_above, put_back}
+use Rattle.sdr_base.specs.LargeGiving.{Loose, loosened, is_free_at, is_free_below, joined_below, joined_above, large_freed}
 use Rattle.sdr_base.specs.KeptLarge.{HoldsLarge, KeepsLarge}
 use Rattle.sdr_base.specs.declared.line.TheConstants.{WORD}
 use Rattle.sdr_large.specs.declared.block.Block.{Block}
@@ -53,6 +53,6 @@ pub record JoinsAbove (block joined : Block) (old new : List ℕ) : Type 0 where
       Names joined (joined_above loose) × Steps loose.pools (joined_above loose).pools 0 old new
 
 -- it is free, or unassigned
-pub record PutsBack (block : Block) (old new : List ℕ) : Type 0 where
+pub record SetsFree (block : Block) (old new : List ℕ) : Type 0 where
   pub rule : (loose : Loose) (from to : ℕ) → IsLoose loose from to → HoldsLarge old loose.pools → Names block loose →
-      Steps loose.pools (put_back loose) 0 old new
+      Steps loose.pools (large_freed loose) 0 old new

@@ -3,8 +3,8 @@ ghost use Rattle.std.specs.Prelude.{◌≡◌, ◌+◌, ◌*◌, ◌-◌, ◌/�
 ghost use Rattle.sdr_base.specs.Objects.{OnlyFull};
 ghost use Rattle.sdr_base.specs.Transaction.{HasReason, TouchesAtMost};
 ghost use Rattle.sdr_base.specs.KeptLarge.{KeepsSomeLarge};
-ghost use Rattle.sdr_large.specs.Calls.{KeepsUsedLarge, KeepsOthers, Gives};
-ghost use Rattle.sdr_large.specs.Giving.{HoldsLoose, Loosens, JoinsBelow, JoinsAbove, PutsBack};
+ghost use Rattle.sdr_large.specs.Calls.{KeepsUsedLarge, KeepsOthers, GivesLarge};
+ghost use Rattle.sdr_large.specs.Giving.{HoldsLoose, Loosens, JoinsBelow, JoinsAbove, SetsFree};
 
 use crate::block::Block;
 use crate::links::{put_free, unlink};
@@ -18,7 +18,7 @@ use sdr_base::{
 /// it becomes the front of the list of its order, or where it begins at `high`, unassigned space.
 pub fn give<C: Cells>(c: &mut C, addr: Addr) -> Result<(), Stop>
     requires used { KeepsUsedLarge addr (C.bytes c.old) }
-    ensures given { OnOk result (Gives addr (C.bytes c.old) (C.bytes c.new)) }
+    ensures given { OnOk result (GivesLarge addr (C.bytes c.old) (C.bytes c.new)) }
     ensures kept { OnOk result (KeepsSomeLarge (C.bytes c.new)) }
     ensures others { OnOk result (KeepsOthers addr (C.bytes c.old) (C.bytes c.new)) }
     ensures refused { IfErr result OnlyFull }
@@ -30,7 +30,7 @@ pub fn give<C: Cells>(c: &mut C, addr: Addr) -> Result<(), Stop>
     let own = loosen(c, addr)?;
     let upper = join_below(c, own)?;
     let whole = join_above(c, upper)?;
-    put_back(c, whole)
+    set_free(c, whole)
 }
 
 // Takes a block out of use.
@@ -112,9 +112,9 @@ fn join_above<C: Cells>(c: &mut C, block: Block) -> Result<Block, Stop>
 }
 
 // Makes a loose block free, or unassigned where it begins at `high`.
-fn put_back<C: Cells>(c: &mut C, block: Block) -> Result<(), Stop>
+fn set_free<C: Cells>(c: &mut C, block: Block) -> Result<(), Stop>
     requires loose { HoldsLoose block (C.bytes c.old) }
-    ensures put { OnOk result (PutsBack block (C.bytes c.old) (C.bytes c.new)) }
+    ensures put { OnOk result (SetsFree block (C.bytes c.old) (C.bytes c.new)) }
     ensures refused { IfErr result OnlyFull }
     ensures size { length (C.bytes c.new) ≡ length (C.bytes c.old) }
     ensures room { TouchesAtMost 6 (C.transaction c.old) (C.transaction c.new) result }

@@ -26,7 +26,7 @@ use Rattle.sdr_model.specs.SourceSteps as source
 use Rattle.sdr_model.specs.Steps.{without_thing}
 use Rattle.sdr_model.specs.Valid.{FitTogether, IsValid}
 use Rattle.sdr_model.specs.World.{World, as_raw, thing_at}
-use Rattle.sdr_model.specs.Zco.{empty_object, extents_length, object_at, owned_raw, source_at, source_on, space_of, uses_of}
+use Rattle.sdr_model.specs.Zco.{empty_object, extents_length, object_at, owned_raw, source_at, source_naming, space_of, uses_of}
 use Rattle.sdr_model.specs.declared.accounts.Accounts.{Accounts}
 use Rattle.sdr_model.specs.declared.accounts.Ticket.{Ticket}
 use Rattle.sdr_model.specs.declared.things.Thing.TheVariants as things
@@ -128,7 +128,7 @@ module _ (w : World) where
   pub obj_refs : IsValid w → (raw : ℕ) → KeepsFields w (λ o. source.ObjRef w o raw)
   obj_refs valid raw =
       found (as_raw (thing_at w raw)) refused (λ bytes is.
-      found (source_on w raw)
+      found (source_naming w raw)
       (makes (things.Source (source.new_source (subjects.Obj raw) (length bytes)))
       (λ fits. new_source_fits (subjects.Obj raw) (length bytes)
       (thing_fits w fits raw (things.Raw bytes) (raw_is _ _ is)).0

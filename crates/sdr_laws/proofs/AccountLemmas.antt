@@ -12,16 +12,16 @@ use Rattle.sdr_base.specs.declared.account.Amounts.{Amounts}
 use Rattle.sdr_laws.proofs.Alike.{Alike}
 use Rattle.sdr_laws.proofs.DistinctLemmas.{on_test}
 use Rattle.sdr_model.specs.AccountSteps.{pending_of}
-use Rattle.sdr_model.specs.Accounts.{account_of, no_ticket, pending_in, ticket_at, ticket_block, ticket_blocks, tickets_of, with_ticket, with_tickets}
+use Rattle.sdr_model.specs.Accounts.{account_of, no_ticket, pending_in, ticket_at, block_for_ticket, ticket_blocks, tickets_of, with_ticket, with_tickets}
 use Rattle.sdr_model.specs.Amounts.{are_within, minus, plus}
 use Rattle.sdr_model.specs.Charges.{occupancies}
-use Rattle.sdr_model.specs.Charging.{with_used}
+use Rattle.sdr_model.specs.Charging.{with_covered}
 use Rattle.sdr_model.specs.Queue.{granted, served, with_served}
 use Rattle.sdr_model.specs.World.{World}
 use Rattle.sdr_model.specs.declared.accounts.Accounts.{Accounts}
 use Rattle.sdr_model.specs.declared.accounts.Pending.{Pending}
 use Rattle.sdr_model.specs.declared.accounts.Ticket.{Ticket}
-use Rattle.sdr_model.specs.declared.things.Block.{Block}
+use Rattle.sdr_model.specs.declared.things.UsedBlock.{UsedBlock}
 
 -- a ticket stands at its place in the queue of an account
 pub record StandsIn (accounts : Accounts) (acct : Acct) (p : Pending) : Type 0 where
@@ -69,48 +69,50 @@ pending_of_stands w number p is =
 
 -- the blocks of the tickets, where those of one queue are the same
 pub ticket_blocks-with_tickets : (accounts : Accounts) (acct : Acct) (tickets : List Ticket)
-    → map ticket_block tickets ≡ map ticket_block (tickets_of accounts acct)
+    → map block_for_ticket tickets ≡ map block_for_ticket (tickets_of accounts acct)
     → ticket_blocks (with_tickets accounts acct tickets) ≡ ticket_blocks accounts
 ticket_blocks-with_tickets accounts accts.Inbound tickets same =
-    ap (λ bs. bs ++ map ticket_block accounts.outbound.tickets) same
+    ap (λ bs. bs ++ map block_for_ticket accounts.outbound.tickets) same
 ticket_blocks-with_tickets accounts accts.Outbound tickets same =
-    ap (λ bs. map ticket_block accounts.inbound.tickets ++ bs) same
+    ap (λ bs. map block_for_ticket accounts.inbound.tickets ++ bs) same
 
 -- what is measured of them, where one queue has others
-pub sum_by-with_tickets : (measure : Block → ℕ) (accounts : Accounts) (acct : Acct) (tickets : List Ticket)
+pub sum_by-with_tickets : (measure : UsedBlock → ℕ) (accounts : Accounts) (acct : Acct) (tickets : List Ticket)
     → sum_by measure (ticket_blocks (with_tickets accounts acct tickets)) + sum_by measure
-    (map ticket_block (tickets_of accounts acct))
-    ≡ sum_by measure (ticket_blocks accounts) + sum_by measure (map ticket_block tickets)
+    (map block_for_ticket (tickets_of accounts acct))
+    ≡ sum_by measure (ticket_blocks accounts) + sum_by measure (map block_for_ticket tickets)
 sum_by-with_tickets measure accounts accts.Inbound tickets =
     omega (
       arith,
-      sum_by-append measure (map ticket_block tickets) (map ticket_block accounts.outbound.tickets),
-      sum_by-append measure (map ticket_block accounts.inbound.tickets) (map ticket_block accounts.outbound.tickets),
+      sum_by-append measure (map block_for_ticket tickets) (map block_for_ticket accounts.outbound.tickets),
+      sum_by-append measure (map block_for_ticket accounts.inbound.tickets)
+          (map block_for_ticket accounts.outbound.tickets),
     )
 sum_by-with_tickets measure accounts accts.Outbound tickets =
     omega (
       arith,
-      sum_by-append measure (map ticket_block accounts.inbound.tickets) (map ticket_block tickets),
-      sum_by-append measure (map ticket_block accounts.inbound.tickets) (map ticket_block accounts.outbound.tickets),
+      sum_by-append measure (map block_for_ticket accounts.inbound.tickets) (map block_for_ticket tickets),
+      sum_by-append measure (map block_for_ticket accounts.inbound.tickets)
+          (map block_for_ticket accounts.outbound.tickets),
     )
 
 -- a queue that is served has the blocks of before
 map-served : (maxima occupied : Amounts) (tickets : List Ticket)
-    → map ticket_block (served maxima occupied tickets) ≡ map ticket_block tickets
+    → map block_for_ticket (served maxima occupied tickets) ≡ map block_for_ticket tickets
 map-served maxima occupied [] = refl
 map-served maxima occupied (t ∷ ts) =
     let goes_on = served maxima (plus occupied t.asked) ts in
     let fits = are_within t.asked (minus maxima occupied) in
     on_test t.granted
-    (λ e. ap (λ b. map ticket_block (cond b (t ∷ served maxima occupied ts)
+    (λ e. ap (λ b. map block_for_ticket (cond b (t ∷ served maxima occupied ts)
     (cond fits (granted t ∷ goes_on) (t ∷ ts)))) e
-    ∙ ap (λ bs. ticket_block t ∷ bs) (map-served maxima occupied ts))
-    (λ e. ap (λ b. map ticket_block (cond b (t ∷ served maxima occupied ts)
+    ∙ ap (λ bs. block_for_ticket t ∷ bs) (map-served maxima occupied ts))
+    (λ e. ap (λ b. map block_for_ticket (cond b (t ∷ served maxima occupied ts)
     (cond fits (granted t ∷ goes_on) (t ∷ ts)))) e
     ∙ on_test fits
-    (λ f. ap (λ b. map ticket_block (cond b (granted t ∷ goes_on) (t ∷ ts))) f
-    ∙ ap (λ bs. ticket_block t ∷ bs) (map-served maxima (plus occupied t.asked) ts))
-    (λ f. ap (λ b. map ticket_block (cond b (granted t ∷ goes_on) (t ∷ ts))) f))
+    (λ f. ap (λ b. map block_for_ticket (cond b (granted t ∷ goes_on) (t ∷ ts))) f
+    ∙ ap (λ bs. block_for_ticket t ∷ bs) (map-served maxima (plus occupied t.asked) ts))
+    (λ f. ap (λ b. map block_for_ticket (cond b (granted t ∷ goes_on) (t ∷ ts))) f))
 
 -- so a world is alike the one in which an account's queue is served
 pub alike-served : (w : World) (acct : Acct) → Alike w (with_served w acct)
@@ -132,15 +134,15 @@ ticket_blocks-with_ticket accounts acct p t stands same =
     let tickets = tickets_of accounts acct in
     ap (λ a. ticket_blocks (with_tickets accounts a (set (tickets_of accounts a) p.place t))) stands.queue
     ∙ ticket_blocks-with_tickets accounts acct (set tickets p.place t)
-    (map-set_same ticket_block tickets p.place t no_ticket
-    (sym (ap (λ (u : Ticket). ticket_block u) stands.there ∙ block_of)))
+    (map-set_same block_for_ticket tickets p.place t no_ticket
+    (sym (ap (λ (u : Ticket). block_for_ticket u) stands.there ∙ block_of)))
   where
-    block_of : ticket_block p.ticket ≡ ticket_block t
-    block_of i = record (ticket_block t) { addr = sym same i }
+    block_of : block_for_ticket p.ticket ≡ block_for_ticket t
+    block_of i = record (block_for_ticket t) { addr = sym same i }
 
 -- and a world is alike the one in which the grant of a ticket is used
 pub alike-used : (w : World) (acct : Acct) (number : ℕ) (p : Pending) (amounts : Amounts)
-    → pending_in w.accounts acct number ≡ Some p → Alike w (with_used w (Some p) amounts)
+    → pending_in w.accounts acct number ≡ Some p → Alike w (with_covered w (Some p) amounts)
 alike-used w acct number p amounts is = record {
   things = refl;
   names = refl;

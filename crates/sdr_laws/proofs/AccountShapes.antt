@@ -14,7 +14,7 @@ use Rattle.sdr_model.proofs.SumLemmas.{sum_by-map}
 use Rattle.sdr_laws.proofs.ThingChanges.{in_takes}
 use Rattle.sdr_laws.specs.MovesBlocks.{given_addresses, taken_needs}
 use Rattle.sdr_model.specs.AccountSteps as account
-use Rattle.sdr_model.specs.Accounts.{account_of, most_amount, no_ticket, ticket_block, ticket_blocks, ticket_need, tickets_of, with_account, with_tickets}
+use Rattle.sdr_model.specs.Accounts.{account_of, most_amount, no_ticket, block_for_ticket, ticket_blocks, ticket_need, tickets_of, with_account, with_tickets}
 use Rattle.sdr_model.specs.Amounts.{first_above}
 use Rattle.sdr_model.specs.Queue.{enqueued, stands_before}
 use Rattle.sdr_model.specs.RowMoves.{block_of_ticket}
@@ -26,7 +26,7 @@ use Rattle.sdr_model.specs.declared.accounts.Pending.{Pending}
 use Rattle.sdr_model.specs.declared.accounts.Ticket.{Ticket}
 use Rattle.sdr_model.specs.declared.answer.Reply.TheVariants as replies
 use Rattle.sdr_model.specs.declared.call.Call.TheVariants as calls
-use Rattle.sdr_model.specs.declared.things.Block.{Block}
+use Rattle.sdr_model.specs.declared.things.UsedBlock.{UsedBlock}
 
 -- the blocks of an account's tickets, where it has another maximum
 with_maximum_blocks : (accounts : Accounts) (acct : Acct) (space : Space) (value : ℕ)
@@ -36,27 +36,27 @@ with_maximum_blocks accounts accts.Inbound space value = refl
 with_maximum_blocks accounts accts.Outbound space value = refl
 
 -- the blocks of a queue with one more ticket
-sum_by-enqueued : (measure : Block → ℕ) (tickets : List Ticket) (t : Ticket)
-    → sum_by measure (map ticket_block (enqueued tickets t))
-    ≡ sum_by measure (map ticket_block tickets) + measure (ticket_block t)
+sum_by-enqueued : (measure : UsedBlock → ℕ) (tickets : List Ticket) (t : Ticket)
+    → sum_by measure (map block_for_ticket (enqueued tickets t))
+    ≡ sum_by measure (map block_for_ticket tickets) + measure (block_for_ticket t)
 sum_by-enqueued measure tickets t =
     omega (
       arith,
-      sum_by-map measure ticket_block (enqueued tickets t),
-      sum_by-map measure ticket_block tickets,
-      sum_by-insert (λ t. measure (ticket_block t)) tickets (prefix_len (λ u. stands_before u t) tickets) t,
+      sum_by-map measure block_for_ticket (enqueued tickets t),
+      sum_by-map measure block_for_ticket tickets,
+      sum_by-insert (λ t. measure (block_for_ticket t)) tickets (prefix_len (λ u. stands_before u t) tickets) t,
     )
 
 -- and with one less
-sum_by-dequeued : (measure : Block → ℕ) (tickets : List Ticket) (place : ℕ) → place < length tickets
-    → sum_by measure (map ticket_block (remove tickets place))
-    + measure (ticket_block (get_or tickets place no_ticket)) ≡ sum_by measure (map ticket_block tickets)
+sum_by-dequeued : (measure : UsedBlock → ℕ) (tickets : List Ticket) (place : ℕ) → place < length tickets
+    → sum_by measure (map block_for_ticket (remove tickets place))
+    + measure (block_for_ticket (get_or tickets place no_ticket)) ≡ sum_by measure (map block_for_ticket tickets)
 sum_by-dequeued measure tickets place within =
     omega (
       arith,
-      sum_by-map measure ticket_block (remove tickets place),
-      sum_by-map measure ticket_block tickets,
-      sum_by-remove (λ t. measure (ticket_block t)) tickets place no_ticket within,
+      sum_by-map measure block_for_ticket (remove tickets place),
+      sum_by-map measure block_for_ticket tickets,
+      sum_by-remove (λ t. measure (block_for_ticket t)) tickets place no_ticket within,
     )
 
 module _ {w : World} {o : Outcome} where
@@ -114,7 +114,7 @@ module _ {w : World} {o : Outcome} where
       } in
       let like = alike-served base acct in
       swaps_tickets w o (record {
-        taken = ticket_block t ∷ [];
+        taken = block_for_ticket t ∷ [];
         given = [];
         answered = answered;
         marks = one_marked w o addr _ is takes refl refl refl;
@@ -159,7 +159,7 @@ module _ {w : World} {o : Outcome} where
       let like = alike-served (record w { accounts = with_tickets w.accounts p.acct rest }) p.acct in
       swaps_tickets w o (record {
         taken = [];
-        given = ticket_block p.ticket ∷ [];
+        given = block_for_ticket p.ticket ∷ [];
         answered = ap is_answer d.2;
         marks = none_marked w o _ d.1 (ap taken_addresses d.0) refl refl refl;
         needs = sym (ap taken_needs d.0);
@@ -174,7 +174,7 @@ module _ {w : World} {o : Outcome} where
               ap (sum_by measure) like.tickets,
               sum_by-with_tickets measure w.accounts p.acct rest,
               sum_by-dequeued measure (tickets_of w.accounts p.acct) p.place stands.within,
-              ap (λ t. measure (ticket_block t)) stands.there,
+              ap (λ t. measure (block_for_ticket t)) stands.there,
             );
       })
 

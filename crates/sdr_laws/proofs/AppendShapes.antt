@@ -23,9 +23,9 @@ use Rattle.sdr_model.specs.RowMoves.{append_moves}
 use Rattle.sdr_model.specs.SourceSteps.{new_source}
 use Rattle.sdr_model.specs.Step.{is_answer}
 use Rattle.sdr_model.specs.Steps.{DoesWith, On, Outcome, taken_addresses, taken_at, with_thing}
-use Rattle.sdr_model.specs.Things.{extent_block, own_block}
+use Rattle.sdr_model.specs.Things.{block_for_extent, own_block}
 use Rattle.sdr_model.specs.World.{World, as_raw, thing_at}
-use Rattle.sdr_model.specs.Zco.{object_at, source_at, source_on}
+use Rattle.sdr_model.specs.Zco.{object_at, source_at, source_naming}
 use Rattle.sdr_model.specs.declared.answer.Reply.TheVariants as replies
 use Rattle.sdr_model.specs.declared.call.Call.TheVariants as calls
 use Rattle.sdr_model.specs.declared.things.Thing.TheVariants as things
@@ -58,7 +58,7 @@ module _ {w : World} {o : Outcome} where
       let same : Alike next (object.with_object (with_thing used (at 0) source) addr (object.with_extent z e)) =
       alike-with_thing addr appended (alike-with_thing (at 0) source like) in
       builds w o next (record {
-        taken = own_block (at 0) source ∷ extent_block e ∷ [];
+        taken = own_block (at 0) source ∷ block_for_extent e ∷ [];
         given = [];
         answered = ap is_answer d.2;
         marks = ap (λ (v : World). v.marks) d.1;
@@ -85,9 +85,9 @@ module _ {w : World} {o : Outcome} where
               ap (λ t. sum_by measure (blocks_at (at 0) t)) none,
               ap (λ t. sum_by measure (blocks_at addr t)) still,
               with_extent-sum measure addr z e,
-              sum_by-cons measure (own_block (at 0) source) (extent_block e ∷ []),
+              sum_by-cons measure (own_block (at 0) source) (block_for_extent e ∷ []),
               sum_by-cons measure (own_block (at 0) source) [],
-              sum_by-cons measure (extent_block e) [],
+              sum_by-cons measure (block_for_extent e) [],
             );
         limits = λ limits.
             swapped_limits mid addr (Some appended)
@@ -102,7 +102,7 @@ module _ {w : World} {o : Outcome} where
       → object.AppendsRaw w o addr z number named text offset bytes
       → Shape w (calls.AppendExtent addr number named offset bytes) o
   appends_raw addr number named offset bytes z text is no_source there h =
-      on_none (source_on w named) _ h (λ s. refl) (λ unnamed h.
+      on_none (source_naming w named) _ h (λ s. refl) (λ unnamed h.
       on_failed (bytes == 0 || nat_lt (length text) (offset + bytes)) _ h refl (λ ranged h.
       on_charges z.account number (bytes_charge spaces.Heap bytes) (TakesOver w o addr z named text offset bytes) h
       (λ used like d.

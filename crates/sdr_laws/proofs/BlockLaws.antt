@@ -23,7 +23,7 @@ use Rattle.sdr_model.specs.World.{World}
 use Rattle.sdr_model.specs.declared.answer.Reply.{Reply}
 use Rattle.sdr_model.specs.declared.call.Call.{Call}
 use Rattle.sdr_model.specs.declared.call.Call.TheVariants as calls
-use Rattle.sdr_model.specs.declared.things.Block.{Block}
+use Rattle.sdr_model.specs.declared.things.UsedBlock.{UsedBlock}
 
 -- what only shows bytes has the blocks of before
 shows_blocks : (w w' : World) (call : Call) → ShowsOnly call w w' → blocks_of w' ≡ blocks_of w
@@ -144,7 +144,7 @@ counted_moved : (w w' : World) (moves : List Move) → MovesBlocks w moves w' �
     → count_by (nat_eq k) (addresses_of (blocks_of w)) + count_by (nat_eq k) (taken_addresses moves)
     ≡ count_by (nat_eq k) (addresses_of (blocks_of w')) + count_by (nat_eq k) (given_addresses moves)
 counted_moved w w' moves m k =
-    let at = count_by-map (λ (b : Block). b.addr) (nat_eq k) in
+    let at = count_by-map (λ (b : UsedBlock). b.addr) (nat_eq k) in
     omega (
       arith,
       m.sums (λ b. weight (nat_eq k b.addr)),
@@ -162,7 +162,7 @@ pub counted_after : (w w' : World) (moves : List Move) → MovesBlocks w moves w
     ≤ count_by (nat_eq k) (addresses_of (blocks_of w)) + count_by (nat_eq k) (taken_addresses moves)
 counted_after w w' moves (inl m) k = omega (arith, counted_moved w w' moves m k)
 counted_after w w' moves (inr f) k =
-    let at = count_by-map (λ (b : Block). b.addr) (nat_eq k) in
+    let at = count_by-map (λ (b : UsedBlock). b.addr) (nat_eq k) in
     omega (arith, f.sums (λ b. weight (nat_eq k b.addr)), at (blocks_of w), at (blocks_of w'))
 
 -- and at most once, where the blocks taken are fresh

@@ -15,10 +15,10 @@ use Rattle.sdr_model.specs.Blocks.{addresses_of, blocks_of}
 use Rattle.sdr_model.specs.BondSteps.{bond_moves, bonded_extents, with_bonded}
 use Rattle.sdr_model.specs.SourceSteps.{new_source}
 use Rattle.sdr_model.specs.Steps.{taken_addresses, with_thing}
-use Rattle.sdr_model.specs.Things.{capsule_block, extent_block, own_block}
+use Rattle.sdr_model.specs.Things.{block_for_capsule, block_for_extent, own_block}
 use Rattle.sdr_model.specs.Valid.{IsValidCapsule}
 use Rattle.sdr_model.specs.World.{World, thing_at}
-use Rattle.sdr_model.specs.declared.things.Block.{Block}
+use Rattle.sdr_model.specs.declared.things.UsedBlock.{UsedBlock}
 use Rattle.sdr_model.specs.declared.things.Thing.{Thing}
 use Rattle.sdr_model.specs.declared.things.Thing.TheVariants as things
 use Rattle.sdr_model.specs.declared.zco.Capsule.{Capsule}
@@ -37,15 +37,15 @@ abbrev extent_of : (ℕ → ℕ) → ℕ → Capsule → Extent
 extent_of at k c = record { block = at (k + 2); source = at (k + 1); offset = 0; length = length c.text }
 
 -- their blocks, for all of these headers and trailers
-abbrev pub bond_taken : (ℕ → ℕ) → ℕ → List Capsule → List Block
+abbrev pub bond_taken : (ℕ → ℕ) → ℕ → List Capsule → List UsedBlock
 bond_taken at k [] = []
 bond_taken at k (c ∷ cs) =
-    own_block (at k) (raw_of c) ∷ own_block (at (k + 1)) (source_of at k c) ∷ extent_block (extent_of at k c)
+    own_block (at k) (raw_of c) ∷ own_block (at (k + 1)) (source_of at k c) ∷ block_for_extent (extent_of at k c)
     ∷ bond_taken at (k + 3) cs
 
 -- are those that the moves take
 pub bond_needs : (at : ℕ → ℕ) (k : ℕ) (cs : List Capsule)
-    → map (λ (b : Block). b.bytes) (bond_taken at k cs) ≡ taken_needs (bond_moves at k cs)
+    → map (λ (b : UsedBlock). b.bytes) (bond_taken at k cs) ≡ taken_needs (bond_moves at k cs)
 bond_needs at k [] = refl
 bond_needs at k (c ∷ cs) = ap (λ ns. (8 + length c.text) ∷ (48 + 0) ∷ 32 ∷ ns) (bond_needs at (k + 3) cs)
 
@@ -56,7 +56,7 @@ bond_takes at k (c ∷ cs) = ap (λ ns. at k ∷ at (k + 1) ∷ at (k + 2) ∷ n
 
 -- and those of the headers and trailers are those that they give back
 pub bond_gives : (at : ℕ → ℕ) (k : ℕ) (cs : List Capsule)
-    → addresses_of (map capsule_block cs) ≡ given_addresses (bond_moves at k cs)
+    → addresses_of (map block_for_capsule cs) ≡ given_addresses (bond_moves at k cs)
 bond_gives at k [] = refl
 bond_gives at k (c ∷ cs) = ap (λ ns. c.block ∷ ns) (bond_gives at (k + 3) cs)
 
@@ -107,15 +107,16 @@ alike-bonded w v at k (c ∷ cs) like =
     (alike-with_thing (at (k + 1)) (source_of at k c) (alike-with_thing (at k) (raw_of c) like))
 
 -- Where the blocks taken are fresh, the world has what headers and trailers become besides, and each thing of before.
-pub bonded_sums : (measure : Block → ℕ) (w : World) (at : ℕ → ℕ) (k : ℕ) (cs : List Capsule) (used : List ℕ)
+pub bonded_sums : (measure : UsedBlock → ℕ) (w : World) (at : ℕ → ℕ) (k : ℕ) (cs : List Capsule) (used : List ℕ)
     → HasRoom w cs used → AreFresh used (bond_moves at k cs)
-    → sum_by measure (blocks_of (with_bonded w at k cs)) + sum_by measure (map extent_block (bonded_extents at k cs))
+    → sum_by measure (blocks_of (with_bonded w at k cs))
+        + sum_by measure (map block_for_extent (bonded_extents at k cs))
     ≡ sum_by measure (blocks_of w) + sum_by measure (bond_taken at k cs)
 bonded_sums measure w at k [] used room fresh = refl
 bonded_sums measure w at k (c ∷ cs) used room fresh =
     let raw = own_block (at k) (raw_of c) in
     let source = own_block (at (k + 1)) (source_of at k c) in
-    let extent = extent_block (extent_of at k c) in
+    let extent = block_for_extent (extent_of at k c) in
     let mid = swapped w (at k) (Some (raw_of c)) in
     let next = swapped mid (at (k + 1)) (Some (source_of at k c)) in
     let first = room_made (at k) (raw_of c) room fresh.1 in
@@ -134,7 +135,7 @@ bonded_sums measure w at k (c ∷ cs) used room fresh =
       sum_by-cons measure raw (source ∷ extent ∷ bond_taken at (k + 3) cs),
       sum_by-cons measure source (extent ∷ bond_taken at (k + 3) cs),
       sum_by-cons measure extent (bond_taken at (k + 3) cs),
-      sum_by-cons measure extent (map extent_block (bonded_extents at (k + 3) cs)),
+      sum_by-cons measure extent (map block_for_extent (bonded_extents at (k + 3) cs)),
     )
 
 pub bonded_there : (w : World) (at : ℕ → ℕ) (k : ℕ) (cs : List Capsule) (used : List ℕ) (q : ℕ) (t : Thing)

@@ -15,10 +15,10 @@ use Rattle.sdr_laws.proofs.ThingChanges.{own_addr}
 use Rattle.sdr_laws.proofs.WorldChanges.{swapped, swapped_sums, thing_at-apart}
 use Rattle.sdr_model.specs.Blocks.{addresses_of, blocks_of}
 use Rattle.sdr_model.specs.BondSteps.{capsules_of}
-use Rattle.sdr_model.specs.Things.{capsule_block, inner_blocks, own_block}
+use Rattle.sdr_model.specs.Things.{block_for_capsule, inner_blocks, own_block}
 use Rattle.sdr_model.specs.Valid.{IsValid}
 use Rattle.sdr_model.specs.World.{World, thing_at}
-use Rattle.sdr_model.specs.declared.things.Block.{Block}
+use Rattle.sdr_model.specs.declared.things.UsedBlock.{UsedBlock}
 use Rattle.sdr_model.specs.declared.things.Thing.{Thing}
 use Rattle.sdr_model.specs.declared.things.Thing.TheVariants as things
 use Rattle.sdr_model.specs.declared.zco.Capsule.{Capsule}
@@ -122,18 +122,18 @@ room_first w addr z valid is = record {
   few = once nat_eq_equiv (addresses_of (blocks_of w)) valid.distinct_addresses;
 }
   where
-    counts : ℕ → Block → ℕ
+    counts : ℕ → UsedBlock → ℕ
     counts x b = weight (nat_eq x b.addr)
 
     all : (x : ℕ) → sum_by (λ b. weight (nat_eq x b.addr)) (blocks_of w)
         ≡ count_by (nat_eq x) (addresses_of (blocks_of w))
-    all x = sym (count_by-map (λ (b : Block). b.addr) (nat_eq x) (blocks_of w))
+    all x = sym (count_by-map (λ (b : UsedBlock). b.addr) (nat_eq x) (blocks_of w))
 
     capsules : (x : ℕ) (cs : List Capsule)
-        → sum_by (λ b. weight (nat_eq x b.addr)) (map capsule_block cs)
+        → sum_by (λ b. weight (nat_eq x b.addr)) (map block_for_capsule cs)
         ≡ count_by (nat_eq x) (map (λ (c : Capsule). c.block) cs)
     capsules x cs =
-        sum_by-map (λ (b : Block). weight (nat_eq x b.addr)) capsule_block cs
+        sum_by-map (λ (b : UsedBlock). weight (nat_eq x b.addr)) block_for_capsule cs
         ∙ sym (count_by-map (λ (c : Capsule). c.block) (nat_eq x) cs)
 
     both : (x : ℕ) → count_by (nat_eq x) (map (λ (c : Capsule). c.block) (capsules_of z))
@@ -148,7 +148,7 @@ room_first w addr z valid is = record {
         → weight (is_some (thing_at w x)) + count_by (nat_eq x) (map (λ c. c.block) (capsules_of z))
         ≤ count_by (nat_eq x) (addresses_of (blocks_of w))
     by x o there =
-        let at = λ (b : Block). weight (nat_eq x b.addr) in
+        let at = λ (b : UsedBlock). weight (nat_eq x b.addr) in
         let lost = swapped_sums at w addr None in
         let its = ap (λ t. sum_by at (blocks_at addr t)) is in
         let parts = object_parts at addr z in
@@ -182,11 +182,11 @@ room_first w addr z valid is = record {
         ))
       where
         one : (o : Option Thing)
-            → weight (is_some o) ≤ sum_by (λ (b : Block). weight (nat_eq x b.addr)) (blocks_at x o)
+            → weight (is_some o) ≤ sum_by (λ (b : UsedBlock). weight (nat_eq x b.addr)) (blocks_at x o)
         one None = omega arith
         one (Some t) =
             omega (
               arith,
-              sum_by-cons (λ (b : Block). weight (nat_eq x b.addr)) (own_block x t) (inner_blocks t),
+              sum_by-cons (λ (b : UsedBlock). weight (nat_eq x b.addr)) (own_block x t) (inner_blocks t),
               weight_of (ap (nat_eq x) (own_addr x t) ∙ nat_eq_equiv.refl x),
             )

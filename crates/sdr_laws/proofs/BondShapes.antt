@@ -23,13 +23,13 @@ use Rattle.sdr_model.specs.ObjectSteps.{with_object}
 use Rattle.sdr_model.specs.RowMoves.{bond_moves_of}
 use Rattle.sdr_model.specs.Step.{is_answer}
 use Rattle.sdr_model.specs.Steps.{DoesWith, Outcome, taken_addresses, taken_at}
-use Rattle.sdr_model.specs.Things.{capsule_block, extent_block, own_block}
+use Rattle.sdr_model.specs.Things.{block_for_capsule, block_for_extent, own_block}
 use Rattle.sdr_model.specs.Valid.{IsValidCapsule, IsValidObject}
 use Rattle.sdr_model.specs.World.{World, thing_at}
 use Rattle.sdr_model.specs.Zco.{object_at}
 use Rattle.sdr_model.specs.declared.answer.Reply.TheVariants as replies
 use Rattle.sdr_model.specs.declared.call.Call.TheVariants as calls
-use Rattle.sdr_model.specs.declared.things.Block.{Block}
+use Rattle.sdr_model.specs.declared.things.UsedBlock.{UsedBlock}
 use Rattle.sdr_model.specs.declared.things.Thing.TheVariants as things
 use Rattle.sdr_model.specs.declared.zco.Extent.{Extent}
 use Rattle.sdr_model.specs.declared.zco.ZcoObject.{ZcoObject}
@@ -53,16 +53,16 @@ valid_bonded at z valid =
     }
 
 -- its blocks are those of before, with the extents that its headers and trailers became in their place
-bonded_object : (measure : Block → ℕ) (addr : ℕ) (at : ℕ → ℕ) (z : ZcoObject)
-    → object_sum measure addr (bonds.bonded at z) + sum_by measure (map capsule_block (bonds.capsules_of z))
+bonded_object : (measure : UsedBlock → ℕ) (addr : ℕ) (at : ℕ → ℕ) (z : ZcoObject)
+    → object_sum measure addr (bonds.bonded at z) + sum_by measure (map block_for_capsule (bonds.capsules_of z))
     ≡ object_sum measure addr z + extents_sum measure addr (bonds.bonded_extents at 0 (bonds.capsules_of z))
 bonded_object measure addr at z =
     let first = bonds.bonded_extents at 0 z.headers in
     let last = bonds.bonded_extents at (3 * length z.headers) z.trailers in
     let joined : (a b : List Extent)
     → extents_sum measure addr (a ++ b) ≡ extents_sum measure addr a + extents_sum measure addr b =
-    λ a b. ap (sum_by measure) (map-append extent_block a b)
-    ∙ sum_by-append measure (map extent_block a) (map extent_block b) in
+    λ a b. ap (sum_by measure) (map-append block_for_extent a b)
+    ∙ sum_by-append measure (map block_for_extent a) (map block_for_extent b) in
     let parts : object_sum measure addr (bonds.bonded at z)
     ≡ measure (own_block addr (things.Object z)) + 0 + extents_sum measure addr (first ++ z.extents ++ last) + 0 =
     object_parts measure addr (bonds.bonded at z) in
@@ -71,10 +71,10 @@ bonded_object measure addr at z =
     let count : 0 + 3 * length z.headers ≡ 3 * length z.headers = omega arith in
     ap (extents_sum measure addr) (bonded_extents-append at 0 z.headers z.trailers
     ∙ ap (λ n. first ++ bonds.bonded_extents at n z.trailers) count) in
-    let capsules : sum_by measure (map capsule_block (bonds.capsules_of z))
+    let capsules : sum_by measure (map block_for_capsule (bonds.capsules_of z))
     ≡ capsules_sum measure addr z.headers + capsules_sum measure addr z.trailers =
-    ap (sum_by measure) (map-append capsule_block z.headers z.trailers)
-    ∙ sum_by-append measure (map capsule_block z.headers) (map capsule_block z.trailers) in
+    ap (sum_by measure) (map-append block_for_capsule z.headers z.trailers)
+    ∙ sum_by-append measure (map block_for_capsule z.headers) (map block_for_capsule z.trailers) in
     omega (
       arith,
       object_parts measure addr z,
@@ -108,7 +108,7 @@ module _ {w : World} {o : Outcome} where
       alike-with_thing addr (things.Object (bonds.bonded at z)) (alike-bonded w used at 0 cs like) in
       builds w o next (record {
         taken = bond_taken at 0 cs;
-        given = map capsule_block cs;
+        given = map block_for_capsule cs;
         answered = ap is_answer d.2;
         marks = ap (λ (v : World). v.marks) d.1;
         shown = ap (λ (v : World). v.shown) d.1;

@@ -10,18 +10,18 @@ use Rattle.sdr_laws.proofs.FreshLemmas.{none_there, own_at}
 use Rattle.sdr_model.proofs.SumLemmas.{counted_at, sum_by-flat_map, sum_by-map, sum_by-removed}
 use Rattle.sdr_model.specs.Accounts.{ticket_blocks}
 use Rattle.sdr_model.specs.Blocks.{addresses_of, blocks_of, thing_blocks, things_blocks}
-use Rattle.sdr_model.specs.Things.{capsule_block, extent_block, inner_blocks, name_block, object_blocks, own_block}
+use Rattle.sdr_model.specs.Things.{block_for_capsule, block_for_extent, inner_blocks, block_for_name, object_blocks, own_block}
 use Rattle.sdr_model.specs.Valid.{IsValid}
 use Rattle.sdr_model.specs.World.{World}
 use Rattle.sdr_model.specs.declared.things.Thing.{Thing}
 use Rattle.sdr_model.specs.declared.things.Thing.TheVariants as things
 use Rattle.sdr_model.specs.declared.zco.Capsule.{Capsule}
-use Rattle.sdr_model.specs.declared.things.Block.{Block}
+use Rattle.sdr_model.specs.declared.things.UsedBlock.{UsedBlock}
 use Rattle.sdr_model.specs.declared.zco.ZcoObject.{ZcoObject}
 use Rattle.sdr_laws.proofs.BondLaws.{Tracks, caps}
 
 -- how many of these blocks begin at an address
-abbrev pub begins : ℕ → Block → ℕ
+abbrev pub begins : ℕ → UsedBlock → ℕ
 begins k b = weight (nat_eq k b.addr)
 
 -- and of those of a thing
@@ -30,18 +30,18 @@ begins_in k e = sum_by (begins k) (thing_blocks e.0 e.1)
 
 module _ (w : World) (k : ℕ) where
   all_begin : count_by (nat_eq k) (addresses_of (blocks_of w))
-      ≡ sum_by (begins_in k) (entries w.things) + sum_by (begins k) (map name_block w.names)
+      ≡ sum_by (begins_in k) (entries w.things) + sum_by (begins k) (map block_for_name w.names)
       + sum_by (begins k) (ticket_blocks w.accounts)
   all_begin =
       let all : count_by (nat_eq k) (addresses_of (blocks_of w)) ≡ sum_by (begins k) (blocks_of w) =
-      sum_by-map (λ a. weight (nat_eq k a)) (λ (b : Block). b.addr) (blocks_of w) in
+      sum_by-map (λ a. weight (nat_eq k a)) (λ (b : UsedBlock). b.addr) (blocks_of w) in
       let behind : sum_by (begins k) (blocks_of w) ≡ sum_by (begins k)
-      (things_blocks w.things ++ map name_block w.names)
+      (things_blocks w.things ++ map block_for_name w.names)
       + sum_by (begins k) (ticket_blocks w.accounts) =
-      sum_by-append (begins k) (things_blocks w.things ++ map name_block w.names) (ticket_blocks w.accounts) in
-      let among : sum_by (begins k) (things_blocks w.things ++ map name_block w.names)
-      ≡ sum_by (begins k) (things_blocks w.things) + sum_by (begins k) (map name_block w.names) =
-      sum_by-append (begins k) (things_blocks w.things) (map name_block w.names) in
+      sum_by-append (begins k) (things_blocks w.things ++ map block_for_name w.names) (ticket_blocks w.accounts) in
+      let among : sum_by (begins k) (things_blocks w.things ++ map block_for_name w.names)
+      ≡ sum_by (begins k) (things_blocks w.things) + sum_by (begins k) (map block_for_name w.names) =
+      sum_by-append (begins k) (things_blocks w.things) (map block_for_name w.names) in
       let each : sum_by (begins k) (things_blocks w.things) ≡ sum_by (begins_in k) (entries w.things) =
       sum_by-flat_map (begins k) (λ (e : ℕ × Thing). thing_blocks e.0 e.1) (entries w.things) in
       omega (arith, all, behind, among, each)
@@ -51,17 +51,17 @@ module _ (w : World) (k : ℕ) where
   caps_begin addr z =
       let both = sum_by-append (λ (c : Capsule). weight (nat_eq k c.block)) z.headers z.trailers in
       let front : sum_by (begins k) (object_blocks z)
-      ≡ sum_by (begins k) (map capsule_block z.headers ++ map extent_block z.extents)
-      + sum_by (begins k) (map capsule_block z.trailers) =
-      sum_by-append (begins k) (map capsule_block z.headers ++ map extent_block z.extents)
-      (map capsule_block z.trailers) in
-      let first : sum_by (begins k) (map capsule_block z.headers ++ map extent_block z.extents)
-      ≡ sum_by (begins k) (map capsule_block z.headers) + sum_by (begins k) (map extent_block z.extents) =
-      sum_by-append (begins k) (map capsule_block z.headers) (map extent_block z.extents) in
-      let heads : sum_by (begins k) (map capsule_block z.headers) ≡ caps k z.headers =
-      sum_by-map (begins k) capsule_block z.headers in
-      let tails : sum_by (begins k) (map capsule_block z.trailers) ≡ caps k z.trailers =
-      sum_by-map (begins k) capsule_block z.trailers in
+      ≡ sum_by (begins k) (map block_for_capsule z.headers ++ map block_for_extent z.extents)
+      + sum_by (begins k) (map block_for_capsule z.trailers) =
+      sum_by-append (begins k) (map block_for_capsule z.headers ++ map block_for_extent z.extents)
+      (map block_for_capsule z.trailers) in
+      let first : sum_by (begins k) (map block_for_capsule z.headers ++ map block_for_extent z.extents)
+      ≡ sum_by (begins k) (map block_for_capsule z.headers) + sum_by (begins k) (map block_for_extent z.extents) =
+      sum_by-append (begins k) (map block_for_capsule z.headers) (map block_for_extent z.extents) in
+      let heads : sum_by (begins k) (map block_for_capsule z.headers) ≡ caps k z.headers =
+      sum_by-map (begins k) block_for_capsule z.headers in
+      let tails : sum_by (begins k) (map block_for_capsule z.trailers) ≡ caps k z.trailers =
+      sum_by-map (begins k) block_for_capsule z.trailers in
       omega (arith, both, front, first, heads, tails)
 
   -- an object's headers and trailers, and a thing that is there

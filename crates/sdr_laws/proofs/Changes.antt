@@ -18,11 +18,11 @@ use Rattle.sdr_base.specs.declared.moves.Move.{Move}
 use Rattle.sdr_model.specs.Accounts.{ticket_blocks}
 use Rattle.sdr_model.specs.Limits.{longest_name}
 use Rattle.sdr_model.specs.Step.{is_answer}
-use Rattle.sdr_model.specs.Things.{with_at, Things, name_block}
+use Rattle.sdr_model.specs.Things.{with_at, Things, block_for_name}
 use Rattle.sdr_model.specs.Valid.{IsBetween, AreDistinct, FitTogether, IsValid, IsValidThing, names_of}
 use Rattle.sdr_model.specs.World.{World, thing_at}
 use Rattle.sdr_model.specs.declared.name.Name.{Name}
-use Rattle.sdr_model.specs.declared.things.Block.{Block}
+use Rattle.sdr_model.specs.declared.things.UsedBlock.{UsedBlock}
 use Rattle.sdr_model.specs.declared.things.Thing.{Thing}
 
 -- the things and the names of a world keep their limits
@@ -42,7 +42,7 @@ IsFresh w o = AreFresh (addresses_of (blocks_of w)) o.moves
 -- the moves take no block, and the world after them has no more of any than the one before
 pub record Fewer (w : World) (moves : List Move) (w' : World) : Type 0 where
   pub none : taken_addresses moves ≡ []
-  pub sums : (measure : Block → ℕ) → sum_by measure (blocks_of w') ≤ sum_by measure (blocks_of w)
+  pub sums : (measure : UsedBlock → ℕ) → sum_by measure (blocks_of w') ≤ sum_by measure (blocks_of w)
 
 -- A changing call was answered: where the blocks that it took are fresh, it moves the blocks of the world, or leaves fewer
 -- where sources and extents don't fit each other, and it keeps the limits.
@@ -89,7 +89,7 @@ one_marked w o addr next is one marks shown taken = record {
 }
 
 -- the blocks at an address, where a thing may be
-abbrev pub blocks_at : ℕ → Option Thing → List Block
+abbrev pub blocks_at : ℕ → Option Thing → List UsedBlock
 blocks_at addr None = []
 blocks_at addr (Some thing) = thing_blocks addr thing
 
@@ -98,8 +98,8 @@ pub record SwapsThing (w : World) (o : Outcome) : Type 0 where
   pub addr : ℕ
   pub before : Option Thing
   pub after : Option Thing
-  pub taken : List Block
-  pub given : List Block
+  pub taken : List UsedBlock
+  pub given : List UsedBlock
   pub answered : is_answer o.reply ≡ true
   pub marks : MarksTaken w o.moves o.after
   pub needs : map (λ b. b.bytes) taken ≡ taken_needs o.moves
@@ -109,12 +109,12 @@ pub record SwapsThing (w : World) (o : Outcome) : Type 0 where
   pub things : o.after.things ≡ with_at w.things addr after
   pub names : o.after.names ≡ w.names
   pub tickets : ticket_blocks o.after.accounts ≡ ticket_blocks w.accounts
-  pub sums : KeepsLimits w → (measure : Block → ℕ)
+  pub sums : KeepsLimits w → (measure : UsedBlock → ℕ)
       → sum_by measure (blocks_at addr before) + sum_by measure taken ≡ sum_by measure
       (blocks_at addr after) + sum_by measure given
   pub valid : KeepsLimits w → IfSome after IsValidThing
 
-module _ (measure : Block → ℕ) where
+module _ (measure : UsedBlock → ℕ) where
   -- what is measured of an entry's blocks
   abbrev of_entry : ℕ × Thing → ℕ
   of_entry e = sum_by measure (thing_blocks e.0 e.1)
@@ -146,13 +146,13 @@ module _ (measure : Block → ℕ) where
   -- the blocks of a world are those of its things, of its names and of its tickets
   pub sum_by-blocks_of : (w : World)
       → sum_by measure (blocks_of w)
-      ≡ sum_by measure (things_blocks w.things) + sum_by measure (map name_block w.names) + sum_by measure
+      ≡ sum_by measure (things_blocks w.things) + sum_by measure (map block_for_name w.names) + sum_by measure
       (ticket_blocks w.accounts)
   sum_by-blocks_of w =
       omega (
         arith,
-        sum_by-append measure (things_blocks w.things ++ map name_block w.names) (ticket_blocks w.accounts),
-        sum_by-append measure (things_blocks w.things) (map name_block w.names),
+        sum_by-append measure (things_blocks w.things ++ map block_for_name w.names) (ticket_blocks w.accounts),
+        sum_by-append measure (things_blocks w.things) (map block_for_name w.names),
       )
 
 -- a thing that was swapped is a change
@@ -173,7 +173,7 @@ swaps_thing w o s = moves_blocks w o s.answered s.marks
             things_blocks-with_at measure w.things s.addr s.after,
             ap (λ t. sum_by measure (blocks_at s.addr t)) (s.was fresh),
             ap (λ m. sum_by measure (things_blocks m)) s.things,
-            ap (λ ns. sum_by measure (map name_block ns)) s.names,
+            ap (λ ns. sum_by measure (map block_for_name ns)) s.names,
             ap (sum_by measure) s.tickets,
           );
     })
@@ -195,8 +195,8 @@ swaps_thing w o s = moves_blocks w o s.answered s.marks
 
 -- the names may be others, and the blocks of names go with the moves
 pub record SwapsNames (w : World) (o : Outcome) : Type 0 where
-  pub taken : List Block
-  pub given : List Block
+  pub taken : List UsedBlock
+  pub given : List UsedBlock
   pub answered : is_answer o.reply ≡ true
   pub marks : MarksTaken w o.moves o.after
   pub needs : map (λ b. b.bytes) taken ≡ taken_needs o.moves
@@ -204,9 +204,9 @@ pub record SwapsNames (w : World) (o : Outcome) : Type 0 where
   pub gives : addresses_of given ≡ given_addresses o.moves
   pub things : o.after.things ≡ w.things
   pub tickets : ticket_blocks o.after.accounts ≡ ticket_blocks w.accounts
-  pub sums : (measure : Block → ℕ)
-      → sum_by measure (map name_block w.names) + sum_by measure taken ≡ sum_by measure
-      (map name_block o.after.names) + sum_by measure given
+  pub sums : (measure : UsedBlock → ℕ)
+      → sum_by measure (map block_for_name w.names) + sum_by measure taken ≡ sum_by measure
+      (map block_for_name o.after.names) + sum_by measure given
   pub names : KeepsLimits w → All (λ name. IsBetween 1 longest_name (length name)) (names_of o.after)
   pub distinct_names : KeepsLimits w → AreDistinct (names_of o.after)
 
@@ -246,8 +246,8 @@ same_limits things names limits = record {
 
 -- the tickets may be others, and their blocks go with the moves
 pub record SwapsTickets (w : World) (o : Outcome) : Type 0 where
-  pub taken : List Block
-  pub given : List Block
+  pub taken : List UsedBlock
+  pub given : List UsedBlock
   pub answered : is_answer o.reply ≡ true
   pub marks : MarksTaken w o.moves o.after
   pub needs : map (λ b. b.bytes) taken ≡ taken_needs o.moves
@@ -255,7 +255,7 @@ pub record SwapsTickets (w : World) (o : Outcome) : Type 0 where
   pub gives : addresses_of given ≡ given_addresses o.moves
   pub things : o.after.things ≡ w.things
   pub names : o.after.names ≡ w.names
-  pub sums : (measure : Block → ℕ)
+  pub sums : (measure : UsedBlock → ℕ)
       → sum_by measure (ticket_blocks w.accounts) + sum_by measure taken ≡ sum_by measure
       (ticket_blocks o.after.accounts) + sum_by measure given
 
@@ -275,7 +275,7 @@ swaps_tickets w o s = moves_blocks w o s.answered s.marks
             sum_by-blocks_of measure w,
             sum_by-blocks_of measure o.after,
             ap (λ m. sum_by measure (things_blocks m)) s.things,
-            ap (λ ns. sum_by measure (map name_block ns)) s.names,
+            ap (λ ns. sum_by measure (map block_for_name ns)) s.names,
           );
     })
     (λ limits. same_limits s.things s.names limits)

@@ -11,7 +11,7 @@ use Rattle.sdr_model.proofs.Cases.{in_bool}
 use Rattle.sdr_model.specs.Accounts.{pending_in, tickets_of}
 use Rattle.sdr_model.specs.Amounts.{amounts_by, first_above, minus}
 use Rattle.sdr_model.specs.Charges.{rooms}
-use Rattle.sdr_model.specs.Charging.{Charges, OnTicket, grant_left, no_space, with_used}
+use Rattle.sdr_model.specs.Charging.{Charges, OnTicket, grant_left, no_space, with_covered}
 use Rattle.sdr_model.specs.Queue.{barrier}
 use Rattle.sdr_model.specs.Steps.{Outcome, Refuses}
 use Rattle.sdr_model.specs.World.{World}
@@ -24,14 +24,14 @@ Covered w o acct charge goes p =
     let uncovered = minus (amounts_by charge) (grant_left p) in
     MatchOption (barrier uncovered (tickets_of w.accounts acct))
     (MatchOption (first_above uncovered (rooms w acct))
-    (goes (with_used w p (amounts_by charge)))
+    (goes (with_covered w p (amounts_by charge)))
     (λ space. Refuses w o (no_space w acct uncovered space)))
     (λ t. Refuses w o (refusals.Queue t.number))
 
 module _ {w : World} {call : Call} {o : Outcome} where
   -- a call with a ticket, or with none, goes on where its grant can be used
   on_ticket : (acct : Acct) (number : ℕ) (goes : Option Pending → Type 0) → OnTicket w o acct number goes
-      → ((p : Option Pending) → ((amounts : Amounts) → Alike w (with_used w p amounts)) → goes p → Shape w call o)
+      → ((p : Option Pending) → ((amounts : Amounts) → Alike w (with_covered w p amounts)) → goes p → Shape w call o)
       → Shape w call o
   on_ticket acct number goes h go =
       in_bool (number == 0) h (go None (λ amounts. itself)) (λ h.
@@ -48,4 +48,4 @@ module _ {w : World} {call : Call} {o : Outcome} where
       let uncovered = minus (amounts_by charge) (grant_left p) in
       on_none (barrier uncovered (tickets_of w.accounts acct)) _ h (λ t. refl) (λ free h.
       on_none (first_above uncovered (rooms w acct)) _ h (λ space. refl)
-      (λ fits g. go (with_used w p (amounts_by charge)) (like (amounts_by charge)) g)))
+      (λ fits g. go (with_covered w p (amounts_by charge)) (like (amounts_by charge)) g)))

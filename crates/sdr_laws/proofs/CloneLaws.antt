@@ -18,7 +18,7 @@ use Rattle.sdr_model.specs.declared.accounts.Pending.{Pending}
 use Rattle.sdr_model.specs.Amounts.{amounts_by, first_above, minus}
 use Rattle.sdr_model.specs.Blocks.{addresses_of, blocks_of}
 use Rattle.sdr_model.specs.Charges.{object_charge, rooms}
-use Rattle.sdr_model.specs.Charging.{Charges, grant_left, no_space, with_used}
+use Rattle.sdr_model.specs.Charging.{Charges, grant_left, no_space, with_covered}
 use Rattle.sdr_model.specs.ObjectSteps.{with_object}
 use Rattle.sdr_model.specs.PartSteps.{ClonePart, asked_extents, clone_moves, object_of}
 use Rattle.sdr_model.specs.Queue.{barrier}
@@ -61,19 +61,19 @@ in_charge {R} w o acct number charge goes answered h f =
     (λ h. in_option (pending_in w.accounts acct number) h (λ h. unanswered o _ answered h)
     (λ p h. in_bool p.ticket.granted h (space (Some p)) (λ h. unanswered o _ answered h)))
   where
-    same : (p : Option Pending) → (with_used w p (amounts_by charge)).things ≡ w.things
+    same : (p : Option Pending) → (with_covered w p (amounts_by charge)).things ≡ w.things
     same None = refl
     same (Some p) = refl
 
     space : (p : Option Pending)
         → (let uncovered = minus (amounts_by charge) (grant_left p) in
         MatchOption (barrier uncovered (tickets_of w.accounts acct))
-        (MatchOption (first_above uncovered (rooms w acct)) (goes (with_used w p (amounts_by charge)))
+        (MatchOption (first_above uncovered (rooms w acct)) (goes (with_covered w p (amounts_by charge)))
         (λ space. Refuses w o (no_space w acct uncovered space))) (λ t. Refuses w o (refusals.Queue t.number))) → R
     space p h =
         let uncovered = minus (amounts_by charge) (grant_left p) in
         in_option (barrier uncovered (tickets_of w.accounts acct)) h
-        (λ h. in_option (first_above uncovered (rooms w acct)) h (f (with_used w p (amounts_by charge)) (same p))
+        (λ h. in_option (first_above uncovered (rooms w acct)) h (f (with_covered w p (amounts_by charge)) (same p))
         (λ s h. unanswered o _ answered h)) (λ t h. unanswered o _ answered h)
 
 row_takes : (w : World) (o : Outcome) (addr ticket offset bytes : ℕ) → IsFresh w o → is_answer o.reply ≡ true

@@ -23,26 +23,26 @@ use Rattle.sdr_model.specs.PartSteps as part
 use Rattle.sdr_model.specs.RowMoves.{clone_moves_of}
 use Rattle.sdr_model.specs.Step.{is_answer}
 use Rattle.sdr_model.specs.Steps.{DoesWith, Outcome, taken_addresses, taken_at, takes_from}
-use Rattle.sdr_model.specs.Things.{extent_block, extent_need, own_block}
+use Rattle.sdr_model.specs.Things.{block_for_extent, extent_need, own_block}
 use Rattle.sdr_model.specs.Valid.{IsValidObject}
 use Rattle.sdr_model.specs.World.{World}
 use Rattle.sdr_model.specs.Zco.{object_at}
 use Rattle.sdr_model.specs.declared.answer.Reply.TheVariants as replies
 use Rattle.sdr_model.specs.declared.call.Call.TheVariants as calls
-use Rattle.sdr_model.specs.declared.things.Block.{Block}
+use Rattle.sdr_model.specs.declared.things.UsedBlock.{UsedBlock}
 use Rattle.sdr_model.specs.declared.things.Thing.TheVariants as things
 use Rattle.sdr_model.specs.declared.zco.Extent.{Extent}
 use Rattle.sdr_model.specs.declared.zco.ZcoObject.{ZcoObject}
 
 -- the blocks of placed extents are those that are taken for them
 placed_needs : (at : ℕ → ℕ) (k : ℕ) (es : List Extent)
-    → map (λ (b : Block). b.bytes) (map extent_block (placed at k es))
+    → map (λ (b : UsedBlock). b.bytes) (map block_for_extent (placed at k es))
     ≡ taken_needs (takes_from at k (map (λ e. extent_need) es))
 placed_needs at k [] = refl
 placed_needs at k (e ∷ es) = ap (λ ns. extent_need ∷ ns) (placed_needs at (suc k) es)
 
 placed_takes : (at : ℕ → ℕ) (k : ℕ) (es : List Extent)
-    → addresses_of (map extent_block (placed at k es))
+    → addresses_of (map block_for_extent (placed at k es))
     ≡ taken_addresses (takes_from at k (map (λ e. extent_need) es))
 placed_takes at k [] = refl
 placed_takes at k (e ∷ es) = ap (λ ns. at k ∷ ns) (placed_takes at (suc k) es)
@@ -96,7 +96,7 @@ module _ {w : World} {o : Outcome} where
         addr = at 0;
         before = None;
         after = Some (things.Object z);
-        taken = own_block (at 0) (things.Object z) ∷ map extent_block (placed at 1 es);
+        taken = own_block (at 0) (things.Object z) ∷ map block_for_extent (placed at 1 es);
         given = [];
         answered = ap is_answer d.2;
         marks = record {
@@ -114,7 +114,7 @@ module _ {w : World} {o : Outcome} where
         sums = λ limits measure.
             omega (
               arith,
-              sum_by-cons measure (own_block (at 0) (things.Object z)) (map extent_block (placed at 1 es)),
+              sum_by-cons measure (own_block (at 0) (things.Object z)) (map block_for_extent (placed at 1 es)),
               object_parts measure (at 0) z,
             );
         valid = λ limits. valid_whole acct (placed at 1 es) (placed_long at 1 es long);

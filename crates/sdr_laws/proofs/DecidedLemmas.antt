@@ -32,9 +32,9 @@ use Rattle.sdr_model.specs.Rows.{ByRow}
 use Rattle.sdr_model.specs.SourceSteps.{new_source}
 use Rattle.sdr_model.specs.Steps.{On, Outcome, Refuses, with_thing}
 use Rattle.sdr_model.specs.TableSteps.{as_table}
-use Rattle.sdr_model.specs.Wire.{Gives, GivesOf, ToldBytes, headers_part, source_part, trailers_part, wire_part}
+use Rattle.sdr_model.specs.Wire.{GivesBytes, GivesOf, ToldBytes, headers_part, source_part, trailers_part, wire_part}
 use Rattle.sdr_model.specs.World.{World, as_raw, as_text, block_at, is_marked, misnamed, spot_of, thing_at}
-use Rattle.sdr_model.specs.Zco.{extents_length, object_at, owned_raw, source_at, source_on, space_of, uses_of}
+use Rattle.sdr_model.specs.Zco.{extents_length, object_at, owned_raw, source_at, source_naming, space_of, uses_of}
 use Rattle.sdr_model.specs.declared.answer.Reply.{Reply}
 use Rattle.sdr_model.specs.declared.answer.Reply.TheVariants as replies
 use Rattle.sdr_model.specs.declared.call.Call.{Call}
@@ -47,7 +47,7 @@ use Rattle.sdr_model.specs.declared.zco.ZcoObject.{ZcoObject}
 use Rattle.sdr_model.specs.declared.zco.ZcoSource.{ZcoSource}
 
 freed : (w : World) (addr : ℕ) (t : Option Thing) → IsDecided (λ o. raw.FreesThing w o addr (as_raw t) (as_text t))
-freed w addr (Some (things.Raw bytes)) = found (source_on w addr) told (λ _. told)
+freed w addr (Some (things.Raw bytes)) = found (source_naming w addr) told (λ _. told)
 freed w addr (Some (things.Text text)) = told
 freed w addr t = told
 
@@ -71,7 +71,7 @@ appends_source w addr z number named s offset bytes =
 appends_raw : (w : World) (addr : ℕ) (z : ZcoObject) (number raw : ℕ) (text : List ℕ) (offset bytes : ℕ)
     → IsDecided (λ o. AppendsRaw w o addr z number raw text offset bytes)
 appends_raw w addr z number raw text offset bytes =
-    found (source_on w raw)
+    found (source_naming w raw)
     (tested (bytes == 0 || nat_lt (length text) (offset + bytes)) told
     (charges w (λ o used. TakesOver w o addr z raw text offset bytes used) z.account number
     (bytes_charge spaces.Heap bytes)
@@ -153,7 +153,7 @@ decided w (calls.FileRef path bytes) _ =
     tested (is_no_path (length path)) told (tested (nat_lt longest_source bytes) told takes_one)
 decided w (calls.BulkRef item bytes) _ = tested (nat_lt longest_source bytes) told takes_one
 decided w (calls.ObjRef raw) _ =
-    found (as_raw (thing_at w raw)) told (λ _. found (source_on w raw) takes_one (λ _. told))
+    found (as_raw (thing_at w raw)) told (λ _. found (source_naming w raw) takes_one (λ _. told))
 decided w (calls.DestroyRef addr) _ =
     found (source_at w addr) told
     (λ s. tested (is_some (owned_raw s)) told (tested s.flagged told (tested (uses_of w addr == 0) told told)))
@@ -210,7 +210,7 @@ gives_same w o o' addr count of = by (object_at w addr)
     refused : (refusal : Refusal) → Refuses w o refusal → Refuses w o' refusal → SameButShown o o'
     refused refusal a b = but_shown (same_outcome (a.0 ∙ sym b.0) (a.1 ∙ sym b.1) (a.2 ∙ sym b.2))
 
-    given : (bytes : ToldBytes) → Gives w o bytes → Gives w o' bytes → SameButShown o o'
+    given : (bytes : ToldBytes) → GivesBytes w o bytes → GivesBytes w o' bytes → SameButShown o o'
     given bytes a b = record {
       moves = a.0 ∙ sym b.0;
       after = a.1 ∙ ap (λ (v : World). record v { shown = o.after.shown }) (sym b.1);
@@ -218,16 +218,17 @@ gives_same w o o' addr count of = by (object_at w addr)
     }
 
     short : (b : Bool) (z : ZcoObject)
-        → MatchBool b (Refuses w o (refusals.BadLength count longest_read)) (Gives w o (of z))
-        → MatchBool b (Refuses w o' (refusals.BadLength count longest_read)) (Gives w o' (of z)) → SameButShown o o'
+        → MatchBool b (Refuses w o (refusals.BadLength count longest_read)) (GivesBytes w o (of z))
+        → MatchBool b (Refuses w o' (refusals.BadLength count longest_read)) (GivesBytes w o' (of z)) →
+            SameButShown o o'
     short true z a b = refused (refusals.BadLength count longest_read) a b
     short false z a b = given (of z) a b
 
     by : (z : Option ZcoObject)
         → On w o addr z (λ z. MatchBool (nat_lt longest_read count)
-        (Refuses w o (refusals.BadLength count longest_read)) (Gives w o (of z)))
+        (Refuses w o (refusals.BadLength count longest_read)) (GivesBytes w o (of z)))
         → On w o' addr z (λ z. MatchBool (nat_lt longest_read count)
-        (Refuses w o' (refusals.BadLength count longest_read)) (Gives w o' (of z))) → SameButShown o o'
+        (Refuses w o' (refusals.BadLength count longest_read)) (GivesBytes w o' (of z))) → SameButShown o o'
     by None a b = refused (misnamed w addr) a b
     by (Some z) a b = short (nat_lt longest_read count) z a b
 

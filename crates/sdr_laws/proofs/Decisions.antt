@@ -12,7 +12,7 @@ use Rattle.sdr_model.specs.Accounts.{pending_in, tickets_of}
 use Rattle.sdr_model.specs.Amounts.{amounts_by, first_above, minus}
 use Rattle.sdr_model.specs.BondSteps.{bond_moves}
 use Rattle.sdr_model.specs.Charges.{rooms}
-use Rattle.sdr_model.specs.Charging.{Charges, grant_left, no_space, with_used}
+use Rattle.sdr_model.specs.Charging.{Charges, grant_left, no_space, with_covered}
 use Rattle.sdr_model.specs.ObjectSteps.{raw_append_moves}
 use Rattle.sdr_model.specs.PartSteps.{clone_moves}
 use Rattle.sdr_model.specs.Queue.{barrier}
@@ -83,13 +83,13 @@ charges w goes acct number charge go =
         let uncovered = minus (amounts_by charge) (grant_left p) in
         MatchOption (barrier uncovered (tickets_of w.accounts acct))
         (MatchOption (first_above uncovered (rooms w acct))
-        (goes o (with_used w p (amounts_by charge)))
+        (goes o (with_covered w p (amounts_by charge)))
         (λ space. Refuses w o (no_space w acct uncovered space)))
         (λ t. Refuses w o (refusals.Queue t.number)))
     covered p =
         let uncovered = minus (amounts_by charge) (grant_left p) in
         found (barrier uncovered (tickets_of w.accounts acct))
-        (found (first_above uncovered (rooms w acct)) (go (with_used w p (amounts_by charge))) (λ space. told))
+        (found (first_above uncovered (rooms w acct)) (go (with_covered w p (amounts_by charge))) (λ space. told))
         (λ t. told)
 
 -- moves that have no more than the addresses of the blocks that they take

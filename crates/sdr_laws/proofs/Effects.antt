@@ -8,7 +8,7 @@ use Rattle.sdr_model.specs.Steps.{Outcome, TakesOne, with_thing}
 use Rattle.sdr_model.specs.Things.{with_at}
 use Rattle.sdr_model.specs.Valid.{HasBytes}
 use Rattle.sdr_model.specs.World.{World, as_raw, thing_at}
-use Rattle.sdr_model.specs.Zco.{source_on}
+use Rattle.sdr_model.specs.Zco.{source_naming}
 use Rattle.sdr_model.specs.declared.answer.Reply.{Reply}
 use Rattle.sdr_model.specs.declared.things.Thing.{Thing}
 use Rattle.sdr_model.specs.declared.things.Thing.TheVariants as things
@@ -33,7 +33,7 @@ pub data Plain (w : World) (o : Outcome) : Type 0 where
   swaps : (addr : ℕ) (before after : Option Thing) → (IsFresh w o → thing_at w addr ≡ before)
       → IsNoZco before → IsNoZco after → KeepsBytes before after
       → o.after.things ≡ with_at w.things addr after → o.after.accounts ≡ w.accounts → Plain w o
-  frees : (addr : ℕ) (bytes : List ℕ) → thing_at w addr ≡ Some (things.Raw bytes) → source_on w addr ≡ None
+  frees : (addr : ℕ) (bytes : List ℕ) → thing_at w addr ≡ Some (things.Raw bytes) → source_naming w addr ≡ None
       → o.after.things ≡ with_at w.things addr None → o.after.accounts ≡ w.accounts → Plain w o
 
 -- such outcomes are plain

@@ -7,7 +7,7 @@ use Rattle.std.proofs.lemmas.List.Elements.{All-cons, All-nil}
 use Rattle.sdr_laws.proofs.Examples.{each, named_once, one, source_there}
 use Rattle.sdr_laws.specs.Example.{example, example_extent, example_hash, example_list, example_object, example_raw, example_source, example_things, example_ticket}
 use Rattle.sdr_model.specs.Fields.{AreBytes, FitsCapsule, FitsElement, FitsEntry, FitsExtent, FitsFields, FitsName, FitsObject, FitsSource, FitsThing, FitsTicket, IsWord}
-use Rattle.sdr_model.specs.Valid.{AreInside, FitTogether, HasBytes, HasSubject, IsUsed, LiesInside}
+use Rattle.sdr_model.specs.Valid.{AreInside, FitTogether, HasBytes, HasSubject, HasExtentIfPassing, LiesInside}
 use Rattle.sdr_model.specs.World.{as_raw, thing_at}
 use Rattle.sdr_model.specs.Zco.{as_source, names_raw, source_at}
 use Rattle.sdr_model.specs.declared.things.Thing.{Thing}
@@ -90,7 +90,7 @@ example_fit_together = record {
       (subst (HasBytes 3) (sym raw_there) refl) tt addr);
   alone = λ raw a b. of_both a b (λ t. names_raw raw t ≡ true) (λ t. names_raw raw t ≡ true) (thing_at example a)
       (thing_at example b) (named_by raw a) (named_by raw b);
-  used = λ addr. of_source (IsUsed example addr) (thing_at example addr)
-      (each (λ addr t. IfSome (as_source (Some t)) (IsUsed example addr)) tt tt tt
+  used = λ addr. of_source (HasExtentIfPassing example addr) (thing_at example addr)
+      (each (λ addr t. IfSome (as_source (Some t)) (HasExtentIfPassing example addr)) tt tt tt
       (λ passing. omega (arith, named_once)) tt addr);
 }

@@ -24,7 +24,7 @@ use Rattle.sdr_model.specs.RowMoves.{destroyed_blocks, elements_in, row_moves}
 use Rattle.sdr_model.specs.Rows.{ByRow}
 use Rattle.sdr_model.specs.Step.{Step}
 use Rattle.sdr_model.specs.Steps.{On, Outcome, gave}
-use Rattle.sdr_model.specs.Things.{name_block}
+use Rattle.sdr_model.specs.Things.{block_for_name}
 use Rattle.sdr_model.specs.Valid.{IsBetween, IsValid, IsValidCapsule, IsValidHash, IsValidObject, IsValidSource, IsValidThing, keys_of}
 use Rattle.sdr_model.specs.World.{empty_world, thing_at}
 use Rattle.sdr_model.specs.Zco.{as_object, as_source, source_at, uses_in, uses_of}
@@ -38,7 +38,7 @@ use Rattle.sdr_model.specs.declared.zco.ZcoSource.{ZcoSource}
 -- the blocks of the example
 pub example_is : blocks_of example ≡ example_blocks
 example_is = ap
-    (λ (es : List (ℕ × Thing)). flat_map (λ e. thing_blocks e.0 e.1) es ++ map name_block example.names
+    (λ (es : List (ℕ × Thing)). flat_map (λ e. thing_blocks e.0 e.1) es ++ map block_for_name example.names
     ++ ticket_blocks example_accounts)
     (entries-from_sorted nat_cmp example_things tt)
 

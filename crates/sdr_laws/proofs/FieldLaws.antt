@@ -27,7 +27,7 @@ use Rattle.sdr_model.specs.TableSteps.{as_table}
 use Rattle.sdr_model.specs.Valid.{FitTogether, IsValid}
 use Rattle.sdr_model.specs.Wire.{GivesOf, ToldBytes, headers_part, source_part, trailers_part, wire_part}
 use Rattle.sdr_model.specs.World.{World, as_raw, as_text, block_at, is_marked, spot_of, thing_at}
-use Rattle.sdr_model.specs.Zco.{object_at, source_at, source_on}
+use Rattle.sdr_model.specs.Zco.{object_at, source_at, source_naming}
 use Rattle.sdr_model.specs.declared.answer.Reply.{Reply}
 use Rattle.sdr_model.specs.declared.call.Call.{Call}
 use Rattle.sdr_model.specs.declared.call.Call.TheVariants as calls
@@ -40,7 +40,7 @@ use Rattle.sdr_model.specs.declared.zco.ZcoObject.{ZcoObject}
 use Rattle.sdr_laws.proofs.FieldLemmas.{KeepsFields, all_inserted, all_overwritten, all_removed, changes, fits_names, fits_same, found, gains, goes, makes, refused, shown, takes_one, tested, thing_fits, told, unmarked}
 
 freed : (w : World) (addr : ℕ) (t : Option Thing) → KeepsFields w (λ o. raw.FreesThing w o addr (as_raw t) (as_text t))
-freed w addr (Some (things.Raw bytes)) = found (source_on w addr) (goes addr) (λ s named. refused)
+freed w addr (Some (things.Raw bytes)) = found (source_naming w addr) (goes addr) (λ s named. refused)
 freed w addr (Some (things.Text text)) = goes addr
 freed w addr t = refused
 

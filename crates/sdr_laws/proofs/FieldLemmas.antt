@@ -21,7 +21,7 @@ use Rattle.sdr_model.proofs.ThingsLemmas.{get-with_at, same_address}
 use Rattle.sdr_model.specs.Accounts.{account_of, no_ticket, pending_in, tickets_of, with_tickets}
 use Rattle.sdr_model.specs.Amounts.{amounts_by, are_within, first_above, minus, plus}
 use Rattle.sdr_model.specs.Charges.{occupancies, rooms}
-use Rattle.sdr_model.specs.Charging.{Charges, grant_left, no_space, with_used}
+use Rattle.sdr_model.specs.Charging.{Charges, grant_left, no_space, with_covered}
 use Rattle.sdr_model.specs.Fields.{AreBytes, FitsFields, FitsName, FitsThing, FitsTicket, IsWord}
 use Rattle.sdr_model.specs.Things.{with_at}
 use Rattle.sdr_model.specs.World.{World, thing_at}
@@ -153,7 +153,7 @@ fits_served w acct fits =
 
 -- the grant of a ticket that is used
 pub fits_used : (w : World) (acct : Acct) (number : ℕ) (p : Pending) (amounts : Amounts)
-    → pending_in w.accounts acct number ≡ Some p → FitsFields w → FitsFields (with_used w (Some p) amounts)
+    → pending_in w.accounts acct number ≡ Some p → FitsFields w → FitsFields (with_covered w (Some p) amounts)
 fits_used w acct number p amounts is fits =
     let stands = pending_stands w.accounts acct number p is in
     let all = tickets_fit w.accounts acct (fits.inbound, fits.outbound) in
@@ -247,19 +247,19 @@ module _ {w : World} where
       (found (pending_in w.accounts acct number) refused
       (λ p is. tested p.ticket.granted (covered (Some p) (λ amounts. fits_used w acct number p amounts is)) refused))
     where
-      covered : (p : Option Pending) → ((amounts : Amounts) → FitsFields w → FitsFields (with_used w p amounts))
+      covered : (p : Option Pending) → ((amounts : Amounts) → FitsFields w → FitsFields (with_covered w p amounts))
           → KeepsFields w (λ o.
           let uncovered = minus (amounts_by charge) (grant_left p) in
           MatchOption (barrier uncovered (tickets_of w.accounts acct))
           (MatchOption (first_above uncovered (rooms w acct))
-          (goes o (with_used w p (amounts_by charge)))
+          (goes o (with_covered w p (amounts_by charge)))
           (λ space. Refuses w o (no_space w acct uncovered space)))
           (λ t. Refuses w o (refusals.Queue t.number)))
       covered p fit =
           let uncovered = minus (amounts_by charge) (grant_left p) in
           found (barrier uncovered (tickets_of w.accounts acct))
           (found (first_above uncovered (rooms w acct))
-          (go (with_used w p (amounts_by charge)) (fit (amounts_by charge))) (λ space above. refused))
+          (go (with_covered w p (amounts_by charge)) (fit (amounts_by charge))) (λ space above. refused))
           (λ t front. refused)
 
   -- an outcome with all blocks taken, by their addresses

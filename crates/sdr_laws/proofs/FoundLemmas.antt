@@ -13,10 +13,10 @@ use Rattle.sdr_laws.proofs.ThingChanges.{own_addr}
 use Rattle.sdr_model.proofs.ThingsLemmas.{same_address}
 use Rattle.sdr_model.specs.Accounts.{ticket_blocks}
 use Rattle.sdr_model.specs.Blocks.{addresses_of, blocks_of, thing_blocks}
-use Rattle.sdr_model.specs.Things.{block_among, inner_among, inner_blocks, name_block, own_block}
+use Rattle.sdr_model.specs.Things.{block_among, inner_among, inner_blocks, block_for_name, own_block}
 use Rattle.sdr_model.specs.Valid.{IsValid}
 use Rattle.sdr_model.specs.World.{World, block_at}
-use Rattle.sdr_model.specs.declared.things.Block.{Block}
+use Rattle.sdr_model.specs.declared.things.UsedBlock.{UsedBlock}
 use Rattle.sdr_model.specs.declared.things.Thing.{Thing}
 
 -- the first that passes in joined lists
@@ -66,14 +66,14 @@ other_key q k apart =
     (λ e. e)
 
 module _ (addr : ℕ) where
-  abbrev begins_there : Block → Bool
+  abbrev begins_there : UsedBlock → Bool
   begins_there b = b.addr == addr
 
   -- a thing's own block, or one inside a thing
-  abbrev among_things : List (ℕ × Thing) → Option Block
+  abbrev among_things : List (ℕ × Thing) → Option UsedBlock
   among_things es = option_or (option_map (own_block addr) (finite.find nat_cmp addr es)) (inner_among addr es)
 
-  abbrev all_blocks : List (ℕ × Thing) → List Block
+  abbrev all_blocks : List (ℕ × Thing) → List UsedBlock
   all_blocks es = flat_map (λ e. thing_blocks e.0 e.1) es
 
   -- is the one of the things' blocks there, where there is one at most
@@ -121,19 +121,20 @@ blocks_are_found w addr valid =
     (option_or names tickets)
     ∙ ap (λ o. option_or o (option_or names tickets)) (found_among addr es few)
     ∙ first_of_three (block_among addr (all_blocks addr es)) names tickets
-    ∙ ap (λ o. option_or o tickets) (sym (find-append (begins_there addr) (all_blocks addr es) (map name_block w.names)))
-    ∙ sym (find-append (begins_there addr) (all_blocks addr es ++ map name_block w.names) (ticket_blocks w.accounts))
+    ∙ ap (λ o. option_or o tickets) (sym (find-append (begins_there addr) (all_blocks addr es) (map block_for_name w.names)))
+    ∙ sym (find-append (begins_there addr) (all_blocks addr es ++ map block_for_name w.names)
+        (ticket_blocks w.accounts))
   where
     es : List (ℕ × Thing)
     es = finite.entries w.things
 
-    names : Option Block
-    names = block_among addr (map name_block w.names)
+    names : Option UsedBlock
+    names = block_among addr (map block_for_name w.names)
 
-    tickets : Option Block
+    tickets : Option UsedBlock
     tickets = block_among addr (ticket_blocks w.accounts)
 
-    other_way : (λ (b : Block). nat_eq addr b.addr) ≡ begins_there addr
+    other_way : (λ (b : UsedBlock). nat_eq addr b.addr) ≡ begins_there addr
     other_way i b = nat_eq_equiv.symm addr b.addr i
 
     few : count_by (begins_there addr) (all_blocks addr es) ≤ 1
@@ -141,9 +142,9 @@ blocks_are_found w addr valid =
         omega (
           arith,
           once nat_eq_equiv (addresses_of (blocks_of w)) valid.distinct_addresses addr,
-          count_by-map (λ (b : Block). b.addr) (nat_eq addr) (blocks_of w),
+          count_by-map (λ (b : UsedBlock). b.addr) (nat_eq addr) (blocks_of w),
           ap (λ p. count_by p (blocks_of w)) other_way,
-          sum_by-append (λ b. weight (begins_there addr b)) (all_blocks addr es ++ map name_block w.names)
+          sum_by-append (λ b. weight (begins_there addr b)) (all_blocks addr es ++ map block_for_name w.names)
               (ticket_blocks w.accounts),
-          sum_by-append (λ b. weight (begins_there addr b)) (all_blocks addr es) (map name_block w.names),
+          sum_by-append (λ b. weight (begins_there addr b)) (all_blocks addr es) (map block_for_name w.names),
         )

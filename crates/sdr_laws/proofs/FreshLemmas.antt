@@ -9,9 +9,9 @@ use Rattle.sdr_laws.proofs.DistinctLemmas.{absent, weight, weight_of}
 use Rattle.sdr_model.proofs.SumLemmas.{counted_at, sum_by-flat_map, sum_by-map, sum_by-removed}
 use Rattle.sdr_model.specs.Accounts.{ticket_blocks}
 use Rattle.sdr_model.specs.Blocks.{addresses_of, blocks_of, thing_blocks, things_blocks}
-use Rattle.sdr_model.specs.Things.{inner_blocks, name_block, own_block}
+use Rattle.sdr_model.specs.Things.{inner_blocks, block_for_name, own_block}
 use Rattle.sdr_model.specs.World.{World, thing_at}
-use Rattle.sdr_model.specs.declared.things.Block.{Block}
+use Rattle.sdr_model.specs.declared.things.UsedBlock.{UsedBlock}
 use Rattle.sdr_model.specs.declared.things.Thing.{Thing}
 use Rattle.sdr_model.specs.declared.things.Thing.TheVariants as things
 
@@ -26,7 +26,7 @@ own_at addr (things.Source source) = refl
 own_at addr (things.Object object) = refl
 
 -- whether a block begins at an address, as a number, and how many of an entry's blocks do
-abbrev at : ℕ → Block → ℕ
+abbrev at : ℕ → UsedBlock → ℕ
 at addr b = weight (nat_eq addr b.addr)
 
 abbrev of_entry : ℕ → ℕ × Thing → ℕ
@@ -40,17 +40,17 @@ none_there w addr none = by (thing_at w addr) refl
     by None is = is
     by (Some thing) is =
         let no_block : sum_by (at addr) (blocks_of w) ≡ 0 =
-        sym (sum_by-map (λ a. weight (nat_eq addr a)) (λ (b : Block). b.addr) (blocks_of w))
+        sym (sum_by-map (λ a. weight (nat_eq addr a)) (λ (b : UsedBlock). b.addr) (blocks_of w))
         ∙ absent addr (addresses_of (blocks_of w)) none in
         let own : at addr (own_block addr thing) ≡ 1 =
         weight_of (ap (nat_eq addr) (own_at addr thing) ∙ nat_eq_equiv.refl addr) in
         let behind : sum_by (at addr) (blocks_of w) ≡ sum_by (at addr)
-        (things_blocks w.things ++ map name_block w.names)
+        (things_blocks w.things ++ map block_for_name w.names)
         + sum_by (at addr) (ticket_blocks w.accounts) =
-        sum_by-append (at addr) (things_blocks w.things ++ map name_block w.names) (ticket_blocks w.accounts) in
-        let among : sum_by (at addr) (things_blocks w.things ++ map name_block w.names)
-        ≡ sum_by (at addr) (things_blocks w.things) + sum_by (at addr) (map name_block w.names) =
-        sum_by-append (at addr) (things_blocks w.things) (map name_block w.names) in
+        sum_by-append (at addr) (things_blocks w.things ++ map block_for_name w.names) (ticket_blocks w.accounts) in
+        let among : sum_by (at addr) (things_blocks w.things ++ map block_for_name w.names)
+        ≡ sum_by (at addr) (things_blocks w.things) + sum_by (at addr) (map block_for_name w.names) =
+        sum_by-append (at addr) (things_blocks w.things) (map block_for_name w.names) in
         let each : sum_by (at addr) (things_blocks w.things) ≡ sum_by (of_entry addr) (entries w.things) =
         sum_by-flat_map (at addr) (λ (e : ℕ × Thing). thing_blocks e.0 e.1) (entries w.things) in
         let less : sum_by (of_entry addr) (entries (remove w.things addr)) + sum_by (at addr) (thing_blocks addr thing)

@@ -21,7 +21,7 @@ use Rattle.sdr_model.specs.declared.accounts.Pending.{Pending}
 use Rattle.sdr_model.specs.Amounts.{amount, amounts_by, are_within, minus}
 use Rattle.sdr_model.specs.Blocks.{addresses_of, blocks_of}
 use Rattle.sdr_model.specs.Charges.{left_in, occupancies, occupancy, rooms}
-use Rattle.sdr_model.specs.Charging.{with_used}
+use Rattle.sdr_model.specs.Charging.{with_covered}
 use Rattle.sdr_model.specs.Queue.{enqueued, front_waiting, with_served}
 use Rattle.sdr_model.specs.Step.{Step}
 use Rattle.sdr_model.specs.Steps.{Outcome}
@@ -126,7 +126,7 @@ covers w used acct number adds c = subst (λ v. Covers w v acct adds) (sym c.use
   where
     by : (p : Option Pending)
         → IfSome p (λ p. (pending_in w.accounts acct number ≡ Some p) × (p.ticket.granted ≡ true))
-        → Covers w (with_used w p (amounts_by adds)) acct adds
+        → Covers w (with_covered w p (amounts_by adds)) acct adds
     by None h = record { front = refl; maxima = refl; left = λ space. omega arith; other = λ b apart. refl }
     by (Some p) h =
         let at = stands_there w.accounts acct number p h.0 in

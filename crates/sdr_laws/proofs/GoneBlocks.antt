@@ -12,9 +12,9 @@ use Rattle.sdr_laws.proofs.WorldChanges.{swapped_limits, swapped_sums, thing_at-
 use Rattle.sdr_model.specs.Blocks.{addresses_of, blocks_of}
 use Rattle.sdr_model.specs.Gone.{gone_blocks, gone_things, gone_with, without_things}
 use Rattle.sdr_model.specs.Steps.{without_thing}
-use Rattle.sdr_model.specs.Things.{extent_block, inner_blocks, own_block}
+use Rattle.sdr_model.specs.Things.{block_for_extent, inner_blocks, own_block}
 use Rattle.sdr_model.specs.World.{World, thing_at}
-use Rattle.sdr_model.specs.declared.things.Block.{Block}
+use Rattle.sdr_model.specs.declared.things.UsedBlock.{UsedBlock}
 use Rattle.sdr_model.specs.declared.things.Thing.{Thing}
 use Rattle.sdr_model.specs.declared.zco.Extent.{Extent}
 
@@ -29,7 +29,7 @@ GoAlone w [] = Unit {0}
 GoAlone w (addr ∷ addrs) = IsLone (thing_at w addr) × GoAlone (without_thing w addr) addrs
 
 -- the blocks of these things, where those before each went
-abbrev pub gone_of : World → List ℕ → List Block
+abbrev pub gone_of : World → List ℕ → List UsedBlock
 gone_of w [] = []
 gone_of w (addr ∷ addrs) = blocks_at addr (thing_at w addr) ++ gone_of (without_thing w addr) addrs
 
@@ -37,7 +37,7 @@ gone_of w (addr ∷ addrs) = blocks_at addr (thing_at w addr) ++ gone_of (withou
 addresses_of-gone_of : (w : World) (addrs : List ℕ) → GoAlone w addrs → addresses_of (gone_of w addrs) ≡ addrs
 addresses_of-gone_of w [] alone = refl
 addresses_of-gone_of w (addr ∷ addrs) alone =
-    map-append (λ (b : Block). b.addr) (blocks_at addr (thing_at w addr)) (gone_of (without_thing w addr) addrs)
+    map-append (λ (b : UsedBlock). b.addr) (blocks_at addr (thing_at w addr)) (gone_of (without_thing w addr) addrs)
     ∙ ap (λ front. front ++ addresses_of (gone_of (without_thing w addr) addrs)) (one (thing_at w addr) alone.0)
     ∙ ap (λ rest. addr ∷ rest) (addresses_of-gone_of (without_thing w addr) addrs alone.1)
   where
@@ -46,7 +46,7 @@ addresses_of-gone_of w (addr ∷ addrs) alone =
     one (Some thing) lone =
         ap (λ bs. (own_block addr thing).addr ∷ addresses_of bs) lone ∙ ap (λ a. a ∷ []) (own_addr addr thing)
 
-module _ (measure : Block → ℕ) where
+module _ (measure : UsedBlock → ℕ) where
   -- the blocks of a world without these things
   pub gone_of-sums : (w : World) (addrs : List ℕ)
       → sum_by measure (blocks_of (without_things w addrs)) + sum_by measure (gone_of w addrs)
@@ -96,11 +96,11 @@ without_things-append w [] b = refl
 without_things-append w (x ∷ a) b = without_things-append (without_thing w x) a b
 
 -- the blocks that are given back where extents go, where those before went
-abbrev pub gone_given : World → World → List Extent → List Extent → List Block
+abbrev pub gone_given : World → World → List Extent → List Extent → List UsedBlock
 gone_given w v all [] = []
 gone_given w v all (e ∷ es) =
     let with_it = gone_with w all es e in
-    gone_of v with_it ++ extent_block e ∷ gone_given w (without_things v with_it) all es
+    gone_of v with_it ++ block_for_extent e ∷ gone_given w (without_things v with_it) all es
 
 -- they begin at these addresses
 pub addresses_of-gone_given : (w v : World) (all es : List Extent) → GoAlone v (gone_things w all es)
@@ -110,14 +110,14 @@ addresses_of-gone_given w v all (e ∷ es) alone =
     let with_it = gone_with w all es e in
     let parts = alone-append v with_it (gone_things w all es) alone in
     let rest = gone_given w (without_things v with_it) all es in
-    map-append (λ (b : Block). b.addr) (gone_of v with_it) (extent_block e ∷ rest)
+    map-append (λ (b : UsedBlock). b.addr) (gone_of v with_it) (block_for_extent e ∷ rest)
     ∙ ap (λ front. front ++ e.block ∷ addresses_of rest) (addresses_of-gone_of v with_it parts.0)
     ∙ ap (λ back. with_it ++ e.block ∷ back) (addresses_of-gone_given w (without_things v with_it) all es parts.1)
 
 -- and are those of the things that go, and of the extents
-pub gone_given-sums : (measure : Block → ℕ) (w v : World) (all es : List Extent)
+pub gone_given-sums : (measure : UsedBlock → ℕ) (w v : World) (all es : List Extent)
     → sum_by measure (blocks_of (without_things v (gone_things w all es))) + sum_by measure (gone_given w v all es)
-    ≡ sum_by measure (blocks_of v) + sum_by measure (map extent_block es)
+    ≡ sum_by measure (blocks_of v) + sum_by measure (map block_for_extent es)
 gone_given-sums measure w v all [] = refl
 gone_given-sums measure w v all (e ∷ es) =
     let with_it = gone_with w all es e in
@@ -127,7 +127,7 @@ gone_given-sums measure w v all (e ∷ es) =
       gone_given-sums measure w (without_things v with_it) all es,
       gone_of-sums measure v with_it,
       ap (λ u. sum_by measure (blocks_of u)) (without_things-append v with_it (gone_things w all es)),
-      sum_by-append measure (gone_of v with_it) (extent_block e ∷ rest),
-      sum_by-cons measure (extent_block e) rest,
-      sum_by-cons measure (extent_block e) (map extent_block es),
+      sum_by-append measure (gone_of v with_it) (block_for_extent e ∷ rest),
+      sum_by-cons measure (block_for_extent e) rest,
+      sum_by-cons measure (block_for_extent e) (map block_for_extent es),
     )

@@ -28,13 +28,13 @@ use Rattle.sdr_model.specs.Queue.{with_served}
 use Rattle.sdr_model.specs.RowMoves.{destroyed_blocks, stripped_blocks}
 use Rattle.sdr_model.specs.Step.{is_answer}
 use Rattle.sdr_model.specs.Steps.{Does, Outcome, gave, taken_addresses, without_thing}
-use Rattle.sdr_model.specs.Things.{capsule_block, extent_block, own_block}
+use Rattle.sdr_model.specs.Things.{block_for_capsule, block_for_extent, own_block}
 use Rattle.sdr_model.specs.Valid.{FitTogether, IsValidObject, IsValidThing}
 use Rattle.sdr_model.specs.World.{World, as_raw, thing_at}
 use Rattle.sdr_model.specs.Zco.{as_source, object_at}
 use Rattle.sdr_model.specs.declared.answer.Reply.TheVariants as replies
 use Rattle.sdr_model.specs.declared.call.Call.TheVariants as calls
-use Rattle.sdr_model.specs.declared.things.Block.{Block}
+use Rattle.sdr_model.specs.declared.things.UsedBlock.{UsedBlock}
 use Rattle.sdr_model.specs.declared.things.Thing.{Thing}
 use Rattle.sdr_model.specs.declared.things.Thing.TheVariants as things
 use Rattle.sdr_model.specs.declared.zco.Capsule.{Capsule}
@@ -48,31 +48,32 @@ gone_rest w [] = refl
 gone_rest w (addr ∷ addrs) = gone_rest (without_thing w addr) addrs
 
 -- the extents that are cut to a part and those that are left out have the blocks of all
-cut_sums : (measure : Block → ℕ) (from to : ℕ) (es : List Extent)
-    → sum_by measure (map extent_block (cut_all from to es)) + sum_by measure (map extent_block (left_out from to es))
-    ≡ sum_by measure (map extent_block es)
+cut_sums : (measure : UsedBlock → ℕ) (from to : ℕ) (es : List Extent)
+    → sum_by measure (map block_for_extent (cut_all from to es))
+        + sum_by measure (map block_for_extent (left_out from to es))
+    ≡ sum_by measure (map block_for_extent es)
 cut_sums measure from to [] = refl
 cut_sums measure from to (e ∷ es) =
     let kept = cut_all (from - e.length) (to - e.length) es in
     let out = left_out (from - e.length) (to - e.length) es in
     let rest = cut_sums measure (from - e.length) (to - e.length) es in
-    let whole = sum_by-cons measure (extent_block e) (map extent_block es) in
+    let whole = sum_by-cons measure (block_for_extent e) (map block_for_extent es) in
     on_test ((cut from to e).length == 0)
     (λ t. omega (
       arith,
       rest,
       whole,
-      ap (λ b. sum_by measure (map extent_block (cond b kept (cut from to e ∷ kept)))) t,
-      ap (λ b. sum_by measure (map extent_block (cond b (e ∷ out) out))) t,
-      sum_by-cons measure (extent_block e) (map extent_block out),
+      ap (λ b. sum_by measure (map block_for_extent (cond b kept (cut from to e ∷ kept)))) t,
+      ap (λ b. sum_by measure (map block_for_extent (cond b (e ∷ out) out))) t,
+      sum_by-cons measure (block_for_extent e) (map block_for_extent out),
     ))
     (λ t. omega (
       arith,
       rest,
       whole,
-      ap (λ b. sum_by measure (map extent_block (cond b kept (cut from to e ∷ kept)))) t,
-      ap (λ b. sum_by measure (map extent_block (cond b (e ∷ out) out))) t,
-      sum_by-cons measure (extent_block e) (map extent_block kept),
+      ap (λ b. sum_by measure (map block_for_extent (cond b kept (cut from to e ∷ kept)))) t,
+      ap (λ b. sum_by measure (map block_for_extent (cond b (e ∷ out) out))) t,
+      sum_by-cons measure (block_for_extent e) (map block_for_extent kept),
     ))
 
 -- a stripped object keeps its limits
@@ -92,8 +93,8 @@ object_stays w addr z all fit is =
     still_there w (gone_things w all all) addr (gone_elsewhere w fit all all addr (ap as_raw is) (ap as_source is)) ∙ is
 
 -- the addresses of headers or trailers
-capsule_addresses : (cs : List Capsule) → addresses_of (map capsule_block cs) ≡ map (λ c. c.block) cs
-capsule_addresses cs = map-map (λ (b : Block). b.addr) capsule_block cs
+capsule_addresses : (cs : List Capsule) → addresses_of (map block_for_capsule cs) ≡ map (λ c. c.block) cs
+capsule_addresses cs = map-map (λ (b : UsedBlock). b.addr) block_for_capsule cs
 
 -- What goes with extents leaves the world `mid`, and the object at an address is then another or none. The queue is served.
 module _ (w : World) (o : Outcome) (addr : ℕ) (z : ZcoObject) (is : thing_at w addr ≡ Some (things.Object z))
@@ -114,7 +115,7 @@ module _ (w : World) (o : Outcome) (addr : ℕ) (z : ZcoObject) (is : thing_at w
       none_marked w o _ did.1 no_takes (ap (λ (v : World). v.marks) rest) refl (ap (λ (v : World). v.taken) rest)
 
   -- the blocks after it
-  after_sums : (measure : Block → ℕ)
+  after_sums : (measure : UsedBlock → ℕ)
       → sum_by measure (blocks_of o.after) + sum_by measure (blocks_at addr (thing_at mid addr))
       ≡ sum_by measure (blocks_of mid) + sum_by measure (blocks_at addr after)
   after_sums measure =
@@ -134,7 +135,7 @@ module _ (w : World) (o : Outcome) (addr : ℕ) (z : ZcoObject) (is : thing_at w
       (swapped_limits mid addr after (valid limits) (gone_limits w (gone_things w all all) limits))
 
   -- there are fewer, where the object has no more than before
-  fewer : ((measure : Block → ℕ) → sum_by measure (blocks_at addr after) ≤ object_sum measure addr z)
+  fewer : ((measure : UsedBlock → ℕ) → sum_by measure (blocks_at addr after) ≤ object_sum measure addr z)
       → Fewer w o.moves o.after
   fewer less = record {
     none = no_takes;
@@ -149,8 +150,8 @@ module _ (w : World) (o : Outcome) (addr : ℕ) (z : ZcoObject) (is : thing_at w
   }
 
   -- and they go with the moves, where sources and extents fit each other
-  moved : FitTogether w → (blocks : List Block) → addresses_of blocks ≡ given
-      → ((measure : Block → ℕ)
+  moved : FitTogether w → (blocks : List UsedBlock) → addresses_of blocks ≡ given
+      → ((measure : UsedBlock → ℕ)
       → sum_by measure blocks + sum_by measure (blocks_at addr after) + extents_sum measure addr all
       ≡ sum_by measure (gone_given w w all all) + object_sum measure addr z)
       → MovesBlocks w o.moves o.after
@@ -172,9 +173,9 @@ module _ (w : World) (o : Outcome) (addr : ℕ) (z : ZcoObject) (is : thing_at w
 
 module _ (w : World) where
   -- the blocks that are given back where an object goes
-  abbrev destroyed : ℕ → ZcoObject → List Block
+  abbrev destroyed : ℕ → ZcoObject → List UsedBlock
   destroyed addr z =
-      map capsule_block z.headers ++ gone_given w w z.extents z.extents ++ map capsule_block z.trailers
+      map block_for_capsule z.headers ++ gone_given w w z.extents z.extents ++ map block_for_capsule z.trailers
       ++ own_block addr (things.Object z) ∷ []
 
   destroyed_begin : (addr : ℕ) (z : ZcoObject) → FitTogether w
@@ -183,17 +184,18 @@ module _ (w : World) where
       let gone = gone_given w w z.extents z.extents in
       let alone = go_alone w (gone_things w z.extents z.extents) (gone_lone w fit z.extents z.extents) in
       let own = own_block addr (things.Object z) in
-      map-append (λ (b : Block). b.addr) (map capsule_block z.headers ++ gone ++ map capsule_block z.trailers) (own ∷ [])
+      map-append (λ (b : UsedBlock). b.addr) (map block_for_capsule z.headers ++ gone ++ map block_for_capsule z.trailers) (own ∷ [])
       ∙ ap (λ bs. bs ++ addr ∷ [])
-      (map-append (λ (b : Block). b.addr) (map capsule_block z.headers ++ gone) (map capsule_block z.trailers)
-      ∙ ap (λ bs. bs ++ addresses_of (map capsule_block z.trailers))
-      (map-append (λ (b : Block). b.addr) (map capsule_block z.headers) gone
+      (map-append (λ (b : UsedBlock). b.addr) (map block_for_capsule z.headers ++ gone)
+          (map block_for_capsule z.trailers)
+      ∙ ap (λ bs. bs ++ addresses_of (map block_for_capsule z.trailers))
+      (map-append (λ (b : UsedBlock). b.addr) (map block_for_capsule z.headers) gone
       ∙ ap (λ bs. bs ++ addresses_of gone) (capsule_addresses z.headers)
       ∙ ap (λ bs. map (λ c. c.block) z.headers ++ bs) (addresses_of-gone_given w w z.extents z.extents alone))
       ∙ ap (λ bs. map (λ c. c.block) z.headers ++ gone_blocks w z.extents z.extents ++ bs)
       (capsule_addresses z.trailers))
 
-  destroyed_sums : (measure : Block → ℕ) (addr : ℕ) (z : ZcoObject)
+  destroyed_sums : (measure : UsedBlock → ℕ) (addr : ℕ) (z : ZcoObject)
       → sum_by measure (destroyed addr z) + 0 + extents_sum measure addr z.extents
       ≡ sum_by measure (gone_given w w z.extents z.extents) + object_sum measure addr z
   destroyed_sums measure addr z =
@@ -202,14 +204,14 @@ module _ (w : World) where
       omega (
         arith,
         object_parts measure addr z,
-        sum_by-append measure (map capsule_block z.headers ++ gone ++ map capsule_block z.trailers) (own ∷ []),
-        sum_by-append measure (map capsule_block z.headers ++ gone) (map capsule_block z.trailers),
-        sum_by-append measure (map capsule_block z.headers) gone,
+        sum_by-append measure (map block_for_capsule z.headers ++ gone ++ map block_for_capsule z.trailers) (own ∷ []),
+        sum_by-append measure (map block_for_capsule z.headers ++ gone) (map block_for_capsule z.trailers),
+        sum_by-append measure (map block_for_capsule z.headers) gone,
         sum_by-cons measure own [],
       )
 
 -- the blocks of an object that is stripped
-stripped_sums : (measure : Block → ℕ) (addr : ℕ) (z : ZcoObject)
+stripped_sums : (measure : UsedBlock → ℕ) (addr : ℕ) (z : ZcoObject)
     → object_sum measure addr (part.stripped z) + extents_sum measure addr (part.outside_part z)
     ≡ object_sum measure addr z
 stripped_sums measure addr z =

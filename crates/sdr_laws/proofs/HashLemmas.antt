@@ -12,11 +12,11 @@ use Rattle.std.proofs.lemmas.Option.{slice_get-get_or}
 use Rattle.sdr_laws.proofs.EditLemmas.{All-insert, All-remove, IsDistinct-insert, IsDistinct-remove, IsNonDecreasingBy-insert_behind, IsNonDecreasingBy-remove, count_by-map, map-insert, map-remove, no_position, prefix_len-map}
 use Rattle.sdr_model.proofs.SumLemmas.{sum_by-map}
 use Rattle.sdr_base.specs.declared.kind.Kind.TheVariants as kinds
-use Rattle.sdr_model.specs.HashSteps.{addr_of, bucket_of, bucket_place, entry_addr, has_key}
+use Rattle.sdr_model.specs.HashSteps.{entry_addr_or_zero, bucket_of, bucket_place, entry_addr, has_key}
 use Rattle.sdr_model.specs.Hashes.{Hash}
 use Rattle.sdr_model.specs.Things.{entry_block, entry_need, own_block}
 use Rattle.sdr_model.specs.Valid.{IsValidHash, keys_of}
-use Rattle.sdr_model.specs.declared.things.Block.{Block}
+use Rattle.sdr_model.specs.declared.things.UsedBlock.{UsedBlock}
 use Rattle.sdr_model.specs.declared.things.HashEntry.{HashEntry}
 use Rattle.sdr_model.specs.declared.things.Thing.TheVariants as things
 
@@ -32,7 +32,7 @@ key_of : HashEntry → List ℕ
 key_of e = e.key
 
 -- the block of an entry at an address, whose key has so many bytes
-abbrev pub entry_block_at : ℕ → ℕ → Block
+abbrev pub entry_block_at : ℕ → ℕ → UsedBlock
 entry_block_at key_length addr = record { addr = addr; kind = kinds.HashEntry; bytes = entry_need key_length }
 
 -- a hash stays valid with keys of its length that differ and stand by bucket
@@ -110,10 +110,11 @@ module _ (hash : Hash) where
       (entry_addr hash.entries place ≡ (get_or hash.entries place no_entry).block)
   entry_there key place is =
       let stands = position-Some (has_key key) hash.entries place no_entry is in
-      (stands.0, same_text key _ (sym stands.1), ap addr_of (slice_get-get_or hash.entries place no_entry stands.0))
+      (stands.0, same_text key _ (sym stands.1), ap entry_addr_or_zero
+          (slice_get-get_or hash.entries place no_entry stands.0))
 
   -- the blocks of a hash, with one entry more or one less
-  module _ (measure : Block → ℕ) (addr : ℕ) where
+  module _ (measure : UsedBlock → ℕ) (addr : ℕ) where
     abbrev hash_sum : List HashEntry → ℕ
     hash_sum entries = sum_by measure (own_block addr (things.Hash hash) ∷ map entry_block entries)
 

@@ -22,7 +22,7 @@ use Rattle.sdr_model.specs.World.{World, thing_at}
 use Rattle.sdr_model.specs.declared.answer.Reply.TheVariants as replies
 use Rattle.sdr_model.specs.declared.call.Call.{Call}
 use Rattle.sdr_model.specs.declared.call.Call.TheVariants as calls
-use Rattle.sdr_model.specs.declared.things.Block.{Block}
+use Rattle.sdr_model.specs.declared.things.UsedBlock.{UsedBlock}
 use Rattle.sdr_model.specs.declared.things.HashEntry.{HashEntry}
 use Rattle.sdr_model.specs.declared.things.Thing.TheVariants as things
 
@@ -132,4 +132,4 @@ module _ {w : World} {o : Outcome} where
       on_addr addr (hash.as_hash (thing_at w addr)) h (λ t is d.
       does d refl (λ at. ap (λ r. gave (entries_in r ++ addr ∷ [])) is)
       (goes addr (things.Hash t) (map (λ (e : HashEntry). e.block) t.entries) (hash_is _ _ is)
-      (map-map (λ (b : Block). b.addr) entry_block t.entries) itself d))
+      (map-map (λ (b : UsedBlock). b.addr) entry_block t.entries) itself d))

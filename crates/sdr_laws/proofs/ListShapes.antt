@@ -19,12 +19,12 @@ use Rattle.sdr_model.specs.ListSteps as list
 use Rattle.sdr_model.specs.Reading.{is_reading}
 use Rattle.sdr_model.specs.RowMoves.{row_moves, takes, elements_in}
 use Rattle.sdr_model.specs.Steps.{Outcome, gave}
-use Rattle.sdr_model.specs.Things.{Spot, list_need, element_need, own_block, element_block}
+use Rattle.sdr_model.specs.Things.{Spot, list_need, element_need, own_block, block_for_element}
 use Rattle.sdr_model.specs.World.{World, thing_at, spot_of}
 use Rattle.sdr_model.specs.declared.answer.Reply.TheVariants as replies
 use Rattle.sdr_model.specs.declared.call.Call.{Call}
 use Rattle.sdr_model.specs.declared.call.Call.TheVariants as calls
-use Rattle.sdr_model.specs.declared.things.Block.{Block}
+use Rattle.sdr_model.specs.declared.things.UsedBlock.{UsedBlock}
 use Rattle.sdr_model.specs.declared.things.Element.{Element}
 use Rattle.sdr_model.specs.declared.things.SdrList.{SdrList}
 use Rattle.sdr_model.specs.declared.things.Thing.TheVariants as things
@@ -34,33 +34,33 @@ pub no_element : Element
 no_element = record { block = 0; datum = 0 }
 
 -- the blocks of a list's elements, with one more or one less
-module _ (measure : Block → ℕ) (addr : ℕ) (row : SdrList) where
+module _ (measure : UsedBlock → ℕ) (addr : ℕ) (row : SdrList) where
   abbrev list_sum : List Element → ℕ
-  list_sum elements = sum_by measure (own_block addr (things.List row) ∷ map element_block elements)
+  list_sum elements = sum_by measure (own_block addr (things.List row) ∷ map block_for_element elements)
 
   list_sum-insert : (place : ℕ) (e : Element)
-      → list_sum (insert row.elements place e) ≡ list_sum row.elements + measure (element_block e)
+      → list_sum (insert row.elements place e) ≡ list_sum row.elements + measure (block_for_element e)
   list_sum-insert place e =
       omega (
         arith,
-        sum_by-cons measure (own_block addr (things.List row)) (map element_block (insert row.elements place e)),
-        sum_by-cons measure (own_block addr (things.List row)) (map element_block row.elements),
-        sum_by-map measure element_block (insert row.elements place e),
-        sum_by-map measure element_block row.elements,
-        sum_by-insert (λ e. measure (element_block e)) row.elements place e,
+        sum_by-cons measure (own_block addr (things.List row)) (map block_for_element (insert row.elements place e)),
+        sum_by-cons measure (own_block addr (things.List row)) (map block_for_element row.elements),
+        sum_by-map measure block_for_element (insert row.elements place e),
+        sum_by-map measure block_for_element row.elements,
+        sum_by-insert (λ e. measure (block_for_element e)) row.elements place e,
       )
 
   list_sum-remove : (place : ℕ) → place < length row.elements
       → list_sum (remove row.elements place) + measure
-      (element_block (get_or row.elements place no_element)) ≡ list_sum row.elements
+      (block_for_element (get_or row.elements place no_element)) ≡ list_sum row.elements
   list_sum-remove place within =
       omega (
         arith,
-        sum_by-cons measure (own_block addr (things.List row)) (map element_block (remove row.elements place)),
-        sum_by-cons measure (own_block addr (things.List row)) (map element_block row.elements),
-        sum_by-map measure element_block (remove row.elements place),
-        sum_by-map measure element_block row.elements,
-        sum_by-remove (λ e. measure (element_block e)) row.elements place no_element within,
+        sum_by-cons measure (own_block addr (things.List row)) (map block_for_element (remove row.elements place)),
+        sum_by-cons measure (own_block addr (things.List row)) (map block_for_element row.elements),
+        sum_by-map measure block_for_element (remove row.elements place),
+        sum_by-map measure block_for_element row.elements,
+        sum_by-remove (λ e. measure (block_for_element e)) row.elements place no_element within,
       )
 
 -- the element of a spot stands at its place
@@ -71,7 +71,7 @@ at_place w element s is =
     (stands.0, eqb-true _ _ stands.1)
 
 -- the block of an element at an address
-abbrev block_at_addr : ℕ → Block
+abbrev block_at_addr : ℕ → UsedBlock
 block_at_addr addr = record { addr = addr; kind = kinds.Element; bytes = element_need }
 
 module _ {w : World} {o : Outcome} where
@@ -86,7 +86,7 @@ module _ {w : World} {o : Outcome} where
       on_addr addr (list.as_list (thing_at w addr)) h (λ row is d.
       does d refl (λ at. ap (λ r. gave (elements_in r ++ addr ∷ [])) is)
       (goes addr (things.List row) (map (λ (e : Element). e.block) row.elements) (list_is _ _ is)
-      (map-map (λ (b : Block). b.addr) element_block row.elements) itself d))
+      (map-map (λ (b : UsedBlock). b.addr) block_for_element row.elements) itself d))
 
   pub set_list_user : (addr user : ℕ) → list.SetListUser w o addr user → Shape w (calls.SetListUser addr user) o
   set_list_user addr user h =
@@ -137,9 +137,9 @@ module _ {w : World} {o : Outcome} where
   set_datum element datum h =
       on_addr element (spot_of w element) h (λ s is d.
       let there = at_place w element s is in
-      let same : map element_block
-      (set s.row.elements s.place (record { block = element; datum = datum })) ≡ map element_block s.row.elements =
-      map-set_same element_block s.row.elements s.place (record { block = element; datum = datum }) no_element
+      let same : map block_for_element
+      (set s.row.elements s.place (record { block = element; datum = datum })) ≡ map block_for_element s.row.elements =
+      map-set_same block_for_element s.row.elements s.place (record { block = element; datum = datum }) no_element
       (ap block_at_addr (sym there.1)) in
       does d refl (λ at. refl)
       (stays s.list (things.List s.row)

@@ -11,11 +11,11 @@ use Rattle.sdr_lock.proofs.StepLemmas.{IsCalled, Kind, step_is}
 use Rattle.sdr_lock.specs.Core.{Core, RunsCore, first_core}
 use Rattle.sdr_lock.specs.Ground.{Ground, HasHeap, State, StepsBare, StepsOn, bare}
 use Rattle.sdr_lock.specs.Machine.{Machine, Made}
-use Rattle.sdr_lock.specs.Transaction.{OpenTransaction, left_by}
+use Rattle.sdr_lock.specs.Transaction.{OpenTransaction, state_left}
 use Rattle.sdr_model.specs.Accounts.{ticket_blocks}
 use Rattle.sdr_model.specs.Blocks.{addresses_of, blocks_of, things_blocks}
 use Rattle.sdr_model.specs.Dry.{StepsDry, StopsReading}
-use Rattle.sdr_model.specs.Things.{name_block}
+use Rattle.sdr_model.specs.Things.{block_for_name}
 use Rattle.sdr_model.specs.World.{World, empty_world}
 use Rattle.sdr_model.specs.declared.answer.Close.{Close}
 use Rattle.sdr_model.specs.declared.answer.Close.TheVariants as closes
@@ -40,7 +40,7 @@ again w v v' things names accounts more f = record {
 }
   where
     blocks : blocks_of v' ≡ blocks_of v
-    blocks i = things_blocks (things i) ++ map name_block (names i) ++ ticket_blocks (accounts i)
+    blocks i = things_blocks (things i) ++ map block_for_name (names i) ++ ticket_blocks (accounts i)
 
     given : All (λ addr. addr ≤ 8 * v.taken) (addresses_of (blocks_of v'))
     given = subst (λ bs. All (λ addr. addr ≤ 8 * v.taken) (addresses_of bs)) (sym blocks) f.valid.given
@@ -75,7 +75,7 @@ sound_in m before now before_is now_is before_bare now_bare world current = reco
 
 -- what a closed transaction leaves
 sound_closed : (m : Machine) (close : Close) → IsSound m
-    → (let left = left_by close m.before m.now in (left.base ≡ Ground.NoHeap) × Follows m.before.world left.world)
+    → (let left = state_left close m.before m.now in (left.base ≡ Ground.NoHeap) × Follows m.before.world left.world)
 sound_closed m closes.Ended sound =
     (sound.now_bare, again m.before.world m.now.world _ refl refl refl (omega arith) sound.current)
 sound_closed m close sound =
@@ -96,7 +96,8 @@ kind_sound m m' e sound (Kind.stays quiet before now) =
 kind_sound m m' e sound (Kind.called c) = called_sound m m' e sound c
 kind_sound m m' e sound (Kind.closed close quiet before now) =
     let left = sound_closed m close sound in
-    sound_in m' (left_by close m.before m.now) (left_by close m.before m.now) before now left.0 left.0 left.1.valid
+    sound_in m' (state_left close m.before m.now) (state_left close m.before m.now) before now left.0 left.0
+        left.1.valid
     (record { valid = left.1.valid; order = omega arith })
 kind_sound m m' e sound (Kind.failed quiet heap before now) = absurd (subst HasHeap sound.before_bare heap)
 

@@ -22,7 +22,7 @@ use Rattle.sdr_model.specs.NameSteps as catalogue
 use Rattle.sdr_model.specs.Names.{name_of, without_name}
 use Rattle.sdr_model.specs.RowMoves.{block_of}
 use Rattle.sdr_model.specs.Step.{is_answer}
-use Rattle.sdr_model.specs.Things.{name_block, name_need}
+use Rattle.sdr_model.specs.Things.{block_for_name, name_need}
 use Rattle.sdr_model.specs.Valid.{AreDistinct, IsBetween, names_of}
 use Rattle.sdr_model.specs.World.{World}
 use Rattle.sdr_model.specs.declared.answer.Reply.TheVariants as replies
@@ -88,7 +88,7 @@ module _ {w : World} {o : Outcome} where
       ap (map (λ (n : Name). n.name)) names ∙ map-append (λ (n : Name). n.name) w.names (n ∷ []) in
       let last : names_of o.after ≡ _ = all ∙ sym (insert_end (names_of w) name) in
       swaps_names w o (record {
-        taken = name_block n ∷ [];
+        taken = block_for_name n ∷ [];
         given = [];
         answered = answered;
         marks = one_marked w o addr _ is takes refl refl refl;
@@ -100,9 +100,9 @@ module _ {w : World} {o : Outcome} where
         sums = λ measure.
             omega (
               arith,
-              ap (λ ns. sum_by measure (map name_block ns)) names,
-              ap (sum_by measure) (map-append name_block w.names (n ∷ [])),
-              sum_by-append measure (map name_block w.names) (name_block n ∷ []),
+              ap (λ ns. sum_by measure (map block_for_name ns)) names,
+              ap (sum_by measure) (map-append block_for_name w.names (n ∷ [])),
+              sum_by-append measure (map block_for_name w.names) (block_for_name n ∷ []),
             );
         names = λ limits. subst (All (λ name. IsBetween 1 longest_name (length name))) (sym last)
             (All-insert (λ name. IsBetween 1 longest_name (length name)) (names_of w) (length (names_of w)) name
@@ -138,7 +138,7 @@ module _ {w : World} {o : Outcome} where
       let inside : s.place < length (names_of w) = omega (arith, s.within, length-map w.names (λ (n : Name). n.name)) in
       swaps_names w o (record {
         taken = [];
-        given = name_block n ∷ [];
+        given = block_for_name n ∷ [];
         answered = ap is_answer reply;
         marks = none_marked w o _ did (ap taken_addresses moves) refl refl refl;
         needs = sym (ap taken_needs moves);
@@ -149,11 +149,11 @@ module _ {w : World} {o : Outcome} where
         sums = λ measure.
             omega (
               arith,
-              ap (λ ns. sum_by measure (map name_block ns)) gone,
-              sum_by-map measure name_block (remove w.names s.place),
-              sum_by-map measure name_block w.names,
-              sum_by-remove (λ n. measure (name_block n)) w.names s.place no_name s.within,
-              ap (λ n. measure (name_block n)) s.there,
+              ap (λ ns. sum_by measure (map block_for_name ns)) gone,
+              sum_by-map measure block_for_name (remove w.names s.place),
+              sum_by-map measure block_for_name w.names,
+              sum_by-remove (λ n. measure (block_for_name n)) w.names s.place no_name s.within,
+              ap (λ n. measure (block_for_name n)) s.there,
             );
         names = λ limits. subst (All (λ name. IsBetween 1 longest_name (length name))) (sym all)
             (All-remove (λ name. IsBetween 1 longest_name (length name)) (names_of w) s.place inside limits.names);

@@ -22,7 +22,7 @@ use Rattle.sdr_model.specs.Steps.{Outcome, taken_addresses, takes_from, with_thi
 use Rattle.sdr_model.specs.Things.{extent_need}
 use Rattle.sdr_model.specs.Valid.{AreInside, FitTogether, IsValid, IsValidCapsule, IsValidThing, LiesInside}
 use Rattle.sdr_model.specs.World.{World, as_raw, thing_at}
-use Rattle.sdr_model.specs.Zco.{object_at, source_at, source_on}
+use Rattle.sdr_model.specs.Zco.{object_at, source_at, source_naming}
 use Rattle.sdr_model.specs.declared.answer.Reply.TheVariants as replies
 use Rattle.sdr_model.specs.declared.things.Thing.{Thing}
 use Rattle.sdr_model.specs.declared.things.Thing.TheVariants as things
@@ -223,7 +223,7 @@ module _ (w : World) (valid : IsValid w) (fit : FitTogether w) where
       → object_at w addr ≡ Some z → as_raw (thing_at w raw) ≡ Some text
       → KeepsFields w (λ o. object.AppendsRaw w o addr z number raw text offset bytes)
   appends_raw addr z number raw text offset bytes is there =
-      found (source_on w raw)
+      found (source_naming w raw)
       (in_test (bytes == 0 || nat_lt (length text) (offset + bytes)) refused (λ ranged.
       charges (λ o used. TakesOver w o addr z raw text offset bytes used) z.account number
       (bytes_charge spaces.Heap bytes) (λ used like.

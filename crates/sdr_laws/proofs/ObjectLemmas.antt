@@ -8,10 +8,10 @@ use Rattle.std.proofs.lemmas.List.Sums.{sum_by-append, sum_by-cons}
 use Rattle.sdr_laws.proofs.DistinctLemmas.{on_test}
 use Rattle.sdr_model.specs.Blocks.{thing_blocks}
 use Rattle.sdr_model.specs.ObjectSteps.{last_capsule, with_extent, with_header, with_trailer, without_header, without_trailer}
-use Rattle.sdr_model.specs.Things.{capsule_block, extent_block, object_blocks, own_block}
+use Rattle.sdr_model.specs.Things.{block_for_capsule, block_for_extent, object_blocks, own_block}
 use Rattle.sdr_model.specs.Valid.{IsValidCapsule, IsValidObject}
 use Rattle.sdr_model.specs.Zco.{extents_length}
-use Rattle.sdr_model.specs.declared.things.Block.{Block}
+use Rattle.sdr_model.specs.declared.things.UsedBlock.{UsedBlock}
 use Rattle.sdr_model.specs.declared.things.Thing.TheVariants as things
 use Rattle.sdr_model.specs.declared.zco.Capsule.{Capsule}
 use Rattle.sdr_model.specs.declared.zco.Extent.{Extent}
@@ -22,13 +22,13 @@ pub extents_length-push : (es : List Extent) (e : Extent)
     → extents_length (es ++ e ∷ []) ≡ extents_length es + e.length
 extents_length-push es e = omega (arith, sum_by-append (λ (e : Extent). e.length) es (e ∷ []))
 
-module _ (measure : Block → ℕ) (addr : ℕ) where
+module _ (measure : UsedBlock → ℕ) (addr : ℕ) where
   -- what is measured of headers or trailers, of extents, and of an object's blocks
   abbrev pub capsules_sum : List Capsule → ℕ
-  capsules_sum cs = sum_by measure (map capsule_block cs)
+  capsules_sum cs = sum_by measure (map block_for_capsule cs)
 
   abbrev pub extents_sum : List Extent → ℕ
-  extents_sum es = sum_by measure (map extent_block es)
+  extents_sum es = sum_by measure (map block_for_extent es)
 
   abbrev pub object_sum : ZcoObject → ℕ
   object_sum z = sum_by measure (thing_blocks addr (things.Object z))
@@ -40,83 +40,83 @@ module _ (measure : Block → ℕ) (addr : ℕ) where
       omega (
         arith,
         sum_by-cons measure (own_block addr (things.Object z)) (object_blocks z),
-        sum_by-append measure (map capsule_block z.headers ++ map extent_block z.extents) (map capsule_block z.trailers),
-        sum_by-append measure (map capsule_block z.headers) (map extent_block z.extents),
+        sum_by-append measure (map block_for_capsule z.headers ++ map block_for_extent z.extents) (map block_for_capsule z.trailers),
+        sum_by-append measure (map block_for_capsule z.headers) (map block_for_extent z.extents),
       )
 
   capsules_push : (cs : List Capsule) (c : Capsule)
-      → capsules_sum (cs ++ c ∷ []) ≡ capsules_sum cs + measure (capsule_block c)
+      → capsules_sum (cs ++ c ∷ []) ≡ capsules_sum cs + measure (block_for_capsule c)
   capsules_push cs c =
       omega (
         arith,
-        ap (sum_by measure) (map-append capsule_block cs (c ∷ [])),
-        sum_by-append measure (map capsule_block cs) (capsule_block c ∷ []),
+        ap (sum_by measure) (map-append block_for_capsule cs (c ∷ [])),
+        sum_by-append measure (map block_for_capsule cs) (block_for_capsule c ∷ []),
       )
 
   extents_push : (es : List Extent) (e : Extent)
-      → extents_sum (es ++ e ∷ []) ≡ extents_sum es + measure (extent_block e)
+      → extents_sum (es ++ e ∷ []) ≡ extents_sum es + measure (block_for_extent e)
   extents_push es e =
       omega (
         arith,
-        ap (sum_by measure) (map-append extent_block es (e ∷ [])),
-        sum_by-append measure (map extent_block es) (extent_block e ∷ []),
+        ap (sum_by measure) (map-append block_for_extent es (e ∷ [])),
+        sum_by-append measure (map block_for_extent es) (block_for_extent e ∷ []),
       )
 
   -- with one more of each
   pub with_header-sum : (z : ZcoObject) (c : Capsule)
-      → object_sum (with_header z c) ≡ object_sum z + measure (capsule_block c)
+      → object_sum (with_header z c) ≡ object_sum z + measure (block_for_capsule c)
   with_header-sum z c =
       omega (
         arith,
         object_parts z,
         object_parts (with_header z c),
-        sum_by-cons measure (capsule_block c) (map capsule_block z.headers),
+        sum_by-cons measure (block_for_capsule c) (map block_for_capsule z.headers),
       )
 
   pub with_trailer-sum : (z : ZcoObject) (c : Capsule)
-      → object_sum (with_trailer z c) ≡ object_sum z + measure (capsule_block c)
+      → object_sum (with_trailer z c) ≡ object_sum z + measure (block_for_capsule c)
   with_trailer-sum z c =
       omega (arith, object_parts z, object_parts (with_trailer z c), capsules_push z.trailers c)
 
   pub with_extent-sum : (z : ZcoObject) (e : Extent)
-      → object_sum (with_extent z e) ≡ object_sum z + measure (extent_block e)
+      → object_sum (with_extent z e) ≡ object_sum z + measure (block_for_extent e)
   with_extent-sum z e = omega (arith, object_parts z, object_parts (with_extent z e), extents_push z.extents e)
 
   -- the first of some
   capsules_drop : (cs : List Capsule) (c : Capsule) → slice_get cs 0 ≡ Some c
-      → capsules_sum (drop 1 cs) + measure (capsule_block c) ≡ capsules_sum cs
+      → capsules_sum (drop 1 cs) + measure (block_for_capsule c) ≡ capsules_sum cs
   capsules_drop [] c is = let none : None ≡ Some c = is in absurd cc
   capsules_drop (x ∷ cs) c is =
       let first : x ≡ c = ap (λ o. unwrap_or o c) is in
       omega (
         arith,
-        sum_by-cons measure (capsule_block x) (map capsule_block cs),
-        ap (λ c. measure (capsule_block c)) first,
+        sum_by-cons measure (block_for_capsule x) (map block_for_capsule cs),
+        ap (λ c. measure (block_for_capsule c)) first,
       )
 
   -- and the last
   capsules_take : (cs : List Capsule) (n : ℕ) (c : Capsule) → length cs ≤ n + 1 → slice_get cs n ≡ Some c
-      → capsules_sum (take n cs) + measure (capsule_block c) ≡ capsules_sum cs
+      → capsules_sum (take n cs) + measure (block_for_capsule c) ≡ capsules_sum cs
   capsules_take [] n c few is = let none : None ≡ Some c = is in absurd cc
   capsules_take (x ∷ []) zero c few is =
-      let first : x ≡ c = ap (λ o. unwrap_or o c) is in omega (arith, ap (λ c. measure (capsule_block c)) first)
+      let first : x ≡ c = ap (λ o. unwrap_or o c) is in omega (arith, ap (λ c. measure (block_for_capsule c)) first)
   capsules_take (x ∷ y ∷ cs) zero c few is = absurd (omega (arith, few))
   capsules_take (x ∷ cs) (suc n) c few is =
       omega (
         arith,
         capsules_take cs n c (omega (arith, few)) is,
-        sum_by-cons measure (capsule_block x) (map capsule_block cs),
-        sum_by-cons measure (capsule_block x) (map capsule_block (take n cs)),
+        sum_by-cons measure (block_for_capsule x) (map block_for_capsule cs),
+        sum_by-cons measure (block_for_capsule x) (map block_for_capsule (take n cs)),
       )
 
   -- with one less
   pub without_header-sum : (z : ZcoObject) (c : Capsule) → slice_get z.headers 0 ≡ Some c
-      → object_sum (without_header z) + measure (capsule_block c) ≡ object_sum z
+      → object_sum (without_header z) + measure (block_for_capsule c) ≡ object_sum z
   without_header-sum z c is =
       omega (arith, object_parts z, object_parts (without_header z), capsules_drop z.headers c is)
 
   pub without_trailer-sum : (z : ZcoObject) (c : Capsule) → last_capsule z.trailers ≡ Some c
-      → object_sum (without_trailer z) + measure (capsule_block c) ≡ object_sum z
+      → object_sum (without_trailer z) + measure (block_for_capsule c) ≡ object_sum z
   without_trailer-sum z c is =
       omega (
         arith,

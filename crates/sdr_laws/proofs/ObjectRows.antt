@@ -18,7 +18,7 @@ use Rattle.sdr_model.specs.SourceSteps as source
 use Rattle.sdr_model.specs.Steps.{DoesWith, Takes, taken_at, with_thing}
 use Rattle.sdr_model.specs.Valid.{LiesInside}
 use Rattle.sdr_model.specs.World.{World, as_raw, thing_at}
-use Rattle.sdr_model.specs.Zco.{empty_object, naming, object_at, source_at, source_on, space_of}
+use Rattle.sdr_model.specs.Zco.{empty_object, naming, object_at, source_at, source_naming, space_of}
 use Rattle.sdr_model.specs.declared.call.Call.{Call}
 use Rattle.sdr_model.specs.declared.call.Call.TheVariants as calls
 use Rattle.sdr_model.specs.Things.{capsule_need, extent_need, object_need}
@@ -107,7 +107,7 @@ module _ (w : World) where
   appends_raw addr number raw z text offset bytes was is no_source =
       let e : (ℕ → ℕ) → Extent = λ at. record { block = at 1; source = at 0; offset = offset; length = bytes } in
       let s = source.new_source (subjects.Heap raw) (length text) in
-      found (source_on w raw) (λ none.
+      found (source_naming w raw) (λ none.
       asked (bytes == 0 || nat_lt (length text) (offset + bytes)) (λ out. refused) (λ in_it.
       charging (λ used o. DoesWith w o object.raw_append_moves
       (λ at. object.with_object (with_thing used (at 0) (things.Source s)) addr (object.with_extent z (e at)))

@@ -23,14 +23,14 @@ use Rattle.sdr_model.specs.PartSteps as part
 use Rattle.sdr_model.specs.Reading.{is_reading}
 use Rattle.sdr_model.specs.RowMoves.{append_moves, block_of_capsule, first_header, last_trailer, row_moves, takes}
 use Rattle.sdr_model.specs.Steps.{Outcome, Takes, gave}
-use Rattle.sdr_model.specs.Things.{capsule_block, capsule_need, extent_block, extent_need, object_need}
+use Rattle.sdr_model.specs.Things.{block_for_capsule, capsule_need, block_for_extent, extent_need, object_need}
 use Rattle.sdr_model.specs.Valid.{IsValidCapsule, IsValidObject}
 use Rattle.sdr_model.specs.World.{World, thing_at}
 use Rattle.sdr_model.specs.Zco.{empty_object, extents_length, object_at, source_at, space_of}
 use Rattle.sdr_model.specs.declared.answer.Reply.TheVariants as replies
 use Rattle.sdr_model.specs.declared.call.Call.{Call}
 use Rattle.sdr_model.specs.declared.call.Call.TheVariants as calls
-use Rattle.sdr_model.specs.declared.things.Block.{Block}
+use Rattle.sdr_model.specs.declared.things.UsedBlock.{UsedBlock}
 use Rattle.sdr_model.specs.declared.things.Thing.TheVariants as things
 use Rattle.sdr_model.specs.declared.zco.Capsule.{Capsule}
 use Rattle.sdr_model.specs.declared.zco.Extent.{Extent}
@@ -78,9 +78,9 @@ module _ {w : World} {o : Outcome} where
   adds_capsule : {call : Call} → is_reading call ≡ false → (addr number : ℕ) (text : List ℕ)
       → ((at : ℕ → ℕ) → row_moves w call at ≡ takes at (capsule_need (length text)))
       → (with_capsule : ZcoObject → Capsule → ZcoObject)
-      → ((measure : Block → ℕ) (z : ZcoObject) (c : Capsule)
+      → ((measure : UsedBlock → ℕ) (z : ZcoObject) (c : Capsule)
       → sum_by measure (thing_blocks addr (things.Object (with_capsule z c)))
-      ≡ sum_by measure (thing_blocks addr (things.Object z)) + measure (capsule_block c))
+      ≡ sum_by measure (thing_blocks addr (things.Object z)) + measure (block_for_capsule c))
       → ((z : ZcoObject) (c : Capsule) → IsValidCapsule c → IsValidObject z → IsValidObject (with_capsule z c))
       → object.AddsCapsule w o addr number text with_capsule → Shape w call o
   adds_capsule changing addr number text moves with_capsule sums valid h =
@@ -91,7 +91,7 @@ module _ {w : World} {o : Outcome} where
       let c : ℕ → Capsule = λ a. record { block = a; text = text } in
       takes_one (capsule_need (length text)) _ made changing moves
       (gains addr (capsule_need (length text)) (things.Object z) (λ a. things.Object (with_capsule z (c a)))
-      (λ a. capsule_block (c a)) _ (object_is _ _ is)
+      (λ a. block_for_capsule (c a)) _ (object_is _ _ is)
       (λ a. alike-with_thing addr (things.Object (with_capsule z (c a))) like)
       (λ a. refl) (λ a. refl) (λ a. refl) made (λ a measure. sums measure z (c a))
       (λ a. valid z (c a) (between 1 longest_capsule (length text) short))))))
@@ -112,14 +112,14 @@ module _ {w : World} {o : Outcome} where
   discards : {call : Call} → is_reading call ≡ false → (addr : ℕ) (z after : ZcoObject) (capsule : Option Capsule)
       → thing_at w addr ≡ Some (things.Object z)
       → ((c : Capsule) → capsule ≡ Some c → (at : ℕ → ℕ) → row_moves w call at ≡ gave (c.block ∷ []))
-      → ((c : Capsule) → capsule ≡ Some c → (measure : Block → ℕ)
-      → sum_by measure (thing_blocks addr (things.Object after)) + measure (capsule_block c)
+      → ((c : Capsule) → capsule ≡ Some c → (measure : UsedBlock → ℕ)
+      → sum_by measure (thing_blocks addr (things.Object after)) + measure (block_for_capsule c)
       ≡ sum_by measure (thing_blocks addr (things.Object z)))
       → (IsValidObject z → IsValidObject after) → object.Discards w o addr z capsule after → Shape w call o
   discards changing addr z after capsule is moves sums valid h =
       on_some capsule _ h refl (λ c there d.
       does d changing (moves c there)
-      (loses addr (things.Object z) (things.Object after) (capsule_block c) is
+      (loses addr (things.Object z) (things.Object after) (block_for_capsule c) is
       (alike-served (object.with_object w addr after) z.account) d (sums c there) valid))
 
   pub discard_first_header : (addr : ℕ) → object.DiscardFirstHeader w o addr
@@ -172,7 +172,7 @@ module _ {w : World} {o : Outcome} where
       let e : ℕ → Extent = λ a. record { block = a; source = named; offset = offset; length = bytes } in
       takes_one extent_need _ made refl (λ at. ap (λ s. append_moves s at) there)
       (gains addr extent_need (things.Object z) (λ a. things.Object (object.with_extent z (e a)))
-      (λ a. extent_block (e a)) _ (object_is _ _ is)
+      (λ a. block_for_extent (e a)) _ (object_is _ _ is)
       (λ a. alike-with_thing addr (things.Object (object.with_extent z (e a))) like)
       (λ a. refl) (λ a. refl) (λ a. refl) made (λ a measure. with_extent-sum measure addr z (e a))
       (λ a. valid_with_extent z (e a) (in_range offset bytes s.length ranged).0)))))

@@ -25,7 +25,7 @@ use Rattle.sdr_model.specs.declared.accounts.Pending.{Pending}
 use Rattle.sdr_model.specs.Amounts.{amount, amounts_by, minus}
 use Rattle.sdr_model.specs.Blocks.{addresses_of, blocks_of}
 use Rattle.sdr_model.specs.Charges.{left_in, occupancies, occupancy}
-use Rattle.sdr_model.specs.Charging.{grant_left, with_used}
+use Rattle.sdr_model.specs.Charging.{grant_left, with_covered}
 use Rattle.sdr_model.specs.Queue.{enqueued, stands_before, served, with_served}
 use Rattle.sdr_model.specs.Step.{Step, is_answer}
 use Rattle.sdr_model.specs.Steps.{Outcome}
@@ -189,7 +189,7 @@ module _ (w : World) (q : AreQueues w.accounts) where
     where
       by : (p : Option Pending) → p ≡ ticket_under w.accounts acct number
           → IfSome p (λ p. (pending_in w.accounts acct number ≡ Some p) × (p.ticket.granted ≡ true))
-          → after.accounts ≡ (with_used w p (amounts_by adds)).accounts
+          → after.accounts ≡ (with_covered w p (amounts_by adds)).accounts
           → MovesQueue w after acct number (adds space) 0 space
       by None under there same = record {
         moved =

@@ -30,7 +30,7 @@ use Rattle.sdr_model.specs.Steps.{Outcome, taken_at}
 use Rattle.sdr_model.specs.Things.{with_at, Things, source_need}
 use Rattle.sdr_model.specs.Valid.{AreInside, FitTogether, HasBytes, IsValid, LiesInside}
 use Rattle.sdr_model.specs.World.{World, as_raw, thing_at}
-use Rattle.sdr_model.specs.Zco.{as_object, as_source, names_raw, naming, source_at, source_on, uses_of}
+use Rattle.sdr_model.specs.Zco.{as_object, as_source, names_raw, naming, source_at, source_naming, uses_of}
 use Rattle.sdr_model.specs.declared.call.Call.{Call}
 use Rattle.sdr_model.specs.declared.things.Thing.{Thing}
 use Rattle.sdr_model.specs.declared.things.Thing.TheVariants as things
@@ -57,7 +57,7 @@ none_named raw (e ∷ es) none q t is =
     (λ apart. none_named raw es rest q t
     (sym (ap (λ b. cond b (Some e.1) (finite.find nat_cmp q es)) apart) ∙ is)))
 
-pub unnamed_from : (w : World) (raw : ℕ) → source_on w raw ≡ None → Unnamed w.things raw
+pub unnamed_from : (w : World) (raw : ℕ) → source_naming w raw ≡ None → Unnamed w.things raw
 unnamed_from w raw none q s is =
     none_named raw (finite.entries w.things) (found (find (λ e. names_raw raw e.1) (finite.entries w.things)) none)
     q (things.Source s) (sym (finite.get-entries w.things q) ∙ source_is (thing_at w q) s is)

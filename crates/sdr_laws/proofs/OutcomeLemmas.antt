@@ -19,7 +19,7 @@ use Rattle.sdr_model.specs.Amounts.{amounts_by, first_above, minus}
 use Rattle.sdr_model.specs.Blocks.{addresses_of, blocks_of}
 use Rattle.sdr_model.specs.BondSteps as bond
 use Rattle.sdr_model.specs.Charges.{rooms}
-use Rattle.sdr_model.specs.Charging.{Charges, grant_left, no_space, with_used}
+use Rattle.sdr_model.specs.Charging.{Charges, grant_left, no_space, with_covered}
 use Rattle.sdr_model.specs.Gone.{is_passing, without_things}
 use Rattle.std.specs.FinMap as finite
 use Rattle.sdr_base.specs.declared.moves.Move.TheVariants.{Took}
@@ -30,7 +30,7 @@ use Rattle.sdr_model.specs.Step.{is_answer}
 use Rattle.sdr_model.specs.Steps.{Outcome, Refuses, TakesOne, with_thing, without_thing}
 use Rattle.sdr_model.specs.Valid.{AreInside, HasSubject}
 use Rattle.sdr_model.specs.World.{World, thing_at}
-use Rattle.sdr_model.specs.Zco.{is_of_raw, object_at, source_on}
+use Rattle.sdr_model.specs.Zco.{is_of_raw, object_at, source_naming}
 use Rattle.sdr_model.specs.declared.answer.Reply.{Reply}
 use Rattle.sdr_model.specs.declared.call.Call.{Call}
 use Rattle.sdr_model.specs.declared.things.Thing.{Thing}
@@ -92,7 +92,7 @@ pub used_things : {w used : World} {acct : Acct} {number : ℕ} {adds : Space �
     → IsCharged w acct number adds used → used.things ≡ w.things
 used_things {w} {adds = adds} c = ap (λ (v : World). v.things) c.used_is ∙ same c.pending
   where
-    same : (p : Option Pending) → (with_used w p (amounts_by adds)).things ≡ w.things
+    same : (p : Option Pending) → (with_covered w p (amounts_by adds)).things ≡ w.things
     same None = refl
     same (Some p) = refl
 
@@ -139,14 +139,14 @@ module _ {w : World} {call : Call} where
           let uncovered = minus (amounts_by charge) (grant_left p) in
           MatchOption (barrier uncovered (tickets_of w.accounts acct))
           (MatchOption (first_above uncovered (rooms w acct))
-          (goes (with_used w p (amounts_by charge)) o)
+          (goes (with_covered w p (amounts_by charge)) o)
           (λ space. Refuses w o (no_space w acct uncovered space)))
           (λ t. Refuses w o (refusals.Queue t.number)))
       space p there under =
           let uncovered = minus (amounts_by charge) (grant_left p) in
           found (barrier uncovered (tickets_of w.accounts acct))
           (λ free. found (first_above uncovered (rooms w acct))
-          (λ room. f (with_used w p (amounts_by charge)) (record {
+          (λ room. f (with_covered w p (amounts_by charge)) (record {
             pending = p;
             under = under;
             there = there;
@@ -172,7 +172,7 @@ module _ {w : World} {call : Call} where
   pub makes_source : {need : ℕ} {reply : ℕ → Reply} → Owes w call accts.Inbound nothing nothing nothing
       → (source : ZcoSource) → is_passing source ≡ false
       → HasSubject w source.length source.subject
-      → ((raw : ℕ) → is_of_raw raw source.subject ≡ true → source_on w raw ≡ None)
+      → ((raw : ℕ) → is_of_raw raw source.subject ≡ true → source_naming w raw ≡ None)
       → Comes w call (λ o. TakesOne o.moves need
       (λ a. (o.after ≡ record (with_thing w a (things.Source source)) { marks = w.marks ++ a ∷ []; shown = [] }) ×
       (o.reply ≡ reply a)))

@@ -23,7 +23,7 @@ use Rattle.sdr_model.specs.declared.zco.ZcoObject.{ZcoObject}
 use Rattle.sdr_base.specs.declared.moves.Move.{Move}
 use Rattle.sdr_laws.specs.Fresh.{AreFresh}
 use Rattle.sdr_model.specs.World.{World, as_raw, as_text, block_at, is_marked, spot_of, thing_at}
-use Rattle.sdr_model.specs.Zco.{object_at, source_at, source_on}
+use Rattle.sdr_model.specs.Zco.{object_at, source_at, source_naming}
 use Rattle.sdr_model.specs.declared.answer.Reply.{Reply}
 use Rattle.sdr_model.specs.declared.call.Call.{Call}
 use Rattle.sdr_model.specs.declared.call.Call.TheVariants as calls
@@ -59,7 +59,7 @@ module _ {w : World} where
 
 freed : (w : World) (addr : ℕ) (t : Option Thing) → thing_at w addr ≡ t
     → ArePlain w (λ o. raw.FreesThing w o addr (as_raw t) (as_text t))
-freed w addr (Some (things.Raw bytes)) is = unnamed (source_on w addr) (λ none. record {
+freed w addr (Some (things.Raw bytes)) is = unnamed (source_naming w addr) (λ none. record {
   plain = λ o h. Plain.frees addr bytes is none (ap (λ (v : World). v.things) h.1) (ap (λ (v : World). v.accounts) h.1);
 }) (λ source. refused)
 freed w addr (Some (things.Text text)) is = goes addr (things.Text text) is tt (λ n h. absurd h)

@@ -19,7 +19,7 @@ use Rattle.sdr_model.specs.Accounts.{account_of, most_amount, pending_in, ticket
 use Rattle.sdr_model.specs.declared.accounts.Pending.{Pending}
 use Rattle.sdr_model.specs.Amounts.{amounts_by, are_within, first_above, minus}
 use Rattle.sdr_model.specs.Charges.{occupancies}
-use Rattle.sdr_model.specs.Charging.{with_used}
+use Rattle.sdr_model.specs.Charging.{with_covered}
 use Rattle.sdr_model.specs.Queue.{served, with_served}
 use Rattle.sdr_model.specs.Rows.{ByRow}
 use Rattle.sdr_model.specs.Step.{Step}
@@ -82,7 +82,7 @@ charge_keeps {w} {used} {acct} {number} {adds} c q = subst (λ (v : World). Queu
   where
     by : (p : Option Pending)
         → IfSome p (λ p. (pending_in w.accounts acct number ≡ Some p) × (p.ticket.granted ≡ true))
-        → Queues (with_used w p (amounts_by adds)).accounts
+        → Queues (with_covered w p (amounts_by adds)).accounts
     by None h = q
     by (Some p) h =
         used_keeps w.accounts acct p (amounts_by adds) (stands_there w.accounts acct number p h.0) h.1 q

@@ -16,9 +16,9 @@ use Rattle.sdr_model.specs.RowMoves.{text_length, takes}
 use Rattle.sdr_model.specs.Steps.{Outcome}
 use Rattle.sdr_model.specs.Things.{raw_need, text_need}
 use Rattle.sdr_model.specs.World.{World, thing_at, block_at, as_raw, as_text, is_marked, misnamed}
-use Rattle.sdr_model.specs.Zco.{source_on}
+use Rattle.sdr_model.specs.Zco.{source_naming}
 use Rattle.sdr_model.specs.declared.call.Call.TheVariants as calls
-use Rattle.sdr_model.specs.declared.things.Block.{Block}
+use Rattle.sdr_model.specs.declared.things.UsedBlock.{UsedBlock}
 use Rattle.sdr_model.specs.declared.things.Thing.{Thing}
 use Rattle.sdr_model.specs.declared.things.Thing.TheVariants as things
 
@@ -35,7 +35,7 @@ module _ {w : World} {o : Outcome} where
   freed : (addr : ℕ) (t : Option Thing) → thing_at w addr ≡ t → raw.FreesThing w o addr (as_raw t) (as_text t)
       → Shape w (calls.Free addr) o
   freed addr (Some (things.Raw bytes)) is h =
-      on_none (source_on w addr) _ h (λ s. refl) (λ unnamed d.
+      on_none (source_naming w addr) _ h (λ s. refl) (λ unnamed d.
       does d refl (λ at. refl) (goes addr (things.Raw bytes) [] is refl itself d))
   freed addr (Some (things.Text text)) is h =
       does h refl (λ at. refl) (goes addr (things.Text text) [] is refl itself h)
@@ -61,7 +61,7 @@ module _ {w : World} {o : Outcome} where
       on_passed (is_marked w addr) _ h refl (λ marked d.
       let same : length (overwrite place from bytes) ≡ length bytes =
       length-overwrite place from bytes (ltb-false _ _ within) in
-      let block : ℕ → List Block = λ n. record { addr = addr; kind = kinds.Raw; bytes = raw_need n } ∷ [] in
+      let block : ℕ → List UsedBlock = λ n. record { addr = addr; kind = kinds.Raw; bytes = raw_need n } ∷ [] in
       does d refl (λ at. refl)
       (stays addr (things.Raw bytes) (things.Raw (overwrite place from bytes)) (raw_is _ _ is) itself d
       (λ valid. ap block same) (λ valid. omega (arith, same, valid))))))

@@ -6,7 +6,7 @@ use Rattle.sdr_base.specs.declared.moves.Move.TheVariants.{Took}
 use Rattle.sdr_base.specs.declared.refusal.Refusal.{Refusal}
 use Rattle.sdr_laws.proofs.Changes.{Changes}
 use Rattle.sdr_laws.proofs.ThingChanges.{in_takes}
-use Rattle.sdr_model.specs.Steps.{taken_addresses, Outcome, Refuses, Reads, TakesOne, On, taken_at}
+use Rattle.sdr_model.specs.Steps.{taken_addresses, Outcome, Refuses, ReadsBytes, TakesOne, On, taken_at}
 use Rattle.sdr_laws.specs.Refused.{is_stop}
 use Rattle.sdr_laws.specs.Shows.{ShowsOnly}
 use Rattle.sdr_model.specs.Reading.{is_reading}
@@ -16,7 +16,7 @@ use Rattle.sdr_model.specs.World.{World, misnamed, refusal_for, block_at}
 use Rattle.sdr_model.specs.declared.answer.Reply.{Reply}
 use Rattle.sdr_model.specs.declared.answer.Reply.TheVariants as replies
 use Rattle.sdr_model.specs.declared.call.Call.{Call}
-use Rattle.sdr_model.specs.declared.things.Block.{Block}
+use Rattle.sdr_model.specs.declared.things.UsedBlock.{UsedBlock}
 
 -- a reading call was answered
 pub record Shows (w : World) (call : Call) (o : Outcome) : Type 0 where
@@ -46,7 +46,7 @@ pub data Shape (w : World) (call : Call) (o : Outcome) : Type 0 where
 pub misnamed-IsOfRow : (w : World) (addr : ℕ) → IsOfRow (misnamed w addr)
 misnamed-IsOfRow w addr = by (block_at w addr)
   where
-    by : (o : Option Block) → IsOfRow (refusal_for addr o)
+    by : (o : Option UsedBlock) → IsOfRow (refusal_for addr o)
     by None = refl
     by (Some block) = refl
 
@@ -125,7 +125,7 @@ module _ {w : World} {call : Call} {o : Outcome} where
 
   -- a call that reads what it names
   pub reads_named : {X : Type 0} (addr : ℕ) (x : Option X) (bytes : X → List ℕ) (reply : X → Reply)
-      → On w o addr x (λ v. Reads w o (bytes v) (reply v))
+      → On w o addr x (λ v. ReadsBytes w o (bytes v) (reply v))
       → is_reading call ≡ true → ((v : X) → is_answer (reply v) ≡ true) → ((at : ℕ → ℕ) → row_moves w call at ≡ [])
       → ((shown : List ℕ) → ShowsOnly call w (record w { shown = shown })) → Shape w call o
   reads_named addr x bytes reply h reading answers none only =

@@ -5,7 +5,7 @@ use Rattle.sdr_model.specs.Limits.{is_no_path, longest_source}
 use Rattle.sdr_model.specs.SourceSteps as source
 use Rattle.sdr_model.specs.Valid.{HasBytes}
 use Rattle.sdr_model.specs.World.{World, as_raw, thing_at}
-use Rattle.sdr_model.specs.Zco.{owned_raw, source_at, source_on, uses_of}
+use Rattle.sdr_model.specs.Zco.{owned_raw, source_at, source_naming, uses_of}
 use Rattle.sdr_model.specs.declared.call.Call.TheVariants as calls
 use Rattle.sdr_model.specs.declared.zco.Subject.TheVariants as subjects
 use Rattle.sdr_laws.proofs.OutcomeLemmas.{Comes, asked, found, makes_source, owes_none, refused, tested, told}
@@ -31,10 +31,10 @@ has_bytes o text is = subst (HasBytes (length text)) (sym is) refl
 pub obj_ref : (w : World) (raw : ℕ) → Comes w (calls.ObjRef raw) (λ o. source.ObjRef w o raw)
 obj_ref w raw =
     found (as_raw (thing_at w raw)) (λ none. refused) (λ text is.
-    found (source_on w raw)
+    found (source_naming w raw)
     (λ none. makes_source (owes_none (λ b space. refl) (λ b space. refl) (λ b space. refl))
     (source.new_source (subjects.Obj raw) (length text)) refl (has_bytes _ text is)
-    (λ other same. subst (λ r. source_on w r ≡ None) (eqb-true raw other same) none))
+    (λ other same. subst (λ r. source_naming w r ≡ None) (eqb-true raw other same) none))
     (λ s at. refused))
 
 pub destroy_ref : (w : World) (addr : ℕ) → Comes w (calls.DestroyRef addr) (λ o. source.DestroyRef w o addr)

@@ -13,7 +13,7 @@ use Rattle.sdr_model.specs.Steps.{Does, Outcome, gave, with_thing, without_thing
 use Rattle.sdr_model.specs.Things.{source_need}
 use Rattle.sdr_model.specs.Valid.{IsValidSource}
 use Rattle.sdr_model.specs.World.{World, as_raw, thing_at}
-use Rattle.sdr_model.specs.Zco.{owned_raw, source_at, source_on, uses_of}
+use Rattle.sdr_model.specs.Zco.{owned_raw, source_at, source_naming, uses_of}
 use Rattle.sdr_model.specs.declared.answer.Reply.TheVariants as replies
 use Rattle.sdr_model.specs.declared.call.Call.TheVariants as calls
 use Rattle.sdr_model.specs.declared.things.Thing.TheVariants as things
@@ -52,7 +52,7 @@ module _ {w : World} {o : Outcome} where
   pub obj_ref : (raw : ℕ) → source.ObjRef w o raw → Shape w (calls.ObjRef raw) o
   obj_ref raw h =
       on_addr raw (as_raw (thing_at w raw)) h (λ bytes is h.
-      on_none (source_on w raw) _ h (λ s. refl) (λ unnamed made.
+      on_none (source_naming w raw) _ h (λ s. refl) (λ unnamed made.
       takes_one (source_need 0) _ made refl (λ at. refl)
       (makes (source_need 0) (things.Source (source.new_source (subjects.Obj raw) (length bytes))) _ refl
       (λ a. refl) (λ a. refl)

@@ -17,7 +17,7 @@ use Rattle.sdr_model.proofs.ThingsLemmas.{at_itself, get-with_at, same_address}
 use Rattle.sdr_model.specs.Accounts.{fresh_accounts, is_same_account}
 use Rattle.sdr_model.specs.Gone.{is_passing}
 use Rattle.sdr_model.specs.Things.{with_at, Things}
-use Rattle.sdr_model.specs.Valid.{AreInside, FitTogether, HasBytes, HasSubject, IsUsed, LiesInside}
+use Rattle.sdr_model.specs.Valid.{AreInside, FitTogether, HasBytes, HasSubject, HasExtentIfPassing, LiesInside}
 use Rattle.sdr_model.specs.World.{World, as_raw, thing_at}
 use Rattle.sdr_model.specs.Zco.{as_object, as_source, is_of_raw, names_raw, naming, object_at, source_at, uses_in, uses_of}
 use Rattle.sdr_model.specs.declared.things.Thing.{Thing}
@@ -65,7 +65,7 @@ fits_from w fit = record {
       (subst (λ u. IfSome u (λ u. IfSome (thing_at w b)
       (λ t. names_raw raw u ≡ true → names_raw raw t ≡ true → a ≡ b))) (source_is (thing_at w a) s here)
       (fit.alone raw a b)) named named';
-  used = λ q s is passing. inl (subst (λ o. IfSome o (IsUsed w q)) is (fit.used q) passing);
+  used = λ q s is passing. inl (subst (λ o. IfSome o (HasExtentIfPassing w q)) is (fit.used q) passing);
 }
 
 -- the thing that names a raw object is a source of it
@@ -83,7 +83,7 @@ fits_to w f = record {
       let two = naming_source raw t named' in
       f.alone raw a b one.0 two.0 (ap as_source (here ∙ ap (λ s. Some s) one.1))
       (ap as_source (there ∙ ap (λ s. Some s) two.1)) one.2 two.2));
-  used = λ q. if_some (IsUsed w q) (source_at w q)
+  used = λ q. if_some (HasExtentIfPassing w q) (source_at w q)
       (λ s is passing. ⊎_elim (λ u. u) (λ spare. absurd spare) (f.used q s is passing));
 }
   where

@@ -19,7 +19,7 @@ use Rattle.sdr_model.specs.Valid.{IsValidTable}
 use Rattle.sdr_model.specs.World.{World, thing_at}
 use Rattle.sdr_model.specs.declared.call.Call.{Call}
 use Rattle.sdr_model.specs.declared.call.Call.TheVariants as calls
-use Rattle.sdr_model.specs.declared.things.Block.{Block}
+use Rattle.sdr_model.specs.declared.things.UsedBlock.{UsedBlock}
 use Rattle.sdr_model.specs.declared.things.Thing.TheVariants as things
 
 -- the bytes of a table after a row is set are as many as before
@@ -66,7 +66,7 @@ module _ {w : World} {o : Outcome} where
   set_row addr at from h =
       on_row addr at _ h (λ t is inside h.
       on_passed (length from == t.size) _ h refl (λ whole d.
-      let block : ℕ → List Block = λ n. record { addr = addr; kind = kinds.Table; bytes = 24 + n } ∷ [] in
+      let block : ℕ → List UsedBlock = λ n. record { addr = addr; kind = kinds.Table; bytes = 24 + n } ∷ [] in
       does d refl (λ _. refl)
       (stays addr (things.Table t) (things.Table (record t { bytes = overwrite (t.size * at) from t.bytes }))
       (table_is _ _ is) itself d

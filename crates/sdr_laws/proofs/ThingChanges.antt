@@ -22,7 +22,7 @@ use Rattle.sdr_model.specs.Valid.{IsValidThing}
 use Rattle.sdr_model.specs.World.{World, thing_at}
 use Rattle.sdr_model.specs.declared.answer.Reply.{Reply}
 use Rattle.sdr_model.specs.declared.answer.Reply.TheVariants as replies
-use Rattle.sdr_model.specs.declared.things.Block.{Block}
+use Rattle.sdr_model.specs.declared.things.UsedBlock.{UsedBlock}
 use Rattle.sdr_model.specs.declared.things.Thing.{Thing}
 use Rattle.sdr_model.specs.declared.things.Thing.TheVariants as things
 
@@ -65,8 +65,8 @@ nothing_there w addr none = by (thing_at w addr) refl
     by : (o : Option Thing) → thing_at w addr ≡ o → thing_at w addr ≡ None
     by None is = is
     by (Some thing) is =
-        let no_block : sum_by (λ (b : Block). weight (nat_eq addr b.addr)) (blocks_of w) ≡ 0 =
-        sym (sum_by-map (λ a. weight (nat_eq addr a)) (λ (b : Block). b.addr) (blocks_of w))
+        let no_block : sum_by (λ (b : UsedBlock). weight (nat_eq addr b.addr)) (blocks_of w) ≡ 0 =
+        sym (sum_by-map (λ a. weight (nat_eq addr a)) (λ (b : UsedBlock). b.addr) (blocks_of w))
         ∙ absent addr (addresses_of (blocks_of w)) none in
         let own : weight (nat_eq addr (own_block addr thing).addr) ≡ 1 =
         weight_of (ap (nat_eq addr) (own_addr addr thing) ∙ nat_eq_equiv.refl addr) in
@@ -74,10 +74,10 @@ nothing_there w addr none = by (thing_at w addr) refl
           arith,
           no_block,
           own,
-          things_blocks-with_at (λ (b : Block). weight (nat_eq addr b.addr)) w.things addr None,
-          sum_by-blocks_of (λ (b : Block). weight (nat_eq addr b.addr)) w,
-          ap (λ o. sum_by (λ (b : Block). weight (nat_eq addr b.addr)) (blocks_at addr o)) is,
-          sum_by-cons (λ (b : Block). weight (nat_eq addr b.addr)) (own_block addr thing) (inner_blocks thing),
+          things_blocks-with_at (λ (b : UsedBlock). weight (nat_eq addr b.addr)) w.things addr None,
+          sum_by-blocks_of (λ (b : UsedBlock). weight (nat_eq addr b.addr)) w,
+          ap (λ o. sum_by (λ (b : UsedBlock). weight (nat_eq addr b.addr)) (blocks_at addr o)) is,
+          sum_by-cons (λ (b : UsedBlock). weight (nat_eq addr b.addr)) (own_block addr thing) (inner_blocks thing),
         ))
 
 module _ {w : World} {o : Outcome} where
@@ -97,7 +97,7 @@ module _ {w : World} {o : Outcome} where
     needs = sym (ap taken_needs does.0 ∙ needs-gave (inner ++ addr ∷ []));
     takes = sym (ap taken_addresses does.0 ∙ taken-gave (inner ++ addr ∷ []));
     gives =
-        map-append (λ (b : Block). b.addr) (inner_blocks thing) (own_block addr thing ∷ [])
+        map-append (λ (b : UsedBlock). b.addr) (inner_blocks thing) (own_block addr thing ∷ [])
         ∙ ap (λ front. front ++ (own_block addr thing).addr ∷ []) blocks
         ∙ ap (λ a. inner ++ a ∷ []) (own_addr addr thing)
         ∙ sym (ap given_addresses does.0 ∙ given-gave (inner ++ addr ∷ []));
@@ -139,9 +139,9 @@ module _ {w : World} {o : Outcome} where
   })
 
   -- a thing loses one of its inner blocks
-  pub loses : {next : World} (addr : ℕ) (old new : Thing) (block : Block) → thing_at w addr ≡ Some old
+  pub loses : {next : World} (addr : ℕ) (old new : Thing) (block : UsedBlock) → thing_at w addr ≡ Some old
       → Alike (with_thing w addr new) next → Does o (gave (block.addr ∷ [])) next replies.Done
-      → ((measure : Block → ℕ)
+      → ((measure : UsedBlock → ℕ)
       → sum_by measure (thing_blocks addr new) + measure block ≡ sum_by measure (thing_blocks addr old))
       → (IsValidThing old → IsValidThing new) → Changes w o
   loses addr old new block is like does less valid = swaps_thing w o (record {
@@ -164,11 +164,11 @@ module _ {w : World} {o : Outcome} where
   })
 
   -- a thing gains an inner block
-  pub gains : {next : ℕ → World} (addr need : ℕ) (old : Thing) (new : ℕ → Thing) (block : ℕ → Block)
+  pub gains : {next : ℕ → World} (addr need : ℕ) (old : Thing) (new : ℕ → Thing) (block : ℕ → UsedBlock)
       (reply : ℕ → Reply) → thing_at w addr ≡ Some old → ((a : ℕ) → Alike (with_thing w addr (new a)) (next a))
       → ((a : ℕ) → (block a).addr ≡ a) → ((a : ℕ) → (block a).bytes ≡ need) → ((a : ℕ) → is_answer (reply a) ≡ true)
       → Takes w o need next reply
-      → ((a : ℕ) (measure : Block → ℕ)
+      → ((a : ℕ) (measure : UsedBlock → ℕ)
       → sum_by measure (thing_blocks addr (new a)) ≡ sum_by measure (thing_blocks addr old) + measure (block a))
       → ((a : ℕ) → IsValidThing old → IsValidThing (new a)) → Changes w o
   gains addr need old new block reply is like at bytes answers takes more valid =

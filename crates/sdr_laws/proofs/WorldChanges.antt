@@ -13,10 +13,10 @@ use Rattle.sdr_model.specs.Accounts.{ticket_blocks}
 use Rattle.sdr_model.specs.Blocks.{addresses_of, blocks_of, things_blocks}
 use Rattle.sdr_model.specs.Step.{is_answer}
 use Rattle.sdr_model.specs.Steps.{Outcome, taken_addresses}
-use Rattle.sdr_model.specs.Things.{with_at, name_block}
+use Rattle.sdr_model.specs.Things.{with_at, block_for_name}
 use Rattle.sdr_model.specs.Valid.{IsValid, IsValidThing}
 use Rattle.sdr_model.specs.World.{World, thing_at}
-use Rattle.sdr_model.specs.declared.things.Block.{Block}
+use Rattle.sdr_model.specs.declared.things.UsedBlock.{UsedBlock}
 use Rattle.sdr_model.specs.declared.things.Thing.{Thing}
 
 -- the world with this, or nothing, at an address
@@ -37,7 +37,7 @@ thing_at-apart w addr o q apart =
     (on_test (is_at (nat_cmp q) addr) (λ e. absurd (apart (same_address q addr e))) (λ e. e))
 
 -- the blocks of worlds of which things, names and tickets are the same are as many
-pub same_sums : (measure : Block → ℕ) (w v : World) → v.things ≡ w.things → v.names ≡ w.names
+pub same_sums : (measure : UsedBlock → ℕ) (w v : World) → v.things ≡ w.things → v.names ≡ w.names
     → ticket_blocks v.accounts ≡ ticket_blocks w.accounts
     → sum_by measure (blocks_of v) ≡ sum_by measure (blocks_of w)
 same_sums measure w v things names tickets =
@@ -46,12 +46,12 @@ same_sums measure w v things names tickets =
       sum_by-blocks_of measure w,
       sum_by-blocks_of measure v,
       ap (λ m. sum_by measure (things_blocks m)) things,
-      ap (λ ns. sum_by measure (map name_block ns)) names,
+      ap (λ ns. sum_by measure (map block_for_name ns)) names,
       ap (sum_by measure) tickets,
     )
 
 -- the blocks of a world with this, or nothing, at an address
-pub swapped_sums : (measure : Block → ℕ) (w : World) (addr : ℕ) (o : Option Thing)
+pub swapped_sums : (measure : UsedBlock → ℕ) (w : World) (addr : ℕ) (o : Option Thing)
     → sum_by measure (blocks_of (swapped w addr o)) + sum_by measure (blocks_at addr (thing_at w addr))
     ≡ sum_by measure (blocks_of w) + sum_by measure (blocks_at addr o)
 swapped_sums measure w addr o =
@@ -83,8 +83,8 @@ elsewhere w q addr t is none same =
 -- A call comes to the world `next`, but for marks and shown bytes, whose blocks are those of before, with those of the
 -- moves.
 pub record Builds (w : World) (o : Outcome) (next : World) : Type 0 where
-  pub taken : List Block
-  pub given : List Block
+  pub taken : List UsedBlock
+  pub given : List UsedBlock
   pub answered : is_answer o.reply ≡ true
   pub marks : o.after.marks ≡ w.marks ++ taken_addresses o.moves
   pub shown : o.after.shown ≡ []
@@ -93,7 +93,7 @@ pub record Builds (w : World) (o : Outcome) (next : World) : Type 0 where
   pub needs : map (λ b. b.bytes) taken ≡ taken_needs o.moves
   pub takes : addresses_of taken ≡ taken_addresses o.moves
   pub gives : addresses_of given ≡ given_addresses o.moves
-  pub sums : IsValid w → IsFresh w o → (measure : Block → ℕ)
+  pub sums : IsValid w → IsFresh w o → (measure : UsedBlock → ℕ)
       → sum_by measure (blocks_of w) + sum_by measure taken ≡ sum_by measure (blocks_of next) + sum_by measure given
   pub limits : KeepsLimits w → KeepsLimits next
 

@@ -22,7 +22,7 @@ use Rattle.sdr_model.specs.Blocks.{addresses_of, blocks_of, thing_blocks}
 use Rattle.sdr_model.specs.Charges.{bytes_charge, rooms, thing_charge}
 use Rattle.sdr_base.specs.declared.kind.Space.{Space}
 use Rattle.sdr_base.specs.declared.kind.Space.TheVariants as spaces
-use Rattle.sdr_model.specs.Charging.{no_space, with_used}
+use Rattle.sdr_model.specs.Charging.{no_space, with_covered}
 use Rattle.sdr_model.specs.Gone.{is_passing}
 use Rattle.sdr_model.specs.ObjectSteps.{AppendsRaw, AppendsSource, with_extent, with_object}
 use Rattle.sdr_model.specs.Rows.{ByRow}
@@ -221,7 +221,7 @@ row_grows =
     (λ s. AppendsSource small_world o 32 small_object 1 8 s 0 4)) (sym file_there)
     (subst (λ (t : Option Space). MatchOption t
     (Takes small_world o 32 (λ block. with_object
-    (with_used small_world (Some (record { acct = accts.Inbound; place = 0; ticket = first_ticket }))
+    (with_covered small_world (Some (record { acct = accts.Inbound; place = 0; ticket = first_ticket }))
     (amounts_by (bytes_charge spaces.File 4))) 32
     (with_extent small_object (record { block = block; source = 8; offset = 0; length = 4 }))) (λ block. replies.Done))
     (λ space. Refuses small_world o (no_space small_world accts.Inbound no_amounts space))) (sym (none_above (rooms small_world accts.Inbound)))

@@ -16,7 +16,7 @@ use Rattle.sdr_model.specs.declared.accounts.Pending.{Pending}
 use Rattle.sdr_model.specs.Amounts.{amounts_by, first_above, minus}
 use Rattle.sdr_model.specs.BondSteps.{bond_charge, bond_moves, bonded, capsules_of, with_bonded}
 use Rattle.sdr_model.specs.Charges.{bytes_charge, left_in, object_charge, rooms}
-use Rattle.sdr_model.specs.Charging.{grant_left, with_used}
+use Rattle.sdr_model.specs.Charging.{grant_left, with_covered}
 use Rattle.sdr_model.specs.Gone.{gone_things, is_passing, without_things}
 use Rattle.sdr_model.specs.ObjectSteps.{raw_append_moves, with_extent}
 use Rattle.sdr_model.specs.Queue.{barrier, enqueued, with_served}
@@ -27,7 +27,7 @@ use Rattle.sdr_model.specs.Steps.{Outcome, taken_at}
 use Rattle.sdr_model.specs.Things.{with_at}
 use Rattle.sdr_model.specs.Valid.{AreInside, HasSubject}
 use Rattle.sdr_model.specs.World.{World, as_raw, thing_at}
-use Rattle.sdr_model.specs.Zco.{is_of_raw, naming, object_at, source_at, source_on, uses_of}
+use Rattle.sdr_model.specs.Zco.{is_of_raw, naming, object_at, source_at, source_naming, uses_of}
 use Rattle.sdr_model.specs.declared.accounts.Accounts.{Accounts}
 use Rattle.sdr_model.specs.declared.accounts.Ticket.{Ticket}
 use Rattle.sdr_model.specs.declared.things.Thing.TheVariants as things
@@ -47,7 +47,7 @@ pub record IsCharged (w : World) (acct : Acct) (number : ℕ) (adds : Space → 
   pub there : IfSome pending (λ p. (pending_in w.accounts acct number ≡ Some p) × (p.ticket.granted ≡ true))
   pub free : barrier (minus (amounts_by adds) (grant_left pending)) (tickets_of w.accounts acct) ≡ None
   pub room : first_above (minus (amounts_by adds) (grant_left pending)) (rooms w acct) ≡ None
-  pub used_is : used ≡ with_used w pending (amounts_by adds)
+  pub used_is : used ≡ with_covered w pending (amounts_by adds)
 
 -- How an account's queue or maxima are changed before it is served, and what is lost with what is left of a ticket.
 pub data Queued (w : World) (acct : Acct) (accounts : Accounts) (lost : Space → ℕ) : Type 0 where
@@ -96,7 +96,7 @@ pub record NewSource (w : World) (o : Outcome) : Type 0 where
   pub fresh : IsFresh w o → thing_at w addr ≡ None
   pub stays : is_passing source ≡ false
   pub subject : HasSubject w source.length source.subject
-  pub alone : (raw : ℕ) → is_of_raw raw source.subject ≡ true → source_on w raw ≡ None
+  pub alone : (raw : ℕ) → is_of_raw raw source.subject ≡ true → source_naming w raw ≡ None
   pub things : o.after.things ≡ finite.insert w.things addr (things.Source source)
 
 -- a new object at a fresh address, of extents inside their sources
@@ -136,7 +136,7 @@ pub record TakesOver (w : World) (call : Call) (o : Outcome) : Type 0 where
   pub extent : Extent
   pub was : object_at w addr ≡ Some old
   pub bytes : as_raw (thing_at w raw) ≡ Some text
-  pub unnamed : source_on w raw ≡ None
+  pub unnamed : source_naming w raw ≡ None
   pub source : extent.source ≡ taken_at o.moves 0
   pub inside : extent.offset + extent.length ≤ length text
   pub moves : o.moves ≡ raw_append_moves (taken_at o.moves)

@@ -9,7 +9,7 @@ use Rattle.sdr_model.specs.Steps.{with_thing}
 use Rattle.sdr_model.specs.World.{World}
 use Rattle.sdr_model.specs.declared.accounts.Accounts.{Accounts}
 use Rattle.sdr_model.specs.declared.accounts.Ticket.{Ticket}
-use Rattle.sdr_model.specs.declared.things.Block.{Block}
+use Rattle.sdr_model.specs.declared.things.UsedBlock.{UsedBlock}
 use Rattle.sdr_model.specs.declared.things.SdrList.{SdrList}
 use Rattle.sdr_model.specs.declared.things.Thing.{Thing}
 use Rattle.sdr_model.specs.declared.things.Thing.TheVariants as things
@@ -93,7 +93,7 @@ example = record {
 }
 
 -- its blocks
-abbrev pub example_blocks : List Block
+abbrev pub example_blocks : List UsedBlock
 example_blocks =
     record { addr = 8; kind = kinds.List; bytes = 32 }
     ∷ record { addr = 16; kind = kinds.Element; bytes = 32 }

@@ -5,7 +5,7 @@ use Rattle.sdr_base.specs.declared.moves.Move.TheVariants.{Took, Gave}
 use Rattle.sdr_model.specs.Blocks.{blocks_of, addresses_of}
 use Rattle.sdr_model.specs.Steps.{taken_addresses}
 use Rattle.sdr_model.specs.World.{World}
-use Rattle.sdr_model.specs.declared.things.Block.{Block}
+use Rattle.sdr_model.specs.declared.things.UsedBlock.{UsedBlock}
 
 -- the needs of the blocks taken, in order
 abbrev pub taken_needs : List Move → List ℕ
@@ -23,10 +23,10 @@ given_addresses (move ∷ moves) = given_addresses moves
 -- is measured of each block, the sums are the same. The blocks taken have the needs and addresses of the moves that
 -- take, in order, and those given back the addresses of the moves that give.
 pub record MovesBlocks (old : World) (moves : List Move) (new : World) : Type 0 where
-  pub taken : List Block
-  pub given : List Block
+  pub taken : List UsedBlock
+  pub given : List UsedBlock
   pub needs : map (λ b. b.bytes) taken ≡ taken_needs moves
   pub takes : addresses_of taken ≡ taken_addresses moves
   pub gives : addresses_of given ≡ given_addresses moves
-  pub sums : (measure : Block → ℕ)
+  pub sums : (measure : UsedBlock → ℕ)
       → sum_by measure (blocks_of old) + sum_by measure taken ≡ sum_by measure (blocks_of new) + sum_by measure given

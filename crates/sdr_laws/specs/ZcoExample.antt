@@ -7,7 +7,7 @@ use Rattle.sdr_base.specs.declared.kind.Space.TheVariants as spaces
 use Rattle.sdr_model.specs.Accounts.{unused_account}
 use Rattle.sdr_model.specs.Amounts.{amounts_by, no_amounts}
 use Rattle.sdr_model.specs.Charges.{bytes_charge}
-use Rattle.sdr_model.specs.Charging.{with_used}
+use Rattle.sdr_model.specs.Charging.{with_covered}
 use Rattle.sdr_model.specs.ObjectSteps.{with_extent, with_object}
 use Rattle.sdr_model.specs.World.{World}
 use Rattle.sdr_model.specs.declared.accounts.Ticket.{Ticket}
@@ -99,7 +99,7 @@ new_extent = record { block = 80; source = 8; offset = 0; length = 4 }
 abbrev pub grown_world : World
 grown_world =
     record (with_object
-    (with_used small_world (Some (record { acct = accts.Inbound; place = 0; ticket = first_ticket }))
+    (with_covered small_world (Some (record { acct = accts.Inbound; place = 0; ticket = first_ticket }))
     (amounts_by (bytes_charge spaces.File 4))) 32 (with_extent small_object new_extent)) {
       marks = 80 ∷ [];
       shown = [];

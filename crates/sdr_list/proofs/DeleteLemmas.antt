@@ -3,7 +3,7 @@ use Rattle.std.proofs.Common.{◌≡◌, ℕ, suc, ◌+◌, ◌-◌, ◌≤◌, 
 use Rattle.std.proofs.Common.{sym, ap, ◌∙◌, arith, subst, length-append}
 use Rattle.std.proofs.lemmas.List.{set_split}
 use Rattle.sdr_base.specs.Blocks.{Block, Blocks, IsKind, Reaches}
-use Rattle.sdr_base.specs.Entries.{Entries, Stands}
+use Rattle.sdr_base.specs.Entries.{Entries, BlocksAre}
 use Rattle.sdr_base.specs.Linked.{first_of, last_of}
 use Rattle.sdr_base.specs.Lists.{ListElement, KeepsList, addr_of, elements_between, list_block, list_entries}
 use Rattle.sdr_base.specs.Making.{Made, besides}
@@ -36,15 +36,15 @@ count_around spot element =
 
 -- the list is opened around its element
 pub around : {b : Blocks} {element : ℕ} {spot : Spot} (rest : Entries) → IsSpot b element spot →
-    {b' : Blocks} → Stands b' (list_entries spot.list spot.row ++ rest) →
+    {b' : Blocks} → BlocksAre b' (list_entries spot.list spot.row ++ rest) →
     Deleting b' element spot element element (count_around spot element) rest
 around {b} {element} {spot} rest is {b'} s = record {
   opened = record {
     stands =
-        subst (λ (es : Entries). Stands b' es)
+        subst (λ (es : Entries). BlocksAre b' es)
         (filled_is spot.list spot.row.user (take spot.place spot.row.elements) (record { addr = element; datum = spot.datum })
         (drop (suc spot.place) spot.row.elements) rest)
-        (subst (λ (xs : List ListElement). Stands b' (list_entries spot.list (row_of spot.row.user xs) ++ rest)) (parted is) s);
+        (subst (λ (xs : List ListElement). BlocksAre b' (list_entries spot.list (row_of spot.row.user xs) ++ rest)) (parted is) s);
   };
 }
 
@@ -87,7 +87,7 @@ closed_up : {element prev next n : ℕ} {spot : Spot} {rest : Entries} (old new 
     n ≡ length spot.row.elements →
     prev ≡ addr_before spot.row spot.place → next ≡ addr_from spot.row (spot.place + 1) → new ≡ with_given old element →
     Deleting old.blocks element spot next prev (n - 1) rest →
-    Stands new.blocks (list_entries spot.list (without_element spot.row spot.place) ++ rest)
+    BlocksAre new.blocks (list_entries spot.list (without_element spot.row spot.place) ++ rest)
 closed_up {element} {prev} {next} {n} {spot} {rest} old new {b} is are p q g s =
     let xs = take spot.place spot.row.elements in
     let ys = drop (suc spot.place) spot.row.elements in
@@ -99,7 +99,7 @@ closed_up {element} {prev} {next} {n} {spot} {rest} old new {b} is are p q g s =
     let m = length-append xs (x ∷ ys) in
     let less : n - 1 ≡ length (xs ++ ys) = omega (arith, are, whole, l, m) in
     let gone = given_between old new (record (gap_around spot element) { next = next; previous = prev; count = n - 1 }) g s.opened in
-    subst (λ (es : Entries). Stands new.blocks es) (sym (shut_is spot.list spot.row.user xs ys rest))
+    subst (λ (es : Entries). BlocksAre new.blocks es) (sym (shut_is spot.list spot.row.user xs ys rest))
     (subst (λ k. Opened new.blocks spot.list (record (shut spot.row.user xs ys) { next = k }) rest) next_is
     (subst (λ k. Opened new.blocks spot.list (record (shut spot.row.user xs ys) { next = next; previous = k }) rest) p
     (subst (λ k. Opened new.blocks spot.list (record (shut spot.row.user xs ys) { next = next; previous = prev; count = k }) rest) less
@@ -166,9 +166,10 @@ datum_set {element} old new datum kind w = record {
               (H ∷ elements_between spot.list 0 element xs) (elements_between spot.list element 0 ys ++ rest)
               (heap_blocks w) (omega arith) (around rest is s).opened.stands;
         } in
-        subst (λ (zs : List ListElement). Stands new.blocks (list_entries spot.list (row_of spot.row.user zs) ++ rest))
+        subst (λ (zs : List ListElement). BlocksAre new.blocks
+            (list_entries spot.list (row_of spot.row.user zs) ++ rest))
         (sym (set_split spot.row.elements spot.place y within))
-        (subst (λ (es : Entries). Stands new.blocks es) (sym (filled_is spot.list spot.row.user xs y ys rest))
+        (subst (λ (es : Entries). BlocksAre new.blocks es) (sym (filled_is spot.list spot.row.user xs y ys rest))
         (subst (λ k. Opened new.blocks spot.list (record (filled spot.list spot.row.user xs y ys) { count = k }) rest) same put).stands);
   };
   same = ap besides w;

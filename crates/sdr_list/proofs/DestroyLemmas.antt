@@ -5,7 +5,7 @@ use Rattle.std.specs.Prelude.{All}
 use Rattle.std.proofs.lemmas.List.{map-append}
 use Rattle.std.proofs.lemmas.List.Elements.{All-tail}
 use Rattle.sdr_base.specs.Blocks.{Block, Blocks, IsKind, Reaches}
-use Rattle.sdr_base.specs.Entries.{Entries, Stands}
+use Rattle.sdr_base.specs.Entries.{Entries, BlocksAre}
 use Rattle.sdr_base.specs.Linked.{first_of, last_of}
 use Rattle.sdr_base.specs.Stored.{number_at}
 use Rattle.sdr_base.specs.Lists.{ElementFits, ListRow, KeepsList, addr_of, element_block, elements_between, list_block, list_entries}
@@ -24,19 +24,20 @@ use Rattle.sdr_base.proofs.HeapLemmas.{given_blocks}
 use Rattle.sdr_base.proofs.StandingLemmas.{found, moved_back, went}
 use Rattle.sdr_base.proofs.WritingLemmas.{reaches, word_is}
 use Rattle.sdr_list.specs.Destroying.{DestroysList, DestroyStops}
-use Rattle.sdr_list.specs.Giving.{ChainAt, GiveStops, Gives, GivesChain, Gone, SomeChain}
+use Rattle.sdr_list.specs.Giving.{ChainAt, GiveStops, GivesElements, GivesChain, Gone, SomeChain}
 use Rattle.sdr_list.proofs.GivingLemmas.{length-addrs, part_begun, part_found, part_given, part_made, part_more, part_some, part_spare, part_stands}
 use Rattle.sdr_list.specs.Kept.{SomeList, elements_in, if_list}
 use Rattle.sdr_list.proofs.KeptLemmas.{elements_are, first_fits, first_is, length_is, list_words, words}
 
-pub start : {old : Heap} {first count : ℕ} → Gives old old first count first 0
+pub start : {old : Heap} {first count : ℕ} → GivesElements old old first count first 0
 start {old} = record {
   gives = λ list prev xs rest c. part_begun ElementFits addr_of (element_block list) 0 prev xs rest c.stands c.at_first c.fits;
 }
 
 -- one more was given back
-pub onward : {old now new : Heap} {first count cursor i next : ℕ} → Gives old now first count cursor i → i < count →
-    HasWord (now.blocks cursor) 2 next → new ≡ with_given now cursor → Gives old new first count next (i + 1)
+pub onward : {old now new : Heap} {first count cursor i next : ℕ} → GivesElements old now first count cursor i →
+    i < count →
+    HasWord (now.blocks cursor) 2 next → new ≡ with_given now cursor → GivesElements old new first count next (i + 1)
 onward {old} {now} {new} {first} {count} {cursor} {i} {next} s more h g = record {
   gives = λ list prev xs rest c.
       let p = s.gives list prev xs rest c in
@@ -49,7 +50,7 @@ onward {old} {now} {new} {first} {count} {cursor} {i} {next} s more h g = record
 }
 
 -- the next one is there
-pub cursor_reaches : {old now : Heap} {first count cursor i : ℕ} → SomeChain old.blocks first count → Gives old now first count cursor i → i < count →
+pub cursor_reaches : {old now : Heap} {first count cursor i : ℕ} → SomeChain old.blocks first count → GivesElements old now first count cursor i → i < count →
     Reaches (now.blocks cursor) 32
 cursor_reaches {old} {now} {first} {count} {cursor} {i} c s more =
     let p = s.gives c.list c.prev c.xs c.rest c.is in
@@ -59,14 +60,14 @@ cursor_reaches {old} {now} {first} {count} {cursor} {i} c s more =
     (part_found ElementFits addr_of (element_block c.list) 0 p n) (omega arith)
 
 -- there is room for one more move
-pub spare_left : {old now : Heap} {first count cursor i : ℕ} → SomeChain old.blocks first count → Gives old now first count cursor i → i < count →
+pub spare_left : {old now : Heap} {first count cursor i : ℕ} → SomeChain old.blocks first count → GivesElements old now first count cursor i → i < count →
     count ≤ old.spare → 1 ≤ now.spare
 spare_left {old} {now} {count = count} {i = i} c s more enough =
     let p = s.gives c.list c.prev c.xs c.rest c.is in
     let e = part_spare ElementFits addr_of (element_block c.list) 0 p in omega (arith, e, more, enough)
 
 -- a stop after some were given back
-pub stopped : {old now : Heap} {first count cursor i : ℕ} (new : Heap) (stop : Stop) → Gives old now first count cursor i → OnlyUnmoved now new stop →
+pub stopped : {old now : Heap} {first count cursor i : ℕ} (new : Heap) (stop : Stop) → GivesElements old now first count cursor i → OnlyUnmoved now new stop →
     GiveStops first count old new stop
 stopped new (Refused (LogFull lines room)) s u = record {
   gives = λ list prev xs rest c.
@@ -78,7 +79,7 @@ stopped new MediaFault s u = absurd u
 stopped new Failed s u = tt
 
 -- at the end all were given back
-pub ended : {old now : Heap} {first count cursor i : ℕ} → Gives old now first count cursor i → i ≡ count → GivesChain old now first count
+pub ended : {old now : Heap} {first count cursor i : ℕ} → GivesElements old now first count cursor i → i ≡ count → GivesChain old now first count
 ended {old} {now} {first} {count} {cursor} {i} s e = record {
   gives = λ list prev xs rest c.
       let p = s.gives list prev xs rest c in
@@ -104,7 +105,7 @@ head row = list_block row.user (length row.elements) (first_of addr_of 0 row.ele
 
 -- its elements are a chain before its own block
 pub chain_at : {b : Blocks} {list first n : ℕ} {row : ListRow} → HasWord (b list) 1 n → HasWord (b list) 2 first → KeepsList b list row → (rest : Entries) →
-    Stands b (list_entries list row ++ rest) → ChainAt b first n list 0 row.elements ((list, head row) ∷ rest)
+    BlocksAre b (list_entries list row ++ rest) → ChainAt b first n list 0 row.elements ((list, head row) ∷ rest)
 chain_at {b} {list} {first} {n} {row} h f k rest s = record {
   stands = moved_back (elements_between list 0 0 row.elements) ((list, head row) ∷ []) rest s;
   at_first = first_is f k;
@@ -123,7 +124,7 @@ some_chain {list = list} h f k = record {
 
 -- what is known once the elements were given back
 gone_of : {list first n : ℕ} {old mid : Heap} {row : ListRow} → HasWord (old.blocks list) 1 n → HasWord (old.blocks list) 2 first → KeepsList old.blocks list row →
-    (rest : Entries) → Stands old.blocks (list_entries list row ++ rest) → GivesChain old mid first n →
+    (rest : Entries) → BlocksAre old.blocks (list_entries list row ++ rest) → GivesChain old mid first n →
     Gone old mid row.elements ((list, head row) ∷ rest)
 gone_of {list} {row = row} h f k rest s g = g.gives list 0 row.elements ((list, head row) ∷ rest) (chain_at h f k rest s)
 
@@ -150,7 +151,7 @@ destroys {list} {old = old} {mid = mid} new kind h f g is = record {
   kind = kind;
   changes = λ row k. record {
     kept = λ rest s.
-        subst (λ (b : Blocks). Stands b rest) (sym (given_blocks list mid new is))
+        subst (λ (b : Blocks). BlocksAre b rest) (sym (given_blocks list mid new is))
         (went mid.blocks list (head row) [] rest (gone_of h f k rest s g).stands);
   };
   made = λ row k. one_gave (map addr_of row.elements) list (gone_of h f k k.rest k.stands g).made is;

@@ -2,7 +2,7 @@
 use Rattle.std.proofs.Common.{◌≡◌, ◌≢◌, ℕ, List, [], ◌∷◌, ◌++◌, length, Some}
 use Rattle.std.proofs.Common.{refl, sym, ap, ◌∙◌, arith, subst, append_assoc}
 use Rattle.sdr_base.specs.Blocks.{Block, Blocks, Reaches}
-use Rattle.sdr_base.specs.Entries.{Entries, Stands}
+use Rattle.sdr_base.specs.Entries.{Entries, BlocksAre}
 use Rattle.sdr_base.specs.Linked.{first_of, last_of, linked}
 use Rattle.sdr_base.specs.Lists.{ListElement, ListRow, addr_of, element_block, elements_between, list_block, list_entries}
 use Rattle.sdr_base.specs.Objects.{Heap, with_given}
@@ -83,7 +83,7 @@ four_words : (a b c d : ℕ) → Reaches (Some (block kinds.Element (layout (wor
 four_words a b c d = reaches (Some (block kinds.Element (layout (words a b c d) []))) kinds.Element (words a b c d) [] 32 refl (omega arith)
 
 before_by : (b : Blocks) (list prev first last user count next : ℕ) (xs : List ListElement) (more : Entries) → prev ≡ last_of addr_of 0 xs → prev ≢ 0 →
-    Stands b ((list, list_block user count first last) ∷ (elements_between list 0 next xs ++ more)) → Reaches (b prev) 32
+    BlocksAre b ((list, list_block user count first last) ∷ (elements_between list 0 next xs ++ more)) → Reaches (b prev) 32
 before_by b list prev first last user count next [] more e nz s = absurd (nz e)
 before_by b list prev first last user count next (x ∷ xs) more e nz s =
     subst (λ p. Reaches (b p) 32) (sym e)
@@ -98,7 +98,7 @@ before_reaches {b} {list} {prev} {gap} {rest} s e nz =
     gap.next gap.before (gap.between ++ (elements_between list gap.previous 0 gap.behind ++ rest)) e nz s.stands
 
 behind_by : (b : Blocks) (list next previous : ℕ) (ys : List ListElement) (before rest : Entries) → next ≡ first_of addr_of 0 ys → next ≢ 0 →
-    Stands b (before ++ (elements_between list previous 0 ys ++ rest)) → Reaches (b next) 32
+    BlocksAre b (before ++ (elements_between list previous 0 ys ++ rest)) → Reaches (b next) 32
 unfolding linked
 behind_by b list next previous [] before rest e nz s = absurd (nz e)
 behind_by b list next previous (y ∷ ys) before rest e nz s =
@@ -113,7 +113,7 @@ pub behind_reaches : {b : Blocks} {list next : ℕ} {gap : Gap} {rest : Entries}
 behind_reaches {b} {list} {next} {gap} {rest} s e nz =
     let H : ℕ × Block = (list, list_block gap.user gap.count (first_of addr_of gap.next gap.before) (last_of addr_of gap.previous gap.behind)) in
     behind_by b list next gap.previous gap.behind (H ∷ (elements_between list 0 gap.next gap.before ++ gap.between)) rest e nz
-    (subst (λ (es : Entries). Stands b (H ∷ es))
+    (subst (λ (es : Entries). BlocksAre b (H ∷ es))
     (sym (append_assoc (elements_between list 0 gap.next gap.before) gap.between (elements_between list gap.previous 0 gap.behind ++ rest)))
     s.stands)
 
@@ -127,7 +127,7 @@ taken_between {list} {e} {old} {new} {rest} ws gap t s =
     let B : Entries = elements_between list gap.previous 0 gap.behind in
     record {
       stands =
-          subst (λ (b : Blocks). Stands b (H ∷ (A ++ ((e, block kinds.Element (layout ws [])) ∷ (B ++ rest)))))
+          subst (λ (b : Blocks). BlocksAre b (H ∷ (A ++ ((e, block kinds.Element (layout ws [])) ∷ (B ++ rest)))))
           (sym (ap (λ (h : Heap). h.blocks) t.taken))
           (came old.blocks e (block kinds.Element (layout ws [])) (H ∷ A) (B ++ rest) t.nonzero t.fresh s.stands);
     }
@@ -141,7 +141,7 @@ given_between {list} {e} {it} {rest} old new gap g s =
     let B : Entries = elements_between list gap.previous 0 gap.behind in
     record {
       stands =
-          subst (λ (b : Blocks). Stands b (H ∷ (A ++ (B ++ rest)))) (sym (given_blocks e old new g))
+          subst (λ (b : Blocks). BlocksAre b (H ∷ (A ++ (B ++ rest)))) (sym (given_blocks e old new g))
           (went old.blocks e it (H ∷ A) (B ++ rest) s.stands);
     }
 

@@ -5,7 +5,7 @@ use Rattle.std.specs.Prelude.{All}
 use Rattle.std.proofs.lemmas.List.{map-append}
 use Rattle.std.proofs.lemmas.List.Elements.{All-tail}
 use Rattle.sdr_base.specs.Blocks.{Block, Blocks}
-use Rattle.sdr_base.specs.Entries.{Entries, Stands}
+use Rattle.sdr_base.specs.Entries.{Entries, BlocksAre}
 use Rattle.sdr_base.specs.Linked.{first_of, linked}
 use Rattle.sdr_base.specs.Making.{GaveSome, Made, gave}
 use Rattle.sdr_base.specs.Objects.{Heap, with_given}
@@ -30,7 +30,7 @@ not_empty [] n = absurd (omega (arith, n))
 not_empty (x ∷ xs) n = record { head = x; tail = xs; is = refl }
 
 module _ {X : Type 0} (P : X → Type 0) (addr : X → ℕ) (block : ℕ → ℕ → X → Block) (next : ℕ) where
-  pub part_begun : {old : Heap} {first : ℕ} (prev : ℕ) (xs : List X) (rest : Entries) → Stands old.blocks (linked addr block prev next xs ++ rest) →
+  pub part_begun : {old : Heap} {first : ℕ} (prev : ℕ) (xs : List X) (rest : Entries) → BlocksAre old.blocks (linked addr block prev next xs ++ rest) →
       first ≡ first_of addr next xs → All P xs → Part P addr block next old old first 0 xs rest
   part_begun {old} prev xs rest s f h = record {
     gone = [];
@@ -51,9 +51,9 @@ module _ {X : Type 0} (P : X → Type 0) (addr : X → ℕ) (block : ℕ → ℕ
         not_empty p.left (omega (arith, n, l, q, more))
 
     stands_from : (n : NotDone p.left) →
-        Stands now.blocks ((addr n.head, block p.prev (first_of addr next n.tail) n.head) ∷ (linked addr block (addr n.head) next n.tail ++ rest))
+        BlocksAre now.blocks ((addr n.head, block p.prev (first_of addr next n.tail) n.head) ∷ (linked addr block (addr n.head) next n.tail ++ rest))
     unfolding linked
-    stands_from n = subst (λ t. Stands now.blocks (linked addr block p.prev next t ++ rest)) n.is p.stands
+    stands_from n = subst (λ t. BlocksAre now.blocks (linked addr block p.prev next t ++ rest)) n.is p.stands
 
     -- the block of the next one
     pub part_found : (n : NotDone p.left) → now.blocks cursor ≡ Some (block p.prev (first_of addr next n.tail) n.head)
@@ -77,7 +77,7 @@ module _ {X : Type 0} (P : X → Type 0) (addr : X → ℕ) (block : ℕ → ℕ
           at_cursor = f;
           holds = All-tail P n.head n.tail (subst (All P) n.is p.holds);
           stands =
-              subst (λ (b : Blocks). Stands b (linked addr block (addr n.head) next n.tail ++ rest)) (sym (given_blocks (addr n.head) now new given))
+              subst (λ (b : Blocks). BlocksAre b (linked addr block (addr n.head) next n.tail ++ rest)) (sym (given_blocks (addr n.head) now new given))
               (went now.blocks (addr n.head) (block p.prev (first_of addr next n.tail) n.head) []
               (linked addr block (addr n.head) next n.tail ++ rest) (stands_from n));
           made =
@@ -102,9 +102,9 @@ module _ {X : Type 0} (P : X → Type 0) (addr : X → ℕ) (block : ℕ → ℕ
         nothing p.left (omega (arith, n, l, q, done))
 
     -- at the end the others stand
-    pub part_stands : i ≡ length xs → Stands now.blocks rest
+    pub part_stands : i ≡ length xs → BlocksAre now.blocks rest
     unfolding linked
-    part_stands done = subst (λ t. Stands now.blocks (linked addr block p.prev next t ++ rest)) (none_left done) p.stands
+    part_stands done = subst (λ t. BlocksAre now.blocks (linked addr block p.prev next t ++ rest)) (none_left done) p.stands
 
     -- and all were given back
     pub part_made : i ≡ length xs → Made (gave (map addr xs)) old now

@@ -3,7 +3,7 @@ use Rattle.std.proofs.Common.{◌≡◌, ℕ, ◌+◌, List, [], ◌∷◌, ◌+
 use Rattle.std.proofs.Common.{sym, ap, arith, subst, length-append}
 use Rattle.std.proofs.lemmas.List.{take-append-drop}
 use Rattle.sdr_base.specs.Blocks.{Blocks}
-use Rattle.sdr_base.specs.Entries.{Adds, Entries, Stands}
+use Rattle.sdr_base.specs.Entries.{Adds, Entries, BlocksAre}
 use Rattle.sdr_base.specs.Linked.{first_of, linked}
 use Rattle.sdr_base.specs.Lists.{ListElement, ListRow, addr_of, list_entries}
 use Rattle.sdr_base.specs.Making.{MakesThing}
@@ -43,13 +43,13 @@ pub record Inserting (b : Blocks) (list prev next e datum : ℕ) (row : ListRow)
     count = count;
   }) rest
 
-pub at_place : {b : Blocks} {list : ℕ} (row : ListRow) (place : ℕ) (rest : Entries) → Stands b (list_entries list row ++ rest) →
+pub at_place : {b : Blocks} {list : ℕ} (row : ListRow) (place : ℕ) (rest : Entries) → BlocksAre b (list_entries list row ++ rest) →
     AtPlace b list row place rest
 at_place {b} {list} row place rest s = record {
   opened = record {
     stands =
-        subst (λ (es : Entries). Stands b es) (shut_is list row.user (take place row.elements) (drop place row.elements) rest)
-        (subst (λ (xs : List ListElement). Stands b (list_entries list (row_of row.user xs) ++ rest))
+        subst (λ (es : Entries). BlocksAre b es) (shut_is list row.user (take place row.elements) (drop place row.elements) rest)
+        (subst (λ (xs : List ListElement). BlocksAre b (list_entries list (row_of row.user xs) ++ rest))
         (sym (take-append-drop place row.elements)) s);
   };
 }
@@ -87,7 +87,7 @@ counted old new n w s = record { opened = recounted old new n w s.opened }
 closed : {b : Blocks} {list prev next e datum place n : ℕ} {row : ListRow} {rest : Entries} → n ≡ length row.elements →
     prev ≡ addr_before row place → next ≡ addr_from row place →
     Inserting b list prev next e datum row place e e (n + 1) rest →
-    Stands b (list_entries list (with_element row place e datum) ++ rest)
+    BlocksAre b (list_entries list (with_element row place e datum) ++ rest)
 closed {b} {list} {prev} {next} {e} {datum} {place} {n} {row} {rest} are p q s =
     let xs = take place row.elements in
     let ys = drop place row.elements in
@@ -105,7 +105,7 @@ closed {b} {list} {prev} {next} {e} {datum} {place} {n} {row} {rest} are p q s =
       between = (e, block kinds.Element (layout (words list prev k datum) [])) ∷ [];
       count = n + 1;
     }) rest) q s.opened) in
-    subst (λ (es : Entries). Stands b es) (sym (filled_is list row.user xs x ys rest))
+    subst (λ (es : Entries). BlocksAre b es) (sym (filled_is list row.user xs x ys rest))
     (subst (λ k. Opened b list (record (filled list row.user xs x ys) { count = k }) rest) more_is placed).stands
 
 -- the whole insertion

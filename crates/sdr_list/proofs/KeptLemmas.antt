@@ -5,7 +5,7 @@ use Rattle.std.specs.Prelude.{All, slice_get, Result, Ok, Err, IfOk, OnOk}
 use Rattle.std.proofs.lemmas.List.{take-append-drop}
 use Rattle.std.proofs.lemmas.List.Elements.{All-head, All-tail, All-take, All-drop}
 use Rattle.sdr_base.specs.Blocks.{Blocks, Reaches, IsKind}
-use Rattle.sdr_base.specs.Entries.{Stands}
+use Rattle.sdr_base.specs.Entries.{BlocksAre}
 use Rattle.sdr_base.specs.Linked.{first_of, last_of}
 use Rattle.sdr_base.specs.Lists.{ElementFits, ListElement, ListRow, KeepsList, addr_of, element_block, elements_between}
 use Rattle.sdr_base.specs.Making.{besides}
@@ -79,7 +79,7 @@ there_by {b} {element} {spot} s =
     ((spot.list, block kinds.List (layout (list_words spot.row) [])) ∷ []) s.keeps.rest 0 0
     (take spot.place spot.row.elements) (record { addr = element; datum = spot.datum })
     (drop (suc spot.place) spot.row.elements)
-    (subst (λ (xs : List ListElement). Stands b
+    (subst (λ (xs : List ListElement). BlocksAre b
     ((spot.list, block kinds.List (layout (list_words spot.row) [])) ∷ (elements_between spot.list 0 0 xs ++ s.keeps.rest)))
     (parted s) s.keeps.stands)
 

@@ -2,7 +2,7 @@
 use Rattle.std.proofs.Common.{◌≡◌, ◌≢◌, ℕ, List, [], ◌∷◌, ◌++◌, Some}
 use Rattle.std.proofs.Common.{sym, ap, ◌∙◌, arith, subst, append_assoc}
 use Rattle.sdr_base.specs.Blocks.{Block}
-use Rattle.sdr_base.specs.Entries.{Entries, Stands}
+use Rattle.sdr_base.specs.Entries.{Entries, BlocksAre}
 use Rattle.sdr_base.specs.Linked.{first_of, last_of, linked}
 use Rattle.sdr_base.specs.Lists.{ListElement, addr_of, element_block, elements_between, list_block}
 use Rattle.sdr_base.specs.Objects.{Heap}
@@ -31,8 +31,8 @@ parts list user count xs ys next previous between rest =
 
 first_linked : (old new : Heap) (list user count next next' previous : ℕ) (xs ys : List ListElement) (between rest : Entries) →
     last_of addr_of 0 xs ≡ 0 → new ≡ with_word old list 2 next' →
-    Stands old.blocks (parts list user count xs ys next previous between rest) →
-    Stands new.blocks (parts list user count xs ys next' previous between rest)
+    BlocksAre old.blocks (parts list user count xs ys next previous between rest) →
+    BlocksAre new.blocks (parts list user count xs ys next' previous between rest)
 unfolding linked
 first_linked old new list user count next next' previous [] ys between rest e w s =
     word_set old.blocks new.blocks list kinds.List (words user count next (last_of addr_of previous ys)) [] 2 next' []
@@ -44,8 +44,8 @@ first_linked old new list user count next next' previous (x ∷ xs) ys between r
 
 next_linked : (old new : Heap) (list prev user count next next' previous : ℕ) (xs ys : List ListElement) (between rest : Entries) →
     prev ≡ last_of addr_of 0 xs → prev ≢ 0 → new ≡ with_word old prev 2 next' →
-    Stands old.blocks (parts list user count xs ys next previous between rest) →
-    Stands new.blocks (parts list user count xs ys next' previous between rest)
+    BlocksAre old.blocks (parts list user count xs ys next previous between rest) →
+    BlocksAre new.blocks (parts list user count xs ys next' previous between rest)
 next_linked old new list prev user count next next' previous [] ys between rest e nz w s = absurd (nz e)
 next_linked old new list prev user count next next' previous (x ∷ xs) ys between rest e nz w s =
     relinked_next addr_of (element_block list) old.blocks new.blocks
@@ -83,8 +83,8 @@ behind_all list user count first last next xs between more =
 
 last_linked : (old new : Heap) (list user count next previous previous' : ℕ) (xs ys : List ListElement) (between rest : Entries) →
     first_of addr_of 0 ys ≡ 0 → new ≡ with_word old list 3 previous' →
-    Stands old.blocks (parts list user count xs ys next previous between rest) →
-    Stands new.blocks (parts list user count xs ys next previous' between rest)
+    BlocksAre old.blocks (parts list user count xs ys next previous between rest) →
+    BlocksAre new.blocks (parts list user count xs ys next previous' between rest)
 unfolding linked
 last_linked old new list user count next previous previous' xs [] between rest e w s =
     word_set old.blocks new.blocks list kinds.List (words user count (first_of addr_of next xs) previous) [] 3 previous' []
@@ -94,26 +94,26 @@ last_linked old new list user count next previous previous' xs (y ∷ ys) betwee
     let E : Block = element_block list previous (first_of addr_of 0 ys) y in
     let more : Entries = elements_between list y.addr 0 ys ++ rest in
     absurd (nonzero old.blocks y.addr E (H ∷ (elements_between list 0 next xs ++ between)) more
-    (subst (λ (es : Entries). Stands old.blocks es)
+    (subst (λ (es : Entries). BlocksAre old.blocks es)
     (behind_all list user count (first_of addr_of next xs) (last_of addr_of y.addr ys) next xs between ((y.addr, E) ∷ more)) s) e)
 
 previous_linked : (old new : Heap) (list from user count next previous previous' : ℕ) (xs ys : List ListElement)
     (between rest : Entries) → from ≡ first_of addr_of 0 ys → from ≢ 0 → new ≡ with_word old from 1 previous' →
-    Stands old.blocks (parts list user count xs ys next previous between rest) →
-    Stands new.blocks (parts list user count xs ys next previous' between rest)
+    BlocksAre old.blocks (parts list user count xs ys next previous between rest) →
+    BlocksAre new.blocks (parts list user count xs ys next previous' between rest)
 previous_linked old new list from user count next previous previous' xs [] between rest e nz w s = absurd (nz e)
 previous_linked old new list from user count next previous previous' xs (y ∷ ys) between rest e nz w s =
     let first = first_of addr_of next xs in
     let last = last_of addr_of y.addr ys in
     let H : ℕ × Block = (list, list_block user count first last) in
-    subst (λ (es : Entries). Stands new.blocks es)
+    subst (λ (es : Entries). BlocksAre new.blocks es)
     (sym (behind_all list user count first last next xs between (elements_between list previous' 0 (y ∷ ys) ++ rest)))
     (relinked_previous addr_of (element_block list) old.blocks new.blocks
     (H ∷ (elements_between list 0 next xs ++ between)) rest 8 previous previous' 0 _ y ys
     (λ n x. ap (λ (bytes : List ℕ). Some (block kinds.Element bytes))
     (overwrite-layout (words list previous n x.datum) [] 1 previous' (omega arith)))
     (subst (λ p. new.blocks ≡ (with_word old p 1 previous').blocks) e (heap_blocks w))
-    (subst (λ (es : Entries). Stands old.blocks es)
+    (subst (λ (es : Entries). BlocksAre old.blocks es)
     (behind_all list user count first last next xs between (elements_between list previous 0 (y ∷ ys) ++ rest)) s))
 
 pub links_last : (old new : Heap) (list next prev : ℕ) → next ≡ 0 → new ≡ with_word old list 3 prev →

@@ -7,7 +7,7 @@ use Rattle.std.proofs.lemmas.List.{length-take, take-append-drop, take_all}
 use Rattle.std.proofs.lemmas.List.Elements.{All-drop}
 use Rattle.sdr_base.specs.Blocks.{Block, Blocks, IsKind, Reaches}
 use Rattle.sdr_base.specs.Linked.{first_of, last_of}
-use Rattle.sdr_base.specs.Entries.{Adds, Entries, Stands}
+use Rattle.sdr_base.specs.Entries.{Adds, Entries, BlocksAre}
 use Rattle.sdr_base.specs.Lists.{ElementFits, ListElement, ListRow, KeepsList, addr_of, element_block, elements_between, list_block, list_entries}
 use Rattle.sdr_base.specs.Making.{Made}
 use Rattle.sdr_base.specs.Objects.{Heap}
@@ -99,7 +99,7 @@ inserts_beside {element} {list} {addr = addr} {datum = datum} old new shift kind
 }
 
 none_before : (b : Blocks) (list first last user count next : ℕ) (xs : List ListElement) (more : Entries) → last_of addr_of 0 xs ≡ 0 →
-    Stands b ((list, list_block user count first last) ∷ (elements_between list 0 next xs ++ more)) → xs ≡ []
+    BlocksAre b ((list, list_block user count first last) ∷ (elements_between list 0 next xs ++ more)) → xs ≡ []
 none_before b list first last user count next [] more e s = refl
 none_before b list first last user count next (x ∷ xs) more e s =
     absurd (last_nonzero addr_of (element_block list) b ((list, list_block user count first last) ∷ []) more 0 next x xs s e)
@@ -117,7 +117,7 @@ first_follows {b} {list} h z = record {
 }
 
 after_last : (b : Blocks) (list prev next first last user count following : ℕ) (xs : List ListElement) (more : Entries) → prev ≡ last_of addr_of 0 xs → prev ≢ 0 →
-    following < 2 ^ 64 → Stands b ((list, list_block user count first last) ∷ (elements_between list 0 following xs ++ more)) →
+    following < 2 ^ 64 → BlocksAre b ((list, list_block user count first last) ∷ (elements_between list 0 following xs ++ more)) →
     HasWord (b prev) 2 next → next ≡ following
 after_last b list prev next first last user count following [] more e nz fits s h = absurd (nz e)
 after_last b list prev next first last user count following (x ∷ xs) more e nz fits s h =

@@ -1,7 +1,7 @@
 -- A list that is opened at a place, and how the links there are set.
 use Rattle.std.specs.Prelude.{◌≡◌, ◌+◌, ℕ, List, ◌∷◌, ◌++◌}
 use Rattle.sdr_base.specs.Blocks.{Blocks}
-use Rattle.sdr_base.specs.Entries.{Adds, Changes, Entries, Stands}
+use Rattle.sdr_base.specs.Entries.{Adds, Changes, Entries, BlocksAre}
 use Rattle.sdr_base.specs.Linked.{first_of, last_of}
 use Rattle.sdr_base.specs.Lists.{ListElement, ListRow, KeepsList, addr_of, list_block, list_entries, elements_between}
 use Rattle.sdr_list.specs.Kept.{IsSpot, Spot, addr_before, addr_from, with_element, without_element}
@@ -26,7 +26,7 @@ gap_entries list gap rest =
 
 -- an opened list and others are just the blocks in use
 pub record Opened (blocks : Blocks) (list : ℕ) (gap : Gap) (rest : Entries) : Type 0 where
-  pub stands : Stands blocks (gap_entries list gap rest)
+  pub stands : BlocksAre blocks (gap_entries list gap rest)
 
 -- wherever a list is opened behind `prev`, that is followed by another
 pub record LinksNext (old new : Blocks) (list prev next : ℕ) : Type 0 where

@@ -1,7 +1,7 @@
 -- A chain of blocks that is given back, the first one first.
 use Rattle.std.specs.Prelude.{◌≡◌, ℕ, List, ◌++◌, length, map, All}
 use Rattle.sdr_base.specs.Blocks.{Block, Blocks}
-use Rattle.sdr_base.specs.Entries.{Entries, Stands}
+use Rattle.sdr_base.specs.Entries.{Entries, BlocksAre}
 use Rattle.sdr_base.specs.Linked.{first_of, linked}
 use Rattle.sdr_base.specs.Lists.{ElementFits, ListElement, addr_of, element_block, elements_between}
 use Rattle.sdr_base.specs.Making.{GaveSome, Made, gave}
@@ -20,12 +20,12 @@ pub record Part {X : Type 0} (P : X → Type 0) (addr : X → ℕ) (block : ℕ 
   pub passed : length gone ≡ i
   pub at_cursor : cursor ≡ first_of addr next left
   pub holds : All P left
-  pub stands : Stands now.blocks (linked addr block prev next left ++ rest)
+  pub stands : BlocksAre now.blocks (linked addr block prev next left ++ rest)
   pub made : Made (gave (map addr gone)) old now
 
 -- a chain of elements stands there, so many, with other blocks
 pub record ChainAt (blocks : Blocks) (first count list prev : ℕ) (xs : List ListElement) (rest : Entries) : Type 0 where
-  pub stands : Stands blocks (elements_between list prev 0 xs ++ rest)
+  pub stands : BlocksAre blocks (elements_between list prev 0 xs ++ rest)
   pub at_first : first ≡ first_of addr_of 0 xs
   pub counted : count ≡ length xs
   pub fits : All ElementFits xs
@@ -39,13 +39,13 @@ pub record SomeChain (blocks : Blocks) (first count : ℕ) : Type 0 where
   pub is : ChainAt blocks first count list prev xs rest
 
 -- of whichever chain stands there so many first ones were given back
-pub record Gives (old now : Heap) (first count cursor i : ℕ) : Type 0 where
+pub record GivesElements (old now : Heap) (first count cursor i : ℕ) : Type 0 where
   pub gives : (list prev : ℕ) (xs : List ListElement) (rest : Entries) → ChainAt old.blocks first count list prev xs rest →
       Part ElementFits addr_of (element_block list) 0 old now cursor i xs rest
 
 -- the chain was given back, and the other blocks stand
 pub record Gone (old new : Heap) (xs : List ListElement) (rest : Entries) : Type 0 where
-  pub stands : Stands new.blocks rest
+  pub stands : BlocksAre new.blocks rest
   pub made : Made (gave (map addr_of xs)) old new
 
 -- whichever chain stands there was given back

@@ -5,13 +5,13 @@ use Rattle.std.specs.Cmp.Lexicographic.{nat_list_cmp_total, slice_cmp}
 use Rattle.std.specs.Ordering.{nat_cmp}
 use Rattle.std.specs.declared.cmp.Ordering.{Ordering}
 use Rattle.sdr_list.specs.Orders.{IsPreorder}
-use Rattle.sdr_list.specs.declared.orders.Keys.{Keys}
-use Rattle.sdr_list.specs.declared.orders.Keys.TheVariants as keys
+use Rattle.sdr_list.specs.declared.orders.ListKeys.{ListKeys}
+use Rattle.sdr_list.specs.declared.orders.ListKeys.TheVariants as keys
 
 -- how two keys compare by these
-abbrev pub order_of : Keys → List ℕ → List ℕ → Ordering
-order_of keys.ByBytes a b = slice_cmp nat_cmp a b
-order_of keys.ByLength a b = nat_cmp (length a) (length b)
+abbrev pub key_order : ListKeys → List ℕ → List ℕ → Ordering
+key_order keys.ByBytes a b = slice_cmp nat_cmp a b
+key_order keys.ByLength a b = nat_cmp (length a) (length b)
 
 -- a total order of all lists of bytes is a total preorder of keys
 on_keys : {order : List ℕ → List ℕ → Ordering} → IsTotalOrder order → IsPreorder order
@@ -22,6 +22,6 @@ on_keys o = record {
 }
 
 -- each is a total preorder of keys
-pub order_total : (by : Keys) → IsPreorder (order_of by)
+pub order_total : (by : ListKeys) → IsPreorder (key_order by)
 order_total keys.ByBytes = on_keys nat_list_cmp_total
 order_total keys.ByLength = on_keys (on_total (λ (xs : List ℕ). length xs) nat_cmp_total)

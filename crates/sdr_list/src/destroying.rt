@@ -4,7 +4,7 @@ ghost use Rattle.sdr_base.specs.Blocks.{UsesRange};
 ghost use Rattle.sdr_base.specs.Moves.{KeepsSome};
 ghost use Rattle.sdr_base.specs.Objects.{OnlyUnmoved, with_given};
 ghost use Rattle.sdr_base.specs.Words.{HasWord};
-ghost use Rattle.sdr_base.specs.Works.{Works};
+ghost use Rattle.sdr_base.specs.Works.{Spends};
 ghost use Rattle.sdr_list.specs.Destroying.{DestroysList, DestroyStops};
 ghost use Rattle.sdr_list.specs.Giving.{GivesChain, GiveStops, SomeChain};
 ghost use Rattle.sdr_list.specs.Kept.{IsList, elements_in};
@@ -21,7 +21,7 @@ pub fn destroy<O: Objects>(o: &mut O, list: Addr) -> Result<(), Stop>
     requires list { IsList (O.heap o.old).blocks list }
     ensures destroyed { OnOk result (DestroysList list (O.heap o.old) (O.heap o.new)) }
     ensures refused { IfErr result (DestroyStops list (O.heap o.old) (O.heap o.new)) }
-    ensures works { Works O.HasHeap
+    ensures works { Spends O.HasHeap
         (24 * (elements_in ((O.heap o.old).blocks list) + 1)) o.old o.new result }
 {
     let length = list_word(o, list, words::LENGTH)?;
@@ -38,7 +38,7 @@ fn give_one<O: Objects>(o: &mut O, element: Addr) -> Result<Addr, Stop>
     ensures next { IfOk result (λ next. HasWord ((O.heap o.old).blocks element) 2 next) }
     ensures given { OnOk result (O.heap o.new ≡ with_given (O.heap o.old) element) }
     ensures refused { IfErr result (OnlyUnmoved (O.heap o.old) (O.heap o.new)) }
-    ensures works { Works O.HasHeap 24 o.old o.new result }
+    ensures works { Spends O.HasHeap 24 o.old o.new result }
 {
     let next = word(o, element, element_words::NEXT)?;
     o.give(element)?;
@@ -52,7 +52,7 @@ fn give_chain<O: Objects>(o: &mut O, first: Addr, count: u64) -> Result<(), Stop
     requires chain { SomeChain (O.heap o.old).blocks first count }
     ensures given { OnOk result (GivesChain (O.heap o.old) (O.heap o.new) first count) }
     ensures refused { IfErr result (GiveStops first count (O.heap o.old) (O.heap o.new)) }
-    ensures works { Works O.HasHeap (24 * count) o.old o.new result }
+    ensures works { Spends O.HasHeap (24 * count) o.old o.new result }
 {
     check_failed(o)?;
     let mut element = first;

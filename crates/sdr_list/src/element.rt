@@ -2,7 +2,7 @@
 ghost use Rattle.std.specs.Prelude.{◌+◌, set, IfOk, IfErr, OnOk};
 ghost use Rattle.sdr_base.specs.Moves.{KeepsSome};
 ghost use Rattle.sdr_base.specs.Objects.{Misses};
-ghost use Rattle.sdr_base.specs.Works.{Looks, Works};
+ghost use Rattle.sdr_base.specs.Works.{Looks, Spends};
 ghost use Rattle.sdr_base.specs.declared.kind.Kind.TheVariants as kinds;
 ghost use Rattle.sdr_list.specs.Calls.{ChangeStops, SetsInElement, TellsOfElement};
 ghost use Rattle.sdr_list.specs.Kept.{IsElement, addr_before, addr_from, with_datum};
@@ -58,7 +58,7 @@ pub fn set_datum<O: Objects>(o: &mut O, element: Addr, datum: u64) -> Result<(),
         (λ spot. with_datum spot.row spot.place element datum) (O.heap o.old) (O.heap o.new)) }
     ensures refused { IfErr result
         (ChangeStops kinds.Element element (O.heap o.old) (O.heap o.new)) }
-    ensures works { Works O.HasHeap 2 o.old o.new result }
+    ensures works { Spends O.HasHeap 2 o.old o.new result }
 {
     expect_kind(o, element, Kind::Element)?;
     set_word(o, element, words::DATUM, datum)

@@ -3,7 +3,7 @@ ghost use Rattle.std.specs.Prelude.{◌≡◌, ◌+◌, ◌≤◌, [], ◌∷◌
 ghost use Rattle.sdr_base.specs.Making.{Made};
 ghost use Rattle.sdr_base.specs.Moves.{KeepsSome};
 ghost use Rattle.sdr_base.specs.Objects.{OnlyShort};
-ghost use Rattle.sdr_base.specs.Works.{Works};
+ghost use Rattle.sdr_base.specs.Works.{Spends};
 ghost use Rattle.sdr_base.specs.declared.kind.Kind.TheVariants as kinds;
 ghost use Rattle.sdr_base.specs.declared.moves.Move.TheVariants.{Took};
 ghost use Rattle.sdr_list.specs.Calls.{InsertsBeside, InsertsInList, InsertStops};
@@ -23,7 +23,7 @@ pub fn insert_first<O: Objects>(o: &mut O, list: Addr, datum: u64) -> Result<Add
     ensures inserted { IfOk result (λ addr.
         InsertsInList list (λ row. 0) datum addr (O.heap o.old) (O.heap o.new)) }
     ensures refused { IfErr result (InsertStops kinds.List list (O.heap o.old) (O.heap o.new)) }
-    ensures works { Works O.HasHeap 35 o.old o.new result }
+    ensures works { Spends O.HasHeap 35 o.old o.new result }
 {
     let first = list_word(o, list, words::FIRST)?;
     insert_between(o, list, 0, first, datum)
@@ -37,7 +37,7 @@ pub fn insert_last<O: Objects>(o: &mut O, list: Addr, datum: u64) -> Result<Addr
     ensures inserted { IfOk result (λ addr. InsertsInList list
         (λ row. length row.elements) datum addr (O.heap o.old) (O.heap o.new)) }
     ensures refused { IfErr result (InsertStops kinds.List list (O.heap o.old) (O.heap o.new)) }
-    ensures works { Works O.HasHeap 35 o.old o.new result }
+    ensures works { Spends O.HasHeap 35 o.old o.new result }
 {
     let last = list_word(o, list, words::LAST)?;
     insert_between(o, list, last, 0, datum)
@@ -52,7 +52,7 @@ pub fn insert_before<O: Objects>(o: &mut O, element: Addr, datum: u64) -> Result
         InsertsBeside element (λ place. place) datum addr (O.heap o.old) (O.heap o.new)) }
     ensures refused { IfErr result
         (InsertStops kinds.Element element (O.heap o.old) (O.heap o.new)) }
-    ensures works { Works O.HasHeap 35 o.old o.new result }
+    ensures works { Spends O.HasHeap 35 o.old o.new result }
 {
     let list = element_word(o, element, element_words::LIST)?;
     let prev = word(o, element, element_words::PREVIOUS)?;
@@ -68,7 +68,7 @@ pub fn insert_after<O: Objects>(o: &mut O, element: Addr, datum: u64) -> Result<
         InsertsBeside element (λ place. place + 1) datum addr (O.heap o.old) (O.heap o.new)) }
     ensures refused { IfErr result
         (InsertStops kinds.Element element (O.heap o.old) (O.heap o.new)) }
-    ensures works { Works O.HasHeap 35 o.old o.new result }
+    ensures works { Spends O.HasHeap 35 o.old o.new result }
 {
     let list = element_word(o, element, element_words::LIST)?;
     let next = word(o, element, element_words::NEXT)?;
@@ -90,7 +90,7 @@ pub fn insert_between<O: Objects>(
         (O.heap o.old).blocks (O.heap o.new).blocks list prev next addr datum) }
     ensures made { IfOk result (λ addr. Made (Took 32 addr ∷ []) (O.heap o.old) (O.heap o.new)) }
     ensures refused { IfErr result (OnlyShort 32 (O.heap o.old) (O.heap o.new)) }
-    ensures works { Works O.HasHeap 35 o.old o.new result }
+    ensures works { Spends O.HasHeap 35 o.old o.new result }
 {
     let length = word(o, list, words::LENGTH)?;
     let added = take_words(o, Kind::Element, &[list, prev, next, datum])?;

@@ -4,7 +4,7 @@ ghost use Rattle.sdr_base.specs.Blocks.{UsesRange};
 ghost use Rattle.sdr_base.specs.Making.{besides};
 ghost use Rattle.sdr_base.specs.Moves.{KeepsSome};
 ghost use Rattle.sdr_base.specs.Objects.{OnlyUnmoved};
-ghost use Rattle.sdr_base.specs.Works.{Works};
+ghost use Rattle.sdr_base.specs.Works.{Spends};
 ghost use Rattle.sdr_list.specs.Gaps.{LinksNext, LinksPrevious};
 
 use sdr_base::layout::{element, list as words};
@@ -19,7 +19,7 @@ pub fn link_next<O: Objects>(o: &mut O, list: Addr, prev: Addr, next: Addr) -> R
         (LinksNext (O.heap o.old).blocks (O.heap o.new).blocks list prev next) }
     ensures same { OnOk result (besides (O.heap o.new) ≡ besides (O.heap o.old)) }
     ensures refused { IfErr result (OnlyUnmoved (O.heap o.old) (O.heap o.new)) }
-    ensures works { Works O.HasHeap 2 o.old o.new result }
+    ensures works { Spends O.HasHeap 2 o.old o.new result }
 {
     if prev == 0 {
         set_word(o, list, words::FIRST, next)
@@ -37,7 +37,7 @@ pub fn link_prev<O: Objects>(o: &mut O, list: Addr, next: Addr, prev: Addr) -> R
         (LinksPrevious (O.heap o.old).blocks (O.heap o.new).blocks list next prev) }
     ensures same { OnOk result (besides (O.heap o.new) ≡ besides (O.heap o.old)) }
     ensures refused { IfErr result (OnlyUnmoved (O.heap o.old) (O.heap o.new)) }
-    ensures works { Works O.HasHeap 2 o.old o.new result }
+    ensures works { Spends O.HasHeap 2 o.old o.new result }
 {
     if next == 0 {
         set_word(o, list, words::LAST, prev)

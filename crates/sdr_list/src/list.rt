@@ -5,7 +5,7 @@ ghost use Rattle.sdr_base.specs.Lists.{addr_of, list_entries};
 ghost use Rattle.sdr_base.specs.Making.{MakesThing};
 ghost use Rattle.sdr_base.specs.Moves.{KeepsSome};
 ghost use Rattle.sdr_base.specs.Objects.{Misses, OnlyShort};
-ghost use Rattle.sdr_base.specs.Works.{Looks, Works};
+ghost use Rattle.sdr_base.specs.Works.{Looks, Spends};
 ghost use Rattle.sdr_base.specs.declared.kind.Kind.TheVariants as kinds;
 ghost use Rattle.sdr_list.specs.Calls.{ChangeStops, SetsInList, TellsOfList};
 ghost use Rattle.sdr_list.specs.Kept.{IsList};
@@ -21,7 +21,7 @@ pub fn create<O: Objects>(o: &mut O, user: u64) -> Result<Addr, Stop>
     ensures made { IfOk result (λ list. MakesThing 32 list
         (list_entries list (record { user = user; elements = [] })) (O.heap o.old) (O.heap o.new)) }
     ensures refused { IfErr result (OnlyShort 32 (O.heap o.old) (O.heap o.new)) }
-    ensures works { Works O.HasHeap 29 o.old o.new result }
+    ensures works { Spends O.HasHeap 29 o.old o.new result }
 {
     take_words(o, Kind::List, &[user, 0, 0, 0])
 }
@@ -56,7 +56,7 @@ pub fn set_user_data<O: Objects>(o: &mut O, list: Addr, user: u64) -> Result<(),
     ensures set { OnOk result
         (SetsInList list (λ row. record row { user = user }) (O.heap o.old) (O.heap o.new)) }
     ensures refused { IfErr result (ChangeStops kinds.List list (O.heap o.old) (O.heap o.new)) }
-    ensures works { Works O.HasHeap 2 o.old o.new result }
+    ensures works { Spends O.HasHeap 2 o.old o.new result }
 {
     expect_kind(o, list, Kind::List)?;
     set_word(o, list, words::USER, user)

@@ -3,7 +3,7 @@ ghost use Rattle.std.specs.Prelude.{◌≤◌, [], ◌∷◌, OnOk, IfErr};
 ghost use Rattle.sdr_base.specs.Making.{Made};
 ghost use Rattle.sdr_base.specs.Moves.{KeepsSome};
 ghost use Rattle.sdr_base.specs.Objects.{OnlyUnmoved};
-ghost use Rattle.sdr_base.specs.Works.{Works};
+ghost use Rattle.sdr_base.specs.Works.{Spends};
 ghost use Rattle.sdr_base.specs.declared.kind.Kind.TheVariants as kinds;
 ghost use Rattle.sdr_base.specs.declared.moves.Move.TheVariants.{Gave};
 ghost use Rattle.sdr_list.specs.Calls.{ChangeStops, DeletesElement};
@@ -23,7 +23,7 @@ pub fn delete<O: Objects>(o: &mut O, element: Addr) -> Result<(), Stop>
     ensures deleted { OnOk result (DeletesElement element (O.heap o.old) (O.heap o.new)) }
     ensures refused { IfErr result
         (ChangeStops kinds.Element element (O.heap o.old) (O.heap o.new)) }
-    ensures works { Works O.HasHeap 30 o.old o.new result }
+    ensures works { Spends O.HasHeap 30 o.old o.new result }
 {
     let list = element_word(o, element, words::LIST)?;
     let prev = word(o, element, words::PREVIOUS)?;
@@ -46,7 +46,7 @@ fn unlink<O: Objects>(
         (Unlinks (O.heap o.old).blocks (O.heap o.new).blocks list prev next element) }
     ensures made { OnOk result (Made (Gave element ∷ []) (O.heap o.old) (O.heap o.new)) }
     ensures refused { IfErr result (OnlyUnmoved (O.heap o.old) (O.heap o.new)) }
-    ensures works { Works O.HasHeap 30 o.old o.new result }
+    ensures works { Spends O.HasHeap 30 o.old o.new result }
 {
     let length = word(o, list, list_words::LENGTH)?;
     link_next(o, list, prev, next)?;

@@ -1,6 +1,6 @@
 // What calls on the elements of lists do to a world.
 ghost use Rattle.std.specs.Prelude.{◌≡◌, OnErr, OnOk, remove, set};
-ghost use Rattle.sdr_calls.specs.Answers.{Answers, HasElement, SetsList};
+ghost use Rattle.sdr_calls.specs.Answers.{CallsMemory, HasElement, SetsList};
 ghost use Rattle.sdr_model.specs.ListSteps.{as_list, datum_at};
 ghost use Rattle.sdr_model.specs.World.{thing_at};
 ghost use Rattle.sdr_undo.specs.Owners.{MayHave};
@@ -22,7 +22,7 @@ fn datum_at(elements: &Items<Element>, place: usize) -> u64
 }
 
 pub fn next(world: &mut Undoable, element: Addr) -> Result<Reply, NoMemory>
-    ensures { Answers (Call.Next element) world.old world.new result }
+    ensures { CallsMemory (Call.Next element) world.old world.new result }
 {
     let Some(spot) = world.spot(element) else {
         return Ok(misnamed(world, element));
@@ -33,7 +33,7 @@ pub fn next(world: &mut Undoable, element: Addr) -> Result<Reply, NoMemory>
 }
 
 pub fn prev(world: &mut Undoable, element: Addr) -> Result<Reply, NoMemory>
-    ensures { Answers (Call.Prev element) world.old world.new result }
+    ensures { CallsMemory (Call.Prev element) world.old world.new result }
 {
     let Some(spot) = world.spot(element) else {
         return Ok(misnamed(world, element));
@@ -47,7 +47,7 @@ pub fn prev(world: &mut Undoable, element: Addr) -> Result<Reply, NoMemory>
 }
 
 pub fn datum(world: &mut Undoable, element: Addr) -> Result<Reply, NoMemory>
-    ensures { Answers (Call.Datum element) world.old world.new result }
+    ensures { CallsMemory (Call.Datum element) world.old world.new result }
 {
     let Some(spot) = world.spot(element) else {
         return Ok(misnamed(world, element));
@@ -83,7 +83,7 @@ fn set_element(
 }
 
 pub fn set_datum(world: &mut Undoable, element: Addr, datum: u64) -> Result<Reply, NoMemory>
-    ensures { Answers (Call.SetDatum element datum) world.old world.new result }
+    ensures { CallsMemory (Call.SetDatum element datum) world.old world.new result }
 {
     let Some(spot) = world.spot(element) else {
         return Ok(misnamed(world, element));
@@ -114,7 +114,7 @@ fn remove_element(world: &mut Undoable, list: Addr, place: usize) -> Result<(), 
 }
 
 pub fn delete(world: &mut Undoable, element: Addr) -> Result<Reply, NoMemory>
-    ensures { Answers (Call.Delete element) world.old world.new result }
+    ensures { CallsMemory (Call.Delete element) world.old world.new result }
 {
     let Some(spot) = world.spot(element) else {
         return Ok(misnamed(world, element));

@@ -1,6 +1,6 @@
 // What insertions into lists do to a world.
 ghost use Rattle.std.specs.Prelude.{◌≡◌, ◌<◌, ◌^◌, IfOk, OnErr};
-ghost use Rattle.sdr_calls.specs.Answers.{Answers, HasPlace, InsertsAt};
+ghost use Rattle.sdr_calls.specs.Answers.{CallsMemory, HasPlace, InsertsAt};
 ghost use Rattle.sdr_model.specs.ListSteps.{as_list};
 ghost use Rattle.sdr_model.specs.World.{thing_at};
 
@@ -37,7 +37,7 @@ pub fn insert_at(
 
 pub fn insert_first(world: &mut Undoable, addr: Addr, datum: u64) -> Result<Reply, NoMemory>
     requires taken { world.old.now.taken < 2 ^ 60 }
-    ensures { Answers (Call.InsertFirst addr datum) world.old world.new result }
+    ensures { CallsMemory (Call.InsertFirst addr datum) world.old world.new result }
 {
     if list(world, addr).is_none() {
         return Ok(misnamed(world, addr));
@@ -47,7 +47,7 @@ pub fn insert_first(world: &mut Undoable, addr: Addr, datum: u64) -> Result<Repl
 
 pub fn insert_last(world: &mut Undoable, addr: Addr, datum: u64) -> Result<Reply, NoMemory>
     requires taken { world.old.now.taken < 2 ^ 60 }
-    ensures { Answers (Call.InsertLast addr datum) world.old world.new result }
+    ensures { CallsMemory (Call.InsertLast addr datum) world.old world.new result }
 {
     let Some(list) = list(world, addr) else {
         return Ok(misnamed(world, addr));
@@ -58,7 +58,7 @@ pub fn insert_last(world: &mut Undoable, addr: Addr, datum: u64) -> Result<Reply
 
 pub fn insert_before(world: &mut Undoable, element: Addr, datum: u64) -> Result<Reply, NoMemory>
     requires taken { world.old.now.taken < 2 ^ 60 }
-    ensures { Answers (Call.InsertBefore element datum) world.old world.new result }
+    ensures { CallsMemory (Call.InsertBefore element datum) world.old world.new result }
 {
     let Some(spot) = world.spot(element) else {
         return Ok(misnamed(world, element));
@@ -69,7 +69,7 @@ pub fn insert_before(world: &mut Undoable, element: Addr, datum: u64) -> Result<
 
 pub fn insert_after(world: &mut Undoable, element: Addr, datum: u64) -> Result<Reply, NoMemory>
     requires taken { world.old.now.taken < 2 ^ 60 }
-    ensures { Answers (Call.InsertAfter element datum) world.old world.new result }
+    ensures { CallsMemory (Call.InsertAfter element datum) world.old world.new result }
 {
     let Some(spot) = world.spot(element) else {
         return Ok(misnamed(world, element));

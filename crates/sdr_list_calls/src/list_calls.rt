@@ -2,7 +2,7 @@
 ghost use Rattle.std.specs.FinMap as map;
 ghost use Rattle.std.specs.Option.{option_copied};
 ghost use Rattle.std.specs.Prelude.{◌≡◌, ◌<◌, ◌≤◌, ◌-◌, ◌^◌, IfOk, OnErr, OnOk, Some, length, remove, set};
-ghost use Rattle.sdr_calls.specs.Answers.{Answers, HasElement, HasPlace, InsertsAt, PutsElement, SetsList};
+ghost use Rattle.sdr_calls.specs.Answers.{CallsMemory, HasElement, HasPlace, InsertsAt, PutsElement, SetsList};
 ghost use Rattle.sdr_model.specs.Dry.{next_addr};
 ghost use Rattle.sdr_model.specs.ListSteps.{as_list, datum_at, element_addr};
 ghost use Rattle.sdr_model.specs.World.{thing_at};
@@ -35,7 +35,7 @@ pub fn element_addr(elements: &Items<Element>, place: usize) -> Addr
 
 pub fn make_list(alloc: Global, world: &mut Undoable, user: u64) -> Result<Reply, NoMemory>
     requires taken { world.old.now.taken < 2 ^ 60 }
-    ensures { Answers (Call.List user) world.old world.new result }
+    ensures { CallsMemory (Call.List user) world.old world.new result }
 {
     let elements = Items::new(alloc);
     let addr = world.make(Thing::List(SdrList { user, elements }))?;
@@ -44,7 +44,7 @@ pub fn make_list(alloc: Global, world: &mut Undoable, user: u64) -> Result<Reply
 
 #[tactic(auto, using(sdr_model::proofs::DryLemmas::gives))]
 pub fn list_destroy(world: &mut Undoable, addr: Addr) -> Result<Reply, NoMemory>
-    ensures { Answers (Call.ListDestroy addr) world.old world.new result }
+    ensures { CallsMemory (Call.ListDestroy addr) world.old world.new result }
 {
     if list(world, addr).is_none() {
         return Ok(misnamed(world, addr));
@@ -54,7 +54,7 @@ pub fn list_destroy(world: &mut Undoable, addr: Addr) -> Result<Reply, NoMemory>
 }
 
 pub fn list_length(world: &mut Undoable, addr: Addr) -> Result<Reply, NoMemory>
-    ensures { Answers (Call.ListLength addr) world.old world.new result }
+    ensures { CallsMemory (Call.ListLength addr) world.old world.new result }
 {
     let Some(list) = list(world, addr) else {
         return Ok(misnamed(world, addr));
@@ -65,7 +65,7 @@ pub fn list_length(world: &mut Undoable, addr: Addr) -> Result<Reply, NoMemory>
 }
 
 pub fn list_user(world: &mut Undoable, addr: Addr) -> Result<Reply, NoMemory>
-    ensures { Answers (Call.ListUser addr) world.old world.new result }
+    ensures { CallsMemory (Call.ListUser addr) world.old world.new result }
 {
     let Some(list) = list(world, addr) else {
         return Ok(misnamed(world, addr));
@@ -76,7 +76,7 @@ pub fn list_user(world: &mut Undoable, addr: Addr) -> Result<Reply, NoMemory>
 }
 
 pub fn first(world: &mut Undoable, addr: Addr) -> Result<Reply, NoMemory>
-    ensures { Answers (Call.First addr) world.old world.new result }
+    ensures { CallsMemory (Call.First addr) world.old world.new result }
 {
     let Some(list) = list(world, addr) else {
         return Ok(misnamed(world, addr));
@@ -87,7 +87,7 @@ pub fn first(world: &mut Undoable, addr: Addr) -> Result<Reply, NoMemory>
 }
 
 pub fn last(world: &mut Undoable, addr: Addr) -> Result<Reply, NoMemory>
-    ensures { Answers (Call.Last addr) world.old world.new result }
+    ensures { CallsMemory (Call.Last addr) world.old world.new result }
 {
     let Some(list) = list(world, addr) else {
         return Ok(misnamed(world, addr));
@@ -117,7 +117,7 @@ fn put_user(world: &mut Undoable, addr: Addr, user: u64) -> Result<(), NoMemory>
 }
 
 pub fn set_list_user(world: &mut Undoable, addr: Addr, user: u64) -> Result<Reply, NoMemory>
-    ensures { Answers (Call.SetListUser addr user) world.old world.new result }
+    ensures { CallsMemory (Call.SetListUser addr user) world.old world.new result }
 {
     if list(world, addr).is_none() {
         return Ok(misnamed(world, addr));

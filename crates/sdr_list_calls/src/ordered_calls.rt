@@ -1,7 +1,7 @@
 // What calls that compare keys do to a world.
 ghost use Rattle.std.specs.Ordering.{is_eq, is_gt};
 ghost use Rattle.std.specs.Prelude.{◌≡◌, ◌<◌, ◌≤◌, ◌+◌, ◌^◌, cond, length, position, not};
-ghost use Rattle.sdr_calls.specs.Answers.{Answers};
+ghost use Rattle.sdr_calls.specs.Answers.{CallsMemory};
 ghost use Rattle.sdr_model.specs.ListSteps.{compare_keys, ordered_place, sort_key};
 
 use crate::insert_calls::insert_at;
@@ -72,7 +72,7 @@ pub fn insert_ordered(
     by: Keys,
 ) -> Result<Reply, NoMemory>
     requires taken { world.old.now.taken < 2 ^ 60 }
-    ensures { Answers (Call.InsertOrdered addr datum by) world.old world.new result }
+    ensures { CallsMemory (Call.InsertOrdered addr datum by) world.old world.new result }
 {
     let Some(list) = list(world, addr) else {
         return Ok(misnamed(world, addr));
@@ -91,7 +91,7 @@ fn equal_place(world: &Undoable, by: Keys, datum: u64, row: &SdrList) -> Option<
 }
 
 pub fn search(world: &mut Undoable, addr: Addr, datum: u64, by: Keys) -> Result<Reply, NoMemory>
-    ensures { Answers (Call.Search addr datum by) world.old world.new result }
+    ensures { CallsMemory (Call.Search addr datum by) world.old world.new result }
 {
     let Some(list) = list(world, addr) else {
         return Ok(misnamed(world, addr));

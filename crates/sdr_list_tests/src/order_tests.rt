@@ -2,7 +2,7 @@
 ghost use Rattle.std.specs.Prelude.{◌≡◌, length};
 ghost use Rattle.std.specs.Ordering.{nat_cmp};
 
-use sdr_list::{Collate, Collation, Keys, LONGEST_KEY, Stored};
+use sdr_list::{Collate, Collation, ListKeys, LONGEST_KEY, Stored};
 use std::cmp::Ordering;
 
 // Pairs of keys, and how they compare by their bytes and by their length.
@@ -54,18 +54,18 @@ fn compare_lengths(a: &[u8], b: &[u8]) -> Ordering
 
 #[test]
 fn keys_compare_by_their_bytes(rt: HostRuntime) {
-    let by = Collation::new(Keys::ByBytes);
+    let by = Collation::new(ListKeys::ByBytes);
     assert_eq!(rt; wrong_pair(&by, &BY_BYTES), None);
 }
 
 #[test]
 fn keys_compare_by_their_length(rt: HostRuntime) {
-    let by = Collation::new(Keys::ByLength);
+    let by = Collation::new(ListKeys::ByLength);
     assert_eq!(rt; wrong_pair(&by, &BY_LENGTH), None);
 }
 
 #[test]
 fn keys_compare_by_a_function(rt: HostRuntime) {
-    let by = Collation::new(Stored::new(compare_lengths, Keys::ByLength));
+    let by = Collation::new(Stored::new(compare_lengths, ListKeys::ByLength));
     assert_eq!(rt; wrong_pair(&by, &BY_LENGTH), None);
 }

@@ -4,27 +4,29 @@ use Rattle.std.proofs.Common.{nat_le}
 use Rattle.std.proofs.lemmas.Bool.{leb-false, leb-true}
 use Rattle.sdr_base.proofs.WrittenLemmas.{rose_later}
 use Rattle.sdr_lock.specs.Crash.{LeavesBefore, LeavesEither, LeavesOr}
-use Rattle.sdr_lock.specs.Gaps.{Gaps, GapsLast}
+use Rattle.sdr_lock.specs.Lapses.{Lapses, LapsesLast}
 use Rattle.sdr_lock.specs.Ground.{State, HasHeap}
-use Rattle.sdr_lock.specs.Serving.{Brings, KeepsGround, MeetsFault, StandsStill}
-use Rattle.sdr_lock.specs.Standing.{Standing}
+use Rattle.sdr_lock.specs.Serving.{Brings, KeepsGround, MeetsFault, SameStates}
+use Rattle.sdr_lock.specs.Standing.{GroundState}
 use Rattle.sdr_lock.specs.declared.has_ground.HasGround.{Ghosts}
 
 -- what was told of the two is told otherwise
-pub brings_also : {T : Type 0} {stands : T → Standing → Type 0} {old new : T} {P Q : Standing → Standing → Type 0}
-    → ((v v' : Standing) → P v v' → Q v v') → Brings stands old new P → Brings stands old new Q
+pub brings_also : {T : Type 0} {stands : T → GroundState → Type 0} {old new : T}
+    {P Q : GroundState → GroundState → Type 0}
+    → ((v v' : GroundState) → P v v' → Q v v') → Brings stands old new P → Brings stands old new Q
 brings_also also brings = record {
   each = λ v at. let s = brings.each v at in record { for = s.for; holds = s.holds; tells = also v s.for s.tells };
 }
 
 -- where nothing was done, it stands for the same
-pub brings_same : {T : Type 0} {stands : T → Standing → Type 0} {t : T} {P : Standing → Standing → Type 0}
-    → ((v : Standing) → P v v) → Brings stands t t P
+pub brings_same : {T : Type 0} {stands : T → GroundState → Type 0} {t : T} {P : GroundState → GroundState → Type 0}
+    → ((v : GroundState) → P v v) → Brings stands t t P
 brings_same tells = record { each = λ v at. record { for = v; holds = at; tells = tells v } }
 
 -- one after another
-pub brings_then : {T : Type 0} {stands : T → Standing → Type 0} {a b c : T} {P Q R : Standing → Standing → Type 0}
-    → ((v v' v'' : Standing) → P v v' → Q v' v'' → R v v'') → Brings stands a b P → Brings stands b c Q → Brings stands a c R
+pub brings_then : {T : Type 0} {stands : T → GroundState → Type 0} {a b c : T}
+    {P Q R : GroundState → GroundState → Type 0}
+    → ((v v' v'' : GroundState) → P v v' → Q v' v'' → R v v'') → Brings stands a b P → Brings stands b c Q → Brings stands a c R
 brings_then both first second = record {
   each = λ v at.
       let s = first.each v at in
@@ -33,18 +35,18 @@ brings_then both first second = record {
 }
 
 -- it stands still
-pub still_same : (v : Standing) → StandsStill v v
+pub still_same : (v : GroundState) → SameStates v v
 still_same v = record { before = refl; now = refl }
 
-pub still_then : (v v' v'' : Standing) → StandsStill v v' → StandsStill v' v'' → StandsStill v v''
+pub still_then : (v v' v'' : GroundState) → SameStates v v' → SameStates v' v'' → SameStates v v''
 still_then v v' v'' first second = record { before = second.before ∙ first.before; now = second.now ∙ first.now }
 
 -- counts that didn't fall
-pub gaps_same : (gaps : Gaps) → GapsLast gaps gaps
-gaps_same gaps = record { faults = omega arith; short = omega arith }
+pub lapses_same : (gaps : Lapses) → LapsesLast gaps gaps
+lapses_same gaps = record { faults = omega arith; short = omega arith }
 
-gaps_then : (a b c : Gaps) → GapsLast a b → GapsLast b c → GapsLast a c
-gaps_then a b c first second = record {
+lapses_then : (a b c : Lapses) → LapsesLast a b → LapsesLast b c → LapsesLast a c
+lapses_then a b c first second = record {
   faults = omega (arith, first.faults, second.faults);
   short = omega (arith, first.short, second.short);
 }
@@ -52,23 +54,24 @@ gaps_then a b c first second = record {
 module _ {T : Type 0} (g : Ghosts T) where
   -- where nothing is asked, a ground is kept
   pub keeps_same : (t : T) → KeepsGround g false t t
-  keeps_same t = record { later = omega arith; gaps = gaps_same (g.gaps t); media = refl; lasts = λ n lasts. lasts }
+  keeps_same t = record { later = omega arith; lapses = lapses_same (g.lapses t); media = refl;
+      lasts = λ n lasts. lasts }
 
   -- it is kept one after another
   pub keeps_then : {a b c : T} → KeepsGround g false a b → KeepsGround g false b c → KeepsGround g false a c
   keeps_then first second = record {
     later = omega (arith, first.later, second.later);
-    gaps = gaps_then _ _ _ first.gaps second.gaps;
+    lapses = lapses_then _ _ _ first.lapses second.lapses;
     media = second.media ∙ first.media;
     lasts = λ n lasts. second.lasts n (first.lasts n lasts);
   }
 
   -- fewer calls are spent
   pub keeps_more : {a b : T} → KeepsGround g false a b → KeepsGround g true a b
-  keeps_more {a} kept = record { later = kept.later; gaps = kept.gaps; media = kept.media; lasts = λ n lasts. kept.lasts n (g.lasts_less a n lasts) }
+  keeps_more {a} kept = record { later = kept.later; lapses = kept.lapses; media = kept.media; lasts = λ n lasts. kept.lasts n (g.lasts_less a n lasts) }
 
   -- a fault behind something that stood still
-  pub fault_then : {a b c : T} → Brings g.stands a b StandsStill → KeepsGround g false a b → MeetsFault g b c → MeetsFault g a c
+  pub fault_then : {a b c : T} → Brings g.stands a b SameStates → KeepsGround g false a b → MeetsFault g b c → MeetsFault g a c
   fault_then first kept fault = record {
     heap = λ v at. let s = first.each v at in subst (λ (x : State). HasHeap x.base) s.tells.before (fault.heap s.for s.holds);
     cause = rose_later _ _ _ kept.later fault.cause;
@@ -85,7 +88,7 @@ module _ {T : Type 0} (g : Ghosts T) where
   }
 
   -- where the one before stood still, a crash leaves the same in both
-  pub leaves_then : {a b c : T} → Brings g.stands a b StandsStill → LeavesBefore g a b → LeavesBefore g b c → LeavesBefore g a c
+  pub leaves_then : {a b c : T} → Brings g.stands a b SameStates → LeavesBefore g a b → LeavesBefore g b c → LeavesBefore g a c
   leaves_then {a} {b} {c} first one two = record {
     each = λ v at.
         let s = first.each v at in
@@ -98,7 +101,7 @@ module _ {T : Type 0} (g : Ghosts T) where
         };
   }
     where
-      step : (v w : Standing) → w.before ≡ v.before
+      step : (v w : GroundState) → w.before ≡ v.before
           → ((m : ℕ) (image : List ℕ) → g.moment a ≤ m → m ≤ g.moment b → g.left b m image → g.opens image v.before)
           → ((m : ℕ) (image : List ℕ) → m ≤ g.moment a → g.left b m image → g.left a m image)
           → ((m : ℕ) (image : List ℕ) → g.moment b ≤ m → m ≤ g.moment c → g.left c m image → g.opens image w.before)

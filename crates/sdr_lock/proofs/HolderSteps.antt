@@ -10,8 +10,8 @@ use Rattle.sdr_model.specs.declared.event.Leave.{Leave}
 use Rattle.sdr_lock.specs.Ground.{HasHeap}
 use Rattle.sdr_lock.specs.Holders.{HoldFirst, hold_none, holders}
 use Rattle.sdr_lock.specs.Leaving.{holds_number, served_daemon}
-use Rattle.sdr_lock.specs.Machine.{Machine, Made, MachineStep, Closes, Comes, ComesLeaving, Enters, Faults, FaultsWithin, Goes, Holds, LeavesHolding, Looks, Performs, Serves, Works, is_outside}
-use Rattle.sdr_lock.specs.Roll.{Roll, after_entry, after_leave, after_number, after_wait, daemon_of, is_stalled, served_number, waits_for, with_daemon}
+use Rattle.sdr_lock.specs.Machine.{Machine, Made, MachineStep, Closes, Comes, ComesLeaving, Enters, Faults, FaultsWithin, Goes, Holds, LeavesHolding, Looks, Performs, OnTurn, GoesOnIn, is_outside}
+use Rattle.sdr_lock.specs.Roll.{Roll, when_done, after_leave, when_passed_over, after_wait, daemon_of, is_stalled, served_number, waits_for, with_daemon}
 use Rattle.sdr_lock.specs.Transaction.{is_closing, is_opening, transaction_of}
 use Rattle.sdr_lock.specs.declared.daemon.Daemon.{Daemon}
 use Rattle.sdr_lock.specs.declared.daemon.Holding.{Holding}
@@ -53,14 +53,14 @@ module _ (m : Machine) (e : Made) (m' : Machine) where
       put_holders m.roll m'.roll d (ap (λ (n : Machine). n.roll.daemons) fault.after ∙ daemons) (free d.holds none)
 
   looks : (d : Daemon) (ticket : ℕ) (roll : Roll) → roll.daemons ≡ m.roll.daemons → Looks m d e ticket roll m' → Kept
-  looks d ticket roll daemons (inr fault) = faults (after_entry d) _ (λ i. (with_daemon (record m.roll { daemons = daemons i }) (after_entry d)).daemons) refl fault
+  looks d ticket roll daemons (inr fault) = faults (when_done d) _ (λ i. (with_daemon (record m.roll { daemons = daemons i }) (when_done d)).daemons) refl fault
   looks d ticket roll daemons (inl seen) =
       from_option (pending_of m.before.world ticket) seen
-      (λ _ goes. put (after_number d) _ _ goes (λ i. (with_daemon (record m.roll { daemons = daemons i }) (after_number d)).daemons) (free None refl))
+      (λ _ goes. put (when_passed_over d) _ _ goes (λ i. (with_daemon (record m.roll { daemons = daemons i }) (when_passed_over d)).daemons) (free None refl))
       (λ p _ rest. from_test p.ticket.granted rest
-      (λ _ goes. put (after_entry d) _ _ goes (λ i. (with_daemon (record m.roll { daemons = daemons i }) (after_entry d)).daemons) (free None refl))
+      (λ _ goes. put (when_done d) _ _ goes (λ i. (with_daemon (record m.roll { daemons = daemons i }) (when_done d)).daemons) (free None refl))
       (λ _ waits. from_test (waits_for d ticket && is_stalled m.roll m.before.world) waits
-      (λ _ goes. put (after_entry d) _ _ goes (λ i. (with_daemon (record m.roll { daemons = daemons i }) (after_entry d)).daemons) (free None refl))
+      (λ _ goes. put (when_done d) _ _ goes (λ i. (with_daemon (record m.roll { daemons = daemons i }) (when_done d)).daemons) (free None refl))
       (λ _ goes. put (after_wait d ticket) _ _ goes (λ i. (with_daemon (record m.roll { daemons = daemons i }) (after_wait d ticket)).daemons) (free None refl))))
 
   comes : (d : Daemon) (event : Event) → d.left ≡ false → Comes m d event e m' → Kept
@@ -73,18 +73,18 @@ module _ (m : Machine) (e : Made) (m' : Machine) where
   comes d event left goes = same _ _ goes refl
 
   closes : (d : Daemon) (h : Holding) → Closes m d h e m' → Kept
-  closes d h close = put_holders m.roll m'.roll (after_entry d) (ap (λ (n : Machine). n.roll.daemons) close.after) (free None refl)
+  closes d h close = put_holders m.roll m'.roll (when_done d) (ap (λ (n : Machine). n.roll.daemons) close.after) (free None refl)
 
   ends : (d : Daemon) (h : Holding) (event : Event) → Closes m d h e m' ⊎ FaultsWithin m d h event e m' → Kept
   ends d h event (inl close) = closes d h close
-  ends d h event (inr fault) = faults (after_entry d) _ refl refl fault.faults
+  ends d h event (inr fault) = faults (when_done d) _ refl refl fault.faults
 
-  serves : (d : Daemon) (h : Holding) (event : Event) → d.left ≡ false → Serves m d h event e m' → Kept
+  serves : (d : Daemon) (h : Holding) (event : Event) → d.left ≡ false → OnTurn m d h event e m' → Kept
   serves d h event left served =
       from_test (is_opening (transaction_of h m.now) event) served (λ _ goes. put _ _ _ goes refl (λ _. left)) (λ _ either. proceeds either)
     where
-      proceeds : MatchBool (is_closing (transaction_of h m.now) event) (Closes m d h e m') (Works m d h event e m') ⊎ FaultsWithin m d h event e m' → Kept
-      proceeds (inr fault) = faults (after_entry d) _ refl refl fault.faults
+      proceeds : MatchBool (is_closing (transaction_of h m.now) event) (Closes m d h e m') (GoesOnIn m d h event e m') ⊎ FaultsWithin m d h event e m' → Kept
+      proceeds (inr fault) = faults (when_done d) _ refl refl fault.faults
       proceeds (inl goes_on) =
           from_test (is_closing (transaction_of h m.now) event) goes_on (λ _ close. closes d h close)
           (λ _ works. put_holders m.roll m'.roll _ (ap (λ (n : Machine). n.roll.daemons) works.others) (λ _. left))
@@ -152,7 +152,7 @@ module _ (m : Machine) (e : Made) (m' : Machine) where
         mine a b is = grind (arith, nat_tests)
 
         ending : Closes m d h e m' ⊎ FaultsWithin m d h (events.Leaves leave) e m' → Fewer
-        ending (inl close) = gives_up (after_entry d) refl refl (ap (λ (n : Machine). n.roll.daemons) close.after)
+        ending (inl close) = gives_up (when_done d) refl refl (ap (λ (n : Machine). n.roll.daemons) close.after)
         ending (inr fault) = absurd (no_heap fault.faults.heap)
 
     performs : Performs m d e m' → Fewer

@@ -10,11 +10,11 @@ use Rattle.sdr_base.specs.Media.{Told}
 use Rattle.sdr_base.specs.declared.refusal.Refusal.TheVariants as refusals
 use Rattle.sdr_lock.specs.Agreeing.{AgreesReading, AgreesWith}
 use Rattle.sdr_lock.specs.Crash.{LeavesOr}
-use Rattle.sdr_lock.specs.Gaps.{Gaps, HasGapCause}
+use Rattle.sdr_lock.specs.Lapses.{Lapses, HasLapseCause}
 use Rattle.sdr_lock.specs.Machine.{Machine, Made, Goes, Faults, with_roll}
 use Rattle.sdr_lock.specs.Roll.{Roll, with_drawn, with_fault}
 use Rattle.sdr_lock.specs.Serving.{Acts, Asks, Brings, KeepsGround, Locked, MeetsFault, is_disk_fault, is_sight, machine_at, made_by}
-use Rattle.sdr_lock.specs.Standing.{Standing, standing_at}
+use Rattle.sdr_lock.specs.Standing.{GroundState, standing_at}
 use Rattle.sdr_lock.specs.declared.came.Came.{Came}
 use Rattle.sdr_lock.specs.declared.has_ground.HasGround.{Ghosts}
 use Rattle.sdr_lock.proofs.GroundLemmas.{keeps_more, keeps_same, leaves_or, leaves_same}
@@ -48,7 +48,7 @@ agrees_untold (Some media) w (events.Say call) given bytes untold = λ reads. ag
 agrees_untold (Some media) w event given bytes untold = tt
 
 -- and needs no cause of theirs
-pub no_gap_cause : (a : Answer) (old new : Gaps) → tells_media a ≡ false → HasGapCause a old new
+pub no_gap_cause : (a : Answer) (old new : Lapses) → tells_media a ≡ false → HasLapseCause a old new
 no_gap_cause (answers.Reply replies.MediaFault) old new untold = absurd (true≢false untold)
 no_gap_cause (answers.Reply (replies.Refused (refusals.SourceShort have want))) old new untold = absurd (true≢false untold)
 no_gap_cause a old new untold = tt
@@ -70,13 +70,13 @@ sight_untold a is = absurd (true≢false (sym is))
 
 module _ {T : Type 0} (g : Ghosts T) where
   -- the step of an event between two locks, where they stand for these
-  abbrev pub step_of : (Machine → Made → Machine → Type 0) → ℕ → Event → Came → Locked T → Locked T → Standing → Standing → ℕ → Type 0
+  abbrev pub step_of : (Machine → Made → Machine → Type 0) → ℕ → Event → Came → Locked T → Locked T → GroundState → GroundState → ℕ → Type 0
   step_of R daemon event a old new v v' line = R (machine_at old.roll v) (made_by daemon event a (g.moment old.base) (g.moment new.base) line v') (machine_at new.roll v')
 
   -- a step that is another one too
   pub acts_also : (keeps keeps' : Bool) (R S : Machine → Made → Machine → Type 0) (daemon : ℕ) (event : Event) (a : Came) (old new : Locked T)
       → keeps ≡ keeps'
-      → ((v v' : Standing) (line : ℕ) → step_of R daemon event a old new v v' line → step_of S daemon event a old new v v' line)
+      → ((v v' : GroundState) (line : ℕ) → step_of R daemon event a old new v v' line → step_of S daemon event a old new v v' line)
       → Acts g keeps R daemon event a old new → Acts g keeps' S daemon event a old new
   acts_also keeps keeps' R S daemon event a old new same also acts = record {
     leads = record {
@@ -114,7 +114,7 @@ module _ {T : Type 0} (g : Ghosts T) where
   pub acts_told : (keeps : Bool) (R : Machine → Made → Machine → Type 0) (daemon : ℕ) (event : Event) (answer : Answer) (a : Came) (old self new : Locked T) (r : Roll)
       → old ≡ self → a ≡ told answer → is_disk_fault (told answer) ≡ false → tells_media answer ≡ false
       → new.base ≡ old.base → new.roll ≡ r → (r.failed ≡ None → old.roll.failed ≡ None)
-      → ((v : Standing) (line : ℕ) → let e = made_by daemon event (told answer) (g.moment old.base) (g.moment new.base) line v in
+      → ((v : GroundState) (line : ℕ) → let e = made_by daemon event (told answer) (g.moment old.base) (g.moment new.base) line v in
       Goes e (machine_at new.roll v) answer (with_roll (machine_at old.roll v) r) → R (machine_at old.roll v) e (machine_at new.roll v))
       → Acts g keeps R daemon event a self new
   acts_told keeps R daemon event answer a old self new r view is no_fault untold base roll failed step =
@@ -139,19 +139,19 @@ module _ {T : Type 0} (g : Ghosts T) where
   -- an event that changes nothing
   pub acts_same : (keeps : Bool) (R : Machine → Made → Machine → Type 0) (daemon : ℕ) (event : Event) (answer : Answer) (a : Came) (self : Locked T)
       → a ≡ told answer → is_disk_fault (told answer) ≡ false → tells_media answer ≡ false
-      → ((v : Standing) (line : ℕ) → let e = made_by daemon event (told answer) (g.moment self.base) (g.moment self.base) line v in
+      → ((v : GroundState) (line : ℕ) → let e = made_by daemon event (told answer) (g.moment self.base) (g.moment self.base) line v in
       Goes e (machine_at self.roll v) answer (machine_at self.roll v) → R (machine_at self.roll v) e (machine_at self.roll v))
       → Acts g keeps R daemon event a self self
   acts_same keeps R daemon event answer a self is no_fault untold step =
       acts_told keeps R daemon event answer a self self self self.roll refl is no_fault untold refl refl (λ none. none) step
 
   -- an event for which the ground is asked, and answers well
-  pub acts_asked : (keeps : Bool) (R : Machine → Made → Machine → Type 0) (P : Standing → Standing → Type 0) (daemon : ℕ) (event : Event) (b a : Came) (old self new : Locked T)
+  pub acts_asked : (keeps : Bool) (R : Machine → Made → Machine → Type 0) (P : GroundState → GroundState → Type 0) (daemon : ℕ) (event : Event) (b a : Came) (old self new : Locked T)
       → old ≡ self → a ≡ b → is_disk_fault b ≡ false → (b.called ≡ true → new.roll.failed ≡ None) → self.roll.failed ≡ None
       → Brings g.stands old.base new.base P → KeepsGround g true old.base new.base → LeavesOr keeps g old.base new.base
-      → HasGapCause b.answer (g.gaps old.base) (g.gaps new.base)
-      → ((v v' : Standing) → P v v' → AgreesWith (g.told old.base) v.now.world event b.answer (if b.called then bytes_given b.answer v'.now.world.shown else []))
-      → ((v v' : Standing) (line : ℕ) → P v v' → step_of R daemon event b old new v v' line)
+      → HasLapseCause b.answer (g.lapses old.base) (g.lapses new.base)
+      → ((v v' : GroundState) → P v v' → AgreesWith (g.told old.base) v.now.world event b.answer (if b.called then bytes_given b.answer v'.now.world.shown else []))
+      → ((v v' : GroundState) (line : ℕ) → P v v' → step_of R daemon event b old new v v' line)
       → Acts g keeps R daemon event a self new
   acts_asked keeps R P daemon event b a old self new view is no_fault still sound brings kept leaves gap media step =
       let none : old.roll.failed ≡ None = ap (λ (l : Locked T). l.roll.failed) view ∙ sound in
@@ -178,7 +178,7 @@ module _ {T : Type 0} (g : Ghosts T) where
       → old ≡ self → a ≡ told (answers.Reply replies.DiskFault) → self.roll.failed ≡ None
       → MeetsFault g old.base new.base → KeepsGround g true old.base new.base → LeavesOr keeps g old.base new.base
       → new.roll ≡ with_fault r (g.moment new.base)
-      → ((v : Standing) (line : ℕ) → let e = made_by daemon event (told (answers.Reply replies.DiskFault)) (g.moment old.base) (g.moment new.base) line v in
+      → ((v : GroundState) (line : ℕ) → let e = made_by daemon event (told (answers.Reply replies.DiskFault)) (g.moment old.base) (g.moment new.base) line v in
       Faults (machine_at old.roll v) e r (machine_at new.roll (standing_at v.before [])) → R (machine_at old.roll v) e (machine_at new.roll (standing_at v.before [])))
       → Acts g keeps R daemon event a self new
   acts_failed keeps R daemon event a old self new r view is sound fails kept leaves roll step =
@@ -213,7 +213,7 @@ module _ {T : Type 0} (g : Ghosts T) where
 
   -- an event behind a number that was drawn and is done
   pub acts_drawn : (keeps : Bool) (R S : Machine → Made → Machine → Type 0) (daemon : ℕ) (event : Event) (a : Came) (old new : Locked T)
-      → ((v v' : Standing) (line : ℕ) → step_of R daemon event a (record old { roll = with_drawn old.roll }) new v v' line → step_of S daemon event a old new v v' line)
+      → ((v v' : GroundState) (line : ℕ) → step_of R daemon event a (record old { roll = with_drawn old.roll }) new v v' line → step_of S daemon event a old new v v' line)
       → Acts g keeps R daemon event a (record old { roll = with_drawn old.roll }) new → Acts g keeps S daemon event a old new
   acts_drawn keeps R S daemon event a old new also acts = record {
     leads = record {

@@ -10,7 +10,7 @@ use Rattle.sdr_model.specs.declared.answer.Answer.TheVariants as answers
 use Rattle.sdr_lock.specs.Ground.{State}
 use Rattle.sdr_lock.specs.Roll.{Roll, is_stalled, is_stuck, waits_for}
 use Rattle.sdr_lock.specs.Serving.{Doubts, Finds, Sees, Shows, answer_seen, waiting_answer}
-use Rattle.sdr_lock.specs.Standing.{Standing}
+use Rattle.sdr_lock.specs.Standing.{GroundState}
 use Rattle.sdr_lock.specs.declared.daemon.Daemon.{Daemon}
 use Rattle.sdr_lock.proofs.GroundLemmas.{still_same, still_then}
 
@@ -25,14 +25,14 @@ none_of [] below = refl
 none_of (x ∷ ds) below = absurd (omega (arith, below))
 
 -- a daemon that has left is stuck
-pub finds_left : (d : Daemon) → d.left ≡ true → (v : Standing) → Finds (d ∷ []) true v v
+pub finds_left : (d : Daemon) → d.left ≡ true → (v : GroundState) → Finds (d ∷ []) true v v
 finds_left d left v = record {
   found = sym (ap (λ b. (b || option_map_or (λ t. not (is_granted (pending_of v.before.world t))) d.waits false) && true) left);
   still = still_same v;
 }
 
 -- one that hasn't left and doesn't wait is not
-pub finds_going : (d : Daemon) → d.left ≡ false → d.waits ≡ None → (v : Standing) → Finds (d ∷ []) false v v
+pub finds_going : (d : Daemon) → d.left ≡ false → d.waits ≡ None → (v : GroundState) → Finds (d ∷ []) false v v
 finds_going d left waits v = record {
   found = sym (λ i. (left i || option_map_or (λ t. not (is_granted (pending_of v.before.world t))) (waits i) false) && true);
   still = still_same v;
@@ -48,7 +48,7 @@ with_true true = refl
 with_true false = refl
 
 -- one that waits is stuck where its ticket isn't shown as granted
-pub finds_waiting : (d : Daemon) (ticket : ℕ) (granted : Option Bool) → d.left ≡ false → d.waits ≡ Some ticket → (v v' : Standing)
+pub finds_waiting : (d : Daemon) (ticket : ℕ) (granted : Option Bool) → d.left ≡ false → d.waits ≡ Some ticket → (v v' : GroundState)
     → Shows ticket granted v v' → Finds (d ∷ []) (not (unwrap_or granted false)) v v'
 finds_waiting d ticket granted left waits v v' shows = record {
   found =
@@ -60,11 +60,11 @@ finds_waiting d ticket granted left waits v v' shows = record {
 }
 
 -- no daemon is going among none
-pub finds_none : (ds : List Daemon) → ds ≡ [] → (v : Standing) → Finds ds true v v
+pub finds_none : (ds : List Daemon) → ds ≡ [] → (v : GroundState) → Finds ds true v v
 finds_none ds none v = record { found = sym (ap (λ (ds : List Daemon). list_all (is_stuck v.before.world) ds) none); still = still_same v }
 
 -- where the first is stuck, it goes by the others
-pub finds_others : (ds others : List Daemon) (d : Daemon) (b stuck : Bool) → b ≡ true → ds ≡ d ∷ others → (v v' v'' : Standing)
+pub finds_others : (ds others : List Daemon) (d : Daemon) (b stuck : Bool) → b ≡ true → ds ≡ d ∷ others → (v v' v'' : GroundState)
     → Finds (d ∷ []) b v v' → Finds others stuck v' v'' → Finds ds stuck v v''
 finds_others ds others d b stuck on is v v' v'' first rest =
     let here : is_stuck v.before.world d ≡ true = sym (with_true (is_stuck v.before.world d)) ∙ sym first.found ∙ on in
@@ -78,7 +78,7 @@ finds_others ds others d b stuck on is v v' v'' first rest =
     }
 
 -- where the first isn't, not all are
-pub finds_first : (ds others : List Daemon) (d : Daemon) (b : Bool) → b ≡ false → ds ≡ d ∷ others → (v v' : Standing)
+pub finds_first : (ds others : List Daemon) (d : Daemon) (b : Bool) → b ≡ false → ds ≡ d ∷ others → (v v' : GroundState)
     → Finds (d ∷ []) b v v' → Finds ds false v v'
 finds_first ds others d b no_more is v v' first =
     let here : is_stuck v.before.world d ≡ false = sym (with_true (is_stuck v.before.world d)) ∙ sym first.found ∙ no_more in
@@ -90,7 +90,7 @@ finds_first ds others d b no_more is v v' first =
     }
 
 -- a daemon that didn't wait for the ticket waits for it now
-pub doubts_new : (r : Roll) (d : Daemon) (ticket : ℕ) → waits_for d ticket ≡ false → (v : Standing) → Doubts r d ticket answers.Waits v v
+pub doubts_new : (r : Roll) (d : Daemon) (ticket : ℕ) → waits_for d ticket ≡ false → (v : GroundState) → Doubts r d ticket answers.Waits v v
 doubts_new r d ticket new v = record {
   seen = sym (ap (λ b. waiting_answer b (is_stalled r v.before.world)) new);
   still = still_same v;
@@ -98,7 +98,7 @@ doubts_new r d ticket new v = record {
 
 -- one that did is told whether all have stalled
 pub doubts_again : (r : Roll) (d : Daemon) (ticket : ℕ) (ds : List Daemon) (stuck : Bool) (answer : Answer)
-    → waits_for d ticket ≡ true → ds ≡ r.daemons → answer ≡ waiting_answer true stuck → (v v' : Standing)
+    → waits_for d ticket ≡ true → ds ≡ r.daemons → answer ≡ waiting_answer true stuck → (v v' : GroundState)
     → Finds ds stuck v v' → Doubts r d ticket answer v v'
 doubts_again r d ticket ds stuck answer again same is v v' finds = record {
   seen =
@@ -110,7 +110,7 @@ doubts_again r d ticket ds stuck answer again same is v v' finds = record {
 -- a ticket that isn't there, or is granted, needs no doubt
 pub sees_at_once : (r : Roll) (d : Daemon) (ticket : ℕ) (granted : Option Bool) (answer : Answer)
     → ((waiting : Answer) → answer ≡ answer_seen granted ticket waiting)
-    → (v v' : Standing) → Shows ticket granted v v' → Sees r d ticket answer v v'
+    → (v v' : GroundState) → Shows ticket granted v v' → Sees r d ticket answer v v'
 sees_at_once r d ticket granted answer is v v' shows = record {
   seen =
       is (waiting_answer (waits_for d ticket) (is_stalled r v.before.world))
@@ -119,7 +119,7 @@ sees_at_once r d ticket granted answer is v v' shows = record {
 }
 
 -- one that waits is answered by the doubt
-pub sees_doubtful : (r : Roll) (d : Daemon) (ticket : ℕ) (granted : Option Bool) (answer : Answer) → granted ≡ Some false → (v v' v'' : Standing)
+pub sees_doubtful : (r : Roll) (d : Daemon) (ticket : ℕ) (granted : Option Bool) (answer : Answer) → granted ≡ Some false → (v v' v'' : GroundState)
     → Shows ticket granted v v' → Doubts r d ticket answer v' v'' → Sees r d ticket answer v v''
 sees_doubtful r d ticket granted answer waits v v' v'' shows doubts = record {
   seen =

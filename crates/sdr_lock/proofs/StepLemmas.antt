@@ -12,10 +12,10 @@ use Rattle.sdr_model.specs.declared.call.Call.{Call}
 use Rattle.sdr_model.specs.declared.event.Event.{Event}
 use Rattle.sdr_model.specs.declared.event.Event.TheVariants as events
 use Rattle.sdr_lock.specs.Ground.{HasHeap}
-use Rattle.sdr_lock.specs.Machine.{Machine, Made, MachineStep, Answers, Closes, Comes, Enters, Faults, FaultsWithin, Goes, Holds, Looks, Serves, Works, is_outside, roll_acting, roll_coming, roll_failed, roll_holding}
+use Rattle.sdr_lock.specs.Machine.{Machine, Made, MachineStep, StepsOf, Closes, Comes, Enters, Faults, FaultsWithin, Goes, Holds, Looks, OnTurn, GoesOnIn, is_outside, roll_acting, roll_coming, roll_failed, roll_holding}
 use Rattle.sdr_lock.specs.Nesting.{comes_to, deepened, deepest, doomed_for}
 use Rattle.sdr_lock.specs.Roll.{Roll, after_leave, daemon_of, is_stalled, served_number, waits_for, with_daemon, with_drawn, with_number}
-use Rattle.sdr_lock.specs.Transaction.{Replies, OpenTransaction, Transacts, is_closing, is_opening, left_by, transaction_of}
+use Rattle.sdr_lock.specs.Transaction.{Replies, OpenTransaction, Transacts, is_closing, is_opening, state_left, transaction_of}
 use Rattle.sdr_lock.specs.declared.daemon.Daemon.{Daemon}
 use Rattle.sdr_lock.specs.declared.daemon.Holding.{Holding}
 use Rattle.sdr_lock.specs.declared.nesting.Nesting.{Nesting}
@@ -62,7 +62,7 @@ pub record IsCalled (m : Machine) (e : Made) (m' : Machine) : Type 0 where
 pub data Kind (m : Machine) (e : Made) (m' : Machine) : Type 0 where
   stays : IsQuiet e → m'.before ≡ m.before → m'.now ≡ m.now → Kind m e m'
   called : IsCalled m e m' → Kind m e m'
-  closed : (close : Close) → IsQuiet e → m'.before ≡ left_by close m.before m.now → m'.now ≡ left_by close m.before m.now → Kind m e m'
+  closed : (close : Close) → IsQuiet e → m'.before ≡ state_left close m.before m.now → m'.now ≡ state_left close m.before m.now → Kind m e m'
   failed : IsQuiet e → HasHeap m.before.base → m'.before ≡ m.before → m'.now ≡ m.before → Kind m e m'
 
 -- what a step is, in which one number is drawn at most
@@ -132,7 +132,7 @@ module _ (m : Machine) (e : Made) (m' : Machine) where
   kind_ends d h event (inr faults) = kind_faults _ (omega arith) faults.faults
 
   -- an inner event, or another that leaves the state
-  works_quiet : (d : Daemon) (h : Holding) (event : Event) (works : Works m d h event e m') → IsQuiet e → works.after.state ≡ m.now → StepIs m e m'
+  works_quiet : (d : Daemon) (h : Holding) (event : Event) (works : GoesOnIn m d h event e m') → IsQuiet e → works.after.state ≡ m.now → StepIs m e m'
   works_quiet d h event works told now = record {
     drawn = subst (λ (n : Machine). n.roll.drawn ≤ m.roll.drawn + 1) (sym works.others) (omega arith);
     sound = λ _ none. ap (λ (n : Machine). n.roll.failed) works.others ∙ none;
@@ -141,7 +141,8 @@ module _ (m : Machine) (e : Made) (m' : Machine) where
 
   kind_works : (d : Daemon) (h : Holding) (event : Event) → e.said.event ≡ event → daemon_of m.roll e.daemon ≡ Some d → d.left ≡ false → d.holds ≡ Some h
       → (h.nesting.depth == 0) ≡ false → (served_number m.roll == h.number) ≡ true
-      → (works : Works m d h event e m') → Transacts (transaction_of h m.now) event e.said works.after → StepIs m e m'
+      → (works : GoesOnIn m d h event e m') → Transacts (transaction_of h m.now) event e.said works.after →
+          StepIs m e m'
   kind_works d h events.Request is found left holds inside served works t = absurd t
   kind_works d h events.Begin is found left holds inside served works t =
       works_quiet d h _ works (record { moves = t.told.moves; bytes = t.told.bytes; untold = ap tells_media t.told.answer ∙ untold_deepened h.nesting })
@@ -175,7 +176,7 @@ module _ (m : Machine) (e : Made) (m' : Machine) where
   kind_works d h (events.Leaves leave) is found left holds inside served works t = absurd t
 
   kind_serves : (d : Daemon) (h : Holding) (event : Event) → e.said.event ≡ event → daemon_of m.roll e.daemon ≡ Some d → d.left ≡ false → d.holds ≡ Some h
-      → is_outside h event ≡ false → (served_number m.roll == h.number) ≡ true → Serves m d h event e m' → StepIs m e m'
+      → is_outside h event ≡ false → (served_number m.roll == h.number) ≡ true → OnTurn m d h event e m' → StepIs m e m'
   kind_serves d h event is found left holds inside served serves =
       from_test (is_opening (transaction_of h m.now) event) serves (λ _ goes. quiet _ _ goes refl (omega arith) (λ none. none) refl refl)
       (λ no_opening either. proceeds no_opening either)
@@ -191,7 +192,7 @@ module _ (m : Machine) (e : Made) (m' : Machine) where
       begun (events.Leaves leave) out first = out
 
       proceeds : is_opening (transaction_of h m.now) event ≡ false
-          → MatchBool (is_closing (transaction_of h m.now) event) (Closes m d h e m') (Works m d h event e m') ⊎ FaultsWithin m d h event e m' → StepIs m e m'
+          → MatchBool (is_closing (transaction_of h m.now) event) (Closes m d h e m') (GoesOnIn m d h event e m') ⊎ FaultsWithin m d h event e m' → StepIs m e m'
       proceeds no_opening (inr faults) = kind_faults _ (omega arith) faults.faults
       proceeds no_opening (inl goes_on) =
           from_test (is_closing (transaction_of h m.now) event) goes_on (λ _ closes. kind_closes d h closes)
@@ -220,7 +221,7 @@ module _ (m : Machine) (e : Made) (m' : Machine) where
       (λ _ goes. quiet _ _ goes refl (omega arith) (λ none. none) refl refl)
   kind_holds d h event is found left holds enters = kind_enters d h event is found left holds enters
 
-  kind_answers : Answers m e m' → StepIs m e m'
+  kind_answers : StepsOf m e m' → StepIs m e m'
   kind_answers answered =
       from_option (daemon_of m.roll e.daemon) answered (λ _ goes. quiet _ _ goes refl (omega arith) (λ none. none) refl refl)
       (λ d found performs. from_test d.left performs (λ _ goes. quiet _ _ goes refl (omega arith) (λ none. none) refl refl)

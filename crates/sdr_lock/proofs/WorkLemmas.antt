@@ -16,14 +16,14 @@ use Rattle.sdr_model.specs.declared.event.Event.{Event}
 use Rattle.sdr_model.specs.declared.event.Event.TheVariants as events
 use Rattle.sdr_model.specs.declared.event.Leave.{Leave}
 use Rattle.sdr_model.specs.declared.journal.Said.{Said}
-use Rattle.sdr_lock.specs.Crash.{is_kept, keeps_by, keeps_in, keeps_of, keeps_under}
+use Rattle.sdr_lock.specs.Crash.{is_kept, commits_by, commits_in, commits_of, commits_under}
 use Rattle.sdr_lock.specs.Ground.{State, Steps}
-use Rattle.sdr_lock.specs.Machine.{Machine, Made, Closes, Comes, Enters, Goes, Holds, Looks, LooksAt, Works, is_of_work, is_outside, roll_closed, with_roll}
+use Rattle.sdr_lock.specs.Machine.{Machine, Made, Closes, Comes, Enters, Goes, Holds, Looks, LooksAt, GoesOnIn, is_of_work, is_outside, roll_closed, with_roll}
 use Rattle.sdr_lock.specs.Nesting.{Inner, closing, noted}
-use Rattle.sdr_lock.specs.Roll.{MayDraw, Roll, after_number, after_entry, after_wait, at_nesting, daemon_of, held_by, is_stalled, served_number, waits_for, with_daemon, with_drawn}
+use Rattle.sdr_lock.specs.Roll.{MayDraw, Roll, when_passed_over, when_done, after_wait, at_nesting, daemon_of, held_by, is_stalled, served_number, waits_for, with_daemon, with_drawn}
 use Rattle.sdr_lock.specs.Serving.{Settles, after_look, answer_seen, machine_at, sight, waiting_answer}
-use Rattle.sdr_lock.specs.Standing.{Standing}
-use Rattle.sdr_lock.specs.Transaction.{Nests, OpenTransaction, Transacts, IsAnswered, asks_disk, bytes_given, is_closing, left_by, refused, transaction_of}
+use Rattle.sdr_lock.specs.Standing.{GroundState}
+use Rattle.sdr_lock.specs.Transaction.{Nests, OpenTransaction, Transacts, IsAnswered, asks_disk, bytes_given, is_closing, state_left, refused, transaction_of}
 use Rattle.sdr_lock.specs.declared.daemon.Daemon.{Daemon}
 use Rattle.sdr_lock.specs.declared.daemon.Holding.{Holding}
 use Rattle.sdr_lock.specs.declared.nesting.Nesting.{Nesting}
@@ -57,7 +57,7 @@ closes_outermost P Q S b e (inr s) = inr s
 pub works_nests : (m m' : Machine) (d : Daemon) (h : Holding) (event : Event) (e : Made) (inner : Inner)
     → ((said : Said) (t' : OpenTransaction) → Nests (transaction_of h m.now) said t' inner → Transacts (transaction_of h m.now) event said t')
     → Goes e m' inner.answer (with_roll m (with_daemon m.roll (at_nesting d h inner.after)))
-    → Works m d h event e m'
+    → GoesOnIn m d h event e m'
 works_nests m m' d h event e inner transacts goes =
     let t' : OpenTransaction = record { number = h.number; nesting = inner.after; state = m.now } in
     record { after = t'; transacts = transacts e.said t' (record { told = goes.told; after = refl }); others = goes.after }
@@ -65,7 +65,7 @@ works_nests m m' d h event e inner transacts goes =
 -- A call of a doomed transaction is refused.
 pub works_doomed : (m m' : Machine) (d : Daemon) (h : Holding) (call : Call) (e : Made) (reason : Reason)
     → h.nesting.doom ≡ Some reason → Goes e m' (refused (refusals.Doomed reason)) (with_roll m (with_daemon m.roll (at_nesting d h h.nesting)))
-    → Works m d h (events.Say call) e m'
+    → GoesOnIn m d h (events.Say call) e m'
 works_doomed m m' d h call e reason doomed goes = record {
   after = transaction_of h m.now;
   transacts = on_some _ _ h.nesting.doom reason doomed (record { told = goes.told; after = refl });
@@ -73,13 +73,14 @@ works_doomed m m' d h call e reason doomed goes = record {
 }
 
 -- A call is answered by a step of the machine.
-pub works_called : (m m' : Machine) (d : Daemon) (h : Holding) (call : Call) (reply : Reply) (e : Made) (v' : Standing)
+pub works_called : (m m' : Machine) (d : Daemon) (h : Holding) (call : Call) (reply : Reply) (e : Made)
+    (v' : GroundState)
     → h.nesting.doom ≡ None
     → Steps m.now call (record { reply = reply; moves = v'.moves; after = v'.now })
     → e.said.answer ≡ answers.Reply reply → e.said.moves ≡ v'.moves
     → e.said.bytes ≡ bytes_given e.said.answer v'.now.world.shown
     → m' ≡ record { roll = with_daemon m.roll (at_nesting d h (noted call reply h.nesting)); before = m.before; now = v'.now }
-    → Works m d h (events.Say call) e m'
+    → GoesOnIn m d h (events.Say call) e m'
 works_called m m' d h call reply e v' sound steps answer moves bytes is = record {
   after = record { number = h.number; nesting = noted call reply h.nesting; state = v'.now };
   transacts = on_none _ _ h.nesting.doom sound (record {
@@ -105,14 +106,14 @@ asks_closing t (events.Look ticket) closes = closes
 asks_closing t (events.Leaves leave) closes = closes
 
 -- What a close leaves is the one state before and now.
-pub left_so : (close : Close) (v v' : Standing) → Settles close v v' → (v'.before ≡ left_by close v.before v.now) × (v'.now ≡ left_by close v.before v.now)
+pub left_so : (close : Close) (v v' : GroundState) → Settles close v v' → (v'.before ≡ state_left close v.before v.now) × (v'.now ≡ state_left close v.before v.now)
 left_so closes.Ended v v' left = left
 left_so closes.Exited v v' left = left
 left_so (closes.Cancelled reason) v v' left = left
 left_so closes.Faulted v v' left = left
 
 -- The served transaction closes where its state was kept or put back.
-pub closes_so : (r r' : Roll) (d : Daemon) (h : Holding) (e : Made) (close : Close) (v v' : Standing)
+pub closes_so : (r r' : Roll) (d : Daemon) (h : Holding) (e : Made) (close : Close) (v v' : GroundState)
     → close ≡ closing h.nesting e.said.event → IsAnswered e.said (answers.Closed close)
     → Settles close v v' → r' ≡ roll_closed r d
     → Closes (machine_at r v) d h e (machine_at r' v')
@@ -125,7 +126,7 @@ closes_so r r' d h e close v v' how told left roll = record {
 
 -- A close keeps the transaction where its event does.
 pub keeps_closing : (number : ℕ) (n : Nesting) (s : State) (event : Event) → is_closing (record { number = number; nesting = n; state = s }) event ≡ true
-    → is_kept (closing n event) ≡ keeps_in n event
+    → is_kept (closing n event) ≡ commits_in n event
 keeps_closing number n s events.Request closes = absurd (true≢false (sym closes))
 keeps_closing number n s events.Begin closes = absurd (true≢false (sym closes))
 keeps_closing number n s (events.Say call) closes = absurd (true≢false (sym closes))
@@ -207,16 +208,16 @@ looks_so m m' d e ticket roll = seen (pending_of m.before.world ticket)
     waits stalled answer = Goes e m' answer (with_roll m (with_daemon roll (after_look d ticket answer)))
 
     again : (b : Bool) → waits b (if b then answers.Stalled else answers.Waits) → MatchBool b
-        (Goes e m' answers.Stalled (with_roll m (with_daemon roll (after_entry d))))
+        (Goes e m' answers.Stalled (with_roll m (with_daemon roll (when_done d))))
         (Goes e m' answers.Waits (with_roll m (with_daemon roll (after_wait d ticket))))
     again true goes = goes
     again false goes = goes
 
     granted : (b : Bool) (p : Pending) → p.ticket.granted ≡ b → let w = waiting_answer (waits_for d ticket) (is_stalled m.roll m.before.world) in
         waits b (answer_seen (Some b) ticket w) → MatchBool b
-        (Goes e m' answers.Awarded (with_roll m (with_daemon roll (after_entry d))))
+        (Goes e m' answers.Awarded (with_roll m (with_daemon roll (when_done d))))
         (MatchBool (waits_for d ticket && is_stalled m.roll m.before.world)
-        (Goes e m' answers.Stalled (with_roll m (with_daemon roll (after_entry d))))
+        (Goes e m' answers.Stalled (with_roll m (with_daemon roll (when_done d))))
         (Goes e m' answers.Waits (with_roll m (with_daemon roll (after_wait d ticket)))))
     granted true p is goes = goes
     granted false p is goes = again (waits_for d ticket && is_stalled m.roll m.before.world) goes
@@ -224,31 +225,31 @@ looks_so m m' d e ticket roll = seen (pending_of m.before.world ticket)
     seen : (o : Option Pending) → let answer = answer_seen (option_map (λ (p : Pending). p.ticket.granted) o) ticket (waiting_answer (waits_for d ticket) (is_stalled m.roll m.before.world)) in
         Goes e m' answer (with_roll m (with_daemon roll (after_look d ticket answer)))
         → MatchOption o
-        (Goes e m' (refused (refusals.BadTicket ticket)) (with_roll m (with_daemon roll (after_number d))))
+        (Goes e m' (refused (refusals.BadTicket ticket)) (with_roll m (with_daemon roll (when_passed_over d))))
         (λ p. MatchBool p.ticket.granted
-        (Goes e m' answers.Awarded (with_roll m (with_daemon roll (after_entry d))))
+        (Goes e m' answers.Awarded (with_roll m (with_daemon roll (when_done d))))
         (MatchBool (waits_for d ticket && is_stalled m.roll m.before.world)
-        (Goes e m' answers.Stalled (with_roll m (with_daemon roll (after_entry d))))
+        (Goes e m' answers.Stalled (with_roll m (with_daemon roll (when_done d))))
         (Goes e m' answers.Waits (with_roll m (with_daemon roll (after_wait d ticket))))))
     seen None goes = goes
     seen (Some p) goes = granted p.ticket.granted p refl goes
 
 -- An event of the served transaction, which has begun, keeps it where its nesting says so.
 pub keeps_served : (r : Roll) (h : Holding) (event : Event) → (served_number r == h.number) ≡ true → is_outside h event ≡ false
-    → keeps_in h.nesting event ≡ keeps_under r h event
-keeps_served r h event mine inside = sym (λ i. mine i && not (inside i) && keeps_in h.nesting event)
+    → commits_in h.nesting event ≡ commits_under r h event
+keeps_served r h event mine inside = sym (λ i. mine i && not (inside i) && commits_in h.nesting event)
 
 -- An event of a daemon that hasn't left and holds a number keeps what one under that number does.
-pub keeps_holding : (r : Roll) (d : Daemon) (h : Holding) (event : Event) → d.left ≡ false → d.holds ≡ Some h → keeps_under r h event ≡ keeps_of r d event
+pub keeps_holding : (r : Roll) (d : Daemon) (h : Holding) (event : Event) → d.left ≡ false → d.holds ≡ Some h → commits_under r h event ≡ commits_of r d event
 keeps_holding r d h event stays holds =
-    sym (λ i. not (stays i) && option_map_or (λ (h : Holding). keeps_under r h event) (holds i) false)
+    sym (λ i. not (stays i) && option_map_or (λ (h : Holding). commits_under r h event) (holds i) false)
 
 -- An event of the daemon that is found keeps what one of that daemon does.
-pub keeps_found : (r : Roll) (id : ℕ) (d : Daemon) (event : Event) → daemon_of r id ≡ Some d → keeps_of r d event ≡ keeps_by r id event
-keeps_found r id d event found = sym (ap (λ (o : Option Daemon). option_map_or (λ (d : Daemon). keeps_of r d event) o false) found)
+pub keeps_found : (r : Roll) (id : ℕ) (d : Daemon) (event : Event) → daemon_of r id ≡ Some d → commits_of r d event ≡ commits_by r id event
+keeps_found r id d event found = sym (ap (λ (o : Option Daemon). option_map_or (λ (d : Daemon). commits_of r d event) o false) found)
 
 -- A look behind a number that was drawn and is done is one from before it was drawn.
-pub looks_drawn : (r : Roll) (v : Standing) (m' : Machine) (d : Daemon) (e : Made) (ticket : ℕ)
+pub looks_drawn : (r : Roll) (v : GroundState) (m' : Machine) (d : Daemon) (e : Made) (ticket : ℕ)
     → Looks (machine_at (with_drawn r) v) d e ticket (with_drawn r) m' → Looks (machine_at r v) d e ticket (with_drawn r) m'
 looks_drawn r v m' d e ticket (inl looks) = inl looks
 looks_drawn r v m' d e ticket (inr faults) = inr (record { heap = faults.heap; told = faults.told; after = faults.after })

@@ -117,20 +117,20 @@ under r d r' event = record {
   left = has_left r' d.id && not d.left;
 }
 
--- what the entry is of that a look or a leave adds
-abbrev pub what_else : Under → Event → Answer → Option What
-what_else u (events.Look ticket) answers.Awarded = Some (whats.Awarded ticket)
-what_else u (events.Look ticket) answers.Stalled = Some (whats.Stalled ticket)
-what_else u (events.Look ticket) answers.Waits = if u.waited then None else Some (whats.Waits ticket)
-what_else u (events.Leaves leave) answer = if u.left then Some (whats.Leaves leave) else None
-what_else u event answer = None
+-- the entry that a look or a leave adds to the journal, if it adds one
+abbrev pub what_added : Under → Event → Answer → Option What
+what_added u (events.Look ticket) answers.Awarded = Some (whats.Awarded ticket)
+what_added u (events.Look ticket) answers.Stalled = Some (whats.Stalled ticket)
+what_added u (events.Look ticket) answers.Waits = if u.waited then None else Some (whats.Waits ticket)
+what_added u (events.Leaves leave) answer = if u.left then Some (whats.Leaves leave) else None
+what_added u event answer = None
 
 -- What the entry is of that an event adds: a transaction where it closes, a look but for a second wait for one ticket, and
 -- a leave by which the daemon has left.
 abbrev pub what_of : Under → List Work → Made → Option What
 what_of u works e =
     option_map_or (λ (close : Close). Some (whats.Work (all_said works e.daemon e.said) close)) (closed_by e.said.answer)
-    (what_else u e.said.event e.said.answer)
+    (what_added u e.said.event e.said.answer)
 
 -- the entry of it, under the daemon's number
 abbrev pub entry_of : ℕ → Made → What → Entry

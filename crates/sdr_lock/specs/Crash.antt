@@ -13,11 +13,11 @@ use Rattle.sdr_model.specs.declared.journal.Entry.{Entry}
 use Rattle.sdr_model.specs.declared.journal.Said.{Said}
 use Rattle.sdr_model.specs.declared.journal.What.{What}
 use Rattle.sdr_model.specs.declared.journal.What.TheVariants as whats
-use Rattle.sdr_lock.specs.Ground.{State, kept}
-use Rattle.sdr_lock.specs.Legal.{IsAfter, MayStand, is_fault}
+use Rattle.sdr_lock.specs.Ground.{State, committed}
+use Rattle.sdr_lock.specs.Legal.{IsAfter, MayFollow, is_fault}
 use Rattle.sdr_lock.specs.Machine.{is_outside}
 use Rattle.sdr_lock.specs.Roll.{Roll, daemon_of, served_number}
-use Rattle.sdr_lock.specs.Standing.{Standing}
+use Rattle.sdr_lock.specs.Standing.{GroundState}
 use Rattle.sdr_lock.specs.declared.daemon.Daemon.{Daemon}
 use Rattle.sdr_lock.specs.declared.daemon.Holding.{Holding}
 use Rattle.sdr_lock.specs.declared.has_ground.HasGround.{Ghosts}
@@ -79,7 +79,7 @@ pub record KeptInVain (told : Option Told) (daemons : List ℕ) (first : State) 
   pub after : IsAfter told daemons first journal before left
   pub what : What
   pub ended : as_ended entry.what ≡ Some what
-  pub kept : MayStand told daemons (take before journal) left entry.number entry.daemon what s
+  pub kept : MayFollow told daemons (take before journal) left entry.number entry.daemon what s
 
 -- The image opens to a state after the first k entries. Where the disk failed at the end of the last of them, it may open to
 -- the state with that transaction whole.
@@ -87,38 +87,38 @@ abbrev pub OpensAfter : (List ℕ → State → Type 0) → Option Told → List
 OpensAfter opens told daemons first journal k image =
     OpensTo opens (λ s. IsAfter told daemons first journal k s ⊎ KeptInVain told daemons first journal k s) image
 
--- What a crash leaves while no transaction is kept: the state before the open one.
+-- What a crash leaves while no transaction commits: the state before the open one.
 pub record LeavesBefore {T : Type 0} (g : Ghosts T) (old new : T) : Type 0 where
-  pub each : (v : Standing) → g.stands old v → AtEach g.moment g.left old new (λ image. g.opens image v.before)
+  pub each : (v : GroundState) → g.stands old v → AtEach g.moment g.left old new (λ image. g.opens image v.before)
 
--- What a crash leaves while a transaction is kept: the state before it, or the one that is kept.
+-- What a crash leaves while a transaction commits: the state before it, or the one that it commits.
 pub record LeavesEither {T : Type 0} (g : Ghosts T) (old new : T) : Type 0 where
-  pub each : (v : Standing) → g.stands old v → AtEach g.moment g.left old new (λ image. g.opens image v.before ⊎ g.opens image (kept v.now))
+  pub each : (v : GroundState) → g.stands old v → AtEach g.moment g.left old new (λ image. g.opens image v.before ⊎ g.opens image (committed v.now))
 
 -- What a crash leaves while a transaction may be kept or not.
 abbrev pub LeavesOr : Bool → {T : Type 0} → Ghosts T → T → T → Type 0
 LeavesOr true g old new = LeavesEither g old new
 LeavesOr false g old new = LeavesBefore g old new
 
--- whether a transaction that closes so is kept
+-- whether a transaction that closes so commits
 abbrev pub is_kept : Close → Bool
 is_kept closes.Ended = true
 is_kept close = false
 
 -- whether an event in a transaction of this nesting keeps what it has done: it is the outermost end, and the transaction isn't
 -- doomed
-abbrev pub keeps_in : Nesting → Event → Bool
-keeps_in n events.End = nat_le n.depth 1 && is_none n.doom
-keeps_in n event = false
+abbrev pub commits_in : Nesting → Event → Bool
+commits_in n events.End = nat_le n.depth 1 && is_none n.doom
+commits_in n event = false
 
 -- whether an event under a number keeps what its transaction has done: the number is served, and the transaction has begun
-abbrev pub keeps_under : Roll → Holding → Event → Bool
-keeps_under r h event = served_number r == h.number && not (is_outside h event) && keeps_in h.nesting event
+abbrev pub commits_under : Roll → Holding → Event → Bool
+commits_under r h event = served_number r == h.number && not (is_outside h event) && commits_in h.nesting event
 
 -- whether an event of a daemon that is so keeps what its transaction has done: the daemon hasn't left
-abbrev pub keeps_of : Roll → Daemon → Event → Bool
-keeps_of r d event = not d.left && option_map_or (λ (h : Holding). keeps_under r h event) d.holds false
+abbrev pub commits_of : Roll → Daemon → Event → Bool
+commits_of r d event = not d.left && option_map_or (λ (h : Holding). commits_under r h event) d.holds false
 
 -- whether an event of the daemon of a number keeps what its transaction has done
-abbrev pub keeps_by : Roll → ℕ → Event → Bool
-keeps_by r daemon event = option_map_or (λ (d : Daemon). keeps_of r d event) (daemon_of r daemon) false
+abbrev pub commits_by : Roll → ℕ → Event → Bool
+commits_by r daemon event = option_map_or (λ (d : Daemon). commits_of r d event) (daemon_of r daemon) false

@@ -91,9 +91,9 @@ abbrev pub resting : World → Ground → State
 resting w base = record { world = at_rest w; base = base; demand = no_demand }
 
 -- the state that a transaction leaves which ended: its marks and its shown bytes go
-abbrev pub kept : State → State
-kept now = resting now.world now.base
+abbrev pub committed : State → State
+committed now = resting now.world now.base
 
 -- the state that every other transaction leaves: the one before it, but with no heap blocks once taken stay counted
-abbrev pub put_back : State → State → State
-put_back before now = record before { world = record before.world { taken = now.world.taken } }
+abbrev pub rolled_back : State → State → State
+rolled_back before now = record before { world = record before.world { taken = now.world.taken } }

@@ -41,20 +41,20 @@ abbrev pub IsWaiting : World → ℕ → Type 0
 IsWaiting w ticket = (is_granted (pending_of w ticket) ≡ false) × (option_map_or (λ _. true) (pending_of w ticket) false ≡ true)
 
 -- The entry of this number, of a daemon, may stand behind the journal, where the state is this, and leaves that one.
-abbrev pub MayStand : Option Told → List ℕ → List Entry → State → ℕ → ℕ → What → State → Type 0
-MayStand told daemons journal s number daemon (whats.Work said close) s' = Runs told s number said close s'
-MayStand told daemons journal s number daemon (whats.Waits ticket) s' =
+abbrev pub MayFollow : Option Told → List ℕ → List Entry → State → ℕ → ℕ → What → State → Type 0
+MayFollow told daemons journal s number daemon (whats.Work said close) s' = Runs told s number said close s'
+MayFollow told daemons journal s number daemon (whats.Waits ticket) s' =
     IsWaiting s.world ticket × (waited_for journal daemon ticket ≡ false) × (s' ≡ s)
-MayStand told daemons journal s number daemon (whats.Awarded ticket) s' =
+MayFollow told daemons journal s number daemon (whats.Awarded ticket) s' =
     (is_granted (pending_of s.world ticket) ≡ true) × (s' ≡ s)
-MayStand told daemons journal s number daemon (whats.Stalled ticket) s' =
+MayFollow told daemons journal s number daemon (whats.Stalled ticket) s' =
     IsWaiting s.world ticket × (waited_for journal daemon ticket ≡ true) × (have_stalled daemons journal s.world ≡ true) × (s' ≡ s)
-MayStand told daemons journal s number daemon (whats.Leaves leave) s' = s' ≡ s
+MayFollow told daemons journal s number daemon (whats.Leaves leave) s' = s' ≡ s
 
 -- The entry may stand behind those before it, and what of the state that it leaves then holds.
 pub record LeadThen (told : Option Told) (daemons : List ℕ) (before : List Entry) (s : State) (e : Entry) (Then : State → Type 0) : Type 0 where
   pub after : State
-  pub stands : MayStand told daemons before s e.number e.daemon e.what after
+  pub stands : MayFollow told daemons before s e.number e.daemon e.what after
   pub rest : Then after
 
 -- The entries lead from one state to another, each behind those before it, where media tell this.

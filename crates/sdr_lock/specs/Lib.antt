@@ -4,7 +4,7 @@ pub mod CodedRoll
 pub mod Core
 pub mod Crash
 pub mod Demand
-pub mod Gaps
+pub mod Lapses
 pub mod Ground
 pub mod Holders
 pub mod Leaving

@@ -12,7 +12,7 @@ use Rattle.sdr_model.specs.declared.event.Event.TheVariants as events
 use Rattle.sdr_model.specs.declared.journal.Said.{Said}
 use Rattle.sdr_lock.specs.Ground.{State, HasHeap}
 use Rattle.sdr_lock.specs.Nesting.{nested}
-use Rattle.sdr_lock.specs.Roll.{Roll, after_entry, after_leave, after_number, after_wait, at_nesting, daemon_of, first_roll, is_stalled, served_number, waits_for, with_daemon, with_drawn, with_fault, with_number}
+use Rattle.sdr_lock.specs.Roll.{Roll, when_done, after_leave, when_passed_over, after_wait, at_nesting, daemon_of, first_roll, is_stalled, served_number, waits_for, with_daemon, with_drawn, with_fault, with_number}
 use Rattle.sdr_lock.specs.Transaction.{OpenTransaction, ClosesSo, IsAnswered, Transacts, asks_disk, is_closing, is_opening, refused, transaction_of}
 use Rattle.sdr_lock.specs.declared.daemon.Daemon.{Daemon}
 use Rattle.sdr_lock.specs.declared.daemon.Holding.{Holding}
@@ -62,16 +62,16 @@ IsSuspended m e mine roll m' = Goes e m' (refused (refusals.Suspended (served_nu
 abbrev pub LooksAt : Machine → Daemon → Made → ℕ → Roll → Machine → Type 0
 LooksAt m d e ticket roll m' =
     MatchOption (pending_of m.before.world ticket)
-    (Goes e m' (refused (refusals.BadTicket ticket)) (with_roll m (with_daemon roll (after_number d))))
+    (Goes e m' (refused (refusals.BadTicket ticket)) (with_roll m (with_daemon roll (when_passed_over d))))
     (λ p. MatchBool p.ticket.granted
-    (Goes e m' answers.Awarded (with_roll m (with_daemon roll (after_entry d))))
+    (Goes e m' answers.Awarded (with_roll m (with_daemon roll (when_done d))))
     (MatchBool (waits_for d ticket && is_stalled m.roll m.before.world)
-    (Goes e m' answers.Stalled (with_roll m (with_daemon roll (after_entry d))))
+    (Goes e m' answers.Stalled (with_roll m (with_daemon roll (when_done d))))
     (Goes e m' answers.Waits (with_roll m (with_daemon roll (after_wait d ticket))))))
 
 -- The same, or the disk fails.
 abbrev pub Looks : Machine → Daemon → Made → ℕ → Roll → Machine → Type 0
-Looks m d e ticket roll m' = LooksAt m d e ticket roll m' ⊎ Faults m e (with_daemon roll (after_entry d)) m'
+Looks m d e ticket roll m' = LooksAt m d e ticket roll m' ⊎ Faults m e (with_daemon roll (when_done d)) m'
 
 -- A look of a daemon without a number: it draws one, which is done at once where it is served, and else is kept.
 abbrev pub ComesLooking : Machine → Daemon → Made → ℕ → Machine → Type 0
@@ -100,18 +100,19 @@ abbrev pub with_transaction : Machine → Daemon → Holding → OpenTransaction
 with_transaction m d h t = record m { roll = with_daemon m.roll (at_nesting d h t.nesting); now = t.state }
 
 -- The served transaction goes on.
-pub record Works (m : Machine) (d : Daemon) (h : Holding) (event : Event) (e : Made) (m' : Machine) : Type 0 where
+pub record GoesOnIn (m : Machine) (d : Daemon) (h : Holding) (event : Event) (e : Made) (m' : Machine) : Type 0 where
   pub after : OpenTransaction
   pub transacts : Transacts (transaction_of h m.now) event e.said after
   pub others : m' ≡ with_transaction m d h after
 
 -- The served transaction begins: the daemon drew its number before.
-abbrev pub Opens : Machine → Daemon → Holding → Made → Machine → Type 0
-Opens m d h e m' = Goes e m' (answers.Lock h.number) (with_roll m (with_daemon m.roll (at_nesting d h (nested 1))))
+abbrev pub BeginsUnder : Machine → Daemon → Holding → Made → Machine → Type 0
+BeginsUnder m d h e m' = Goes e m' (answers.Lock h.number)
+    (with_roll m (with_daemon m.roll (at_nesting d h (nested 1))))
 
 -- the roll after a daemon's transaction closed
 abbrev pub roll_closed : Roll → Daemon → Roll
-roll_closed r d = with_daemon r (after_entry d)
+roll_closed r d = with_daemon r (when_done d)
 
 -- The served transaction closes, its number is done, and a state is left.
 pub record Closes (m : Machine) (d : Daemon) (h : Holding) (e : Made) (m' : Machine) : Type 0 where
@@ -122,7 +123,7 @@ pub record Closes (m : Machine) (d : Daemon) (h : Holding) (e : Made) (m' : Mach
 
 -- the served transaction closes or goes on
 abbrev pub Proceeds : Machine → Daemon → Holding → Event → Made → Machine → Type 0
-Proceeds m d h event e m' = MatchBool (is_closing (transaction_of h m.now) event) (Closes m d h e m') (Works m d h event e m')
+Proceeds m d h event e m' = MatchBool (is_closing (transaction_of h m.now) event) (Closes m d h e m') (GoesOnIn m d h event e m')
 
 -- The disk fails in the served transaction, and closes it.
 pub record FaultsWithin (m : Machine) (d : Daemon) (h : Holding) (event : Event) (e : Made) (m' : Machine) : Type 0 where
@@ -130,9 +131,9 @@ pub record FaultsWithin (m : Machine) (d : Daemon) (h : Holding) (event : Event)
   pub faults : Faults m e (roll_closed m.roll d) m'
 
 -- one event of the daemon whose number is served
-abbrev pub Serves : Machine → Daemon → Holding → Event → Made → Machine → Type 0
-Serves m d h event e m' =
-    MatchBool (is_opening (transaction_of h m.now) event) (Opens m d h e m')
+abbrev pub OnTurn : Machine → Daemon → Holding → Event → Made → Machine → Type 0
+OnTurn m d h event e m' =
+    MatchBool (is_opening (transaction_of h m.now) event) (BeginsUnder m d h e m')
     (Proceeds m d h event e m' ⊎ FaultsWithin m d h event e m')
 
 -- the daemon has a number, but is in no transaction
@@ -146,7 +147,7 @@ Enters m d h event e m' =
     MatchBool (is_outside h event)
     (Goes e m' (refused refusals.NotBegun) m)
     (MatchBool (served_number m.roll == h.number)
-    (Serves m d h event e m')
+    (OnTurn m d h event e m')
     (IsSuspended m e h.number m.roll m'))
 
 -- A look under a number that is held: it is refused in a transaction, and where the number isn't served; else the number is
@@ -197,8 +198,8 @@ Performs m d e m' =
     (λ h. Holds m d h e.said.event e m'))
 
 -- one event, where the disk hasn't failed: of another daemon it is refused
-abbrev pub Answers : Machine → Made → Machine → Type 0
-Answers m e m' = MatchOption (daemon_of m.roll e.daemon) (Goes e m' (refused refusals.NotBegun) m) (λ d. Performs m d e m')
+abbrev pub StepsOf : Machine → Made → Machine → Type 0
+StepsOf m e m' = MatchOption (daemon_of m.roll e.daemon) (Goes e m' (refused refusals.NotBegun) m) (λ d. Performs m d e m')
 
 -- the roll after an event of a daemon without a number, where the disk has failed: a request and a leave draw one
 abbrev pub roll_coming : Roll → Daemon → Event → Roll
@@ -226,5 +227,5 @@ roll_failed r daemon event = option_map_or (λ (d : Daemon). roll_acting r d eve
 abbrev pub MachineStep : Machine → Made → Machine → Type 0
 MachineStep m e m' =
     MatchOption m.roll.failed
-    (Answers m e m')
+    (StepsOf m e m')
     (λ moment. Goes e m' (answers.Reply (replies.Failed moment)) (with_roll m (roll_failed m.roll e.daemon e.said.event)))

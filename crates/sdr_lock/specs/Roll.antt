@@ -74,17 +74,17 @@ with_drawn r = record r { drawn = r.drawn + 1 }
 abbrev pub at_nesting : Daemon → Holding → Nesting → Daemon
 at_nesting d h n = record d { holds = Some (record h { nesting = n }) }
 
--- the daemon after an entry that is no wait: it holds no number
-abbrev pub after_entry : Daemon → Daemon
-after_entry d = record d { waits = None; holds = None }
+-- the daemon once a transaction, an awarded look or a stalled look of it stands in the journal: it holds no number
+abbrev pub when_done : Daemon → Daemon
+when_done d = record d { waits = None; holds = None }
 
 -- the daemon after a look at a ticket that waits: it holds no number
 abbrev pub after_wait : Daemon → ℕ → Daemon
 after_wait d ticket = record d { waits = Some ticket; holds = None }
 
 -- the daemon without its number
-abbrev pub after_number : Daemon → Daemon
-after_number d = record d { holds = None }
+abbrev pub when_passed_over : Daemon → Daemon
+when_passed_over d = record d { holds = None }
 
 -- the daemon after its leave
 abbrev pub after_leave : Daemon → Daemon

@@ -21,11 +21,11 @@ use Rattle.sdr_model.specs.declared.event.Event.TheVariants as events
 use Rattle.sdr_model.specs.declared.journal.Said.{Said}
 use Rattle.sdr_lock.specs.Agreeing.{AgreesWith}
 use Rattle.sdr_lock.specs.Crash.{LeavesOr}
-use Rattle.sdr_lock.specs.Gaps.{GapsLast, HasGapCause}
-use Rattle.sdr_lock.specs.Ground.{State, HasHeap, Steps, kept, put_back}
+use Rattle.sdr_lock.specs.Lapses.{LapsesLast, HasLapseCause}
+use Rattle.sdr_lock.specs.Ground.{State, HasHeap, Steps, committed, rolled_back}
 use Rattle.sdr_lock.specs.Machine.{Machine, Made}
-use Rattle.sdr_lock.specs.Roll.{Roll, after_entry, after_number, after_wait, at_nesting, daemon_of, is_stalled, is_stuck, served_number, waits_for, with_daemon}
-use Rattle.sdr_lock.specs.Standing.{Standing}
+use Rattle.sdr_lock.specs.Roll.{Roll, when_done, when_passed_over, after_wait, at_nesting, daemon_of, is_stalled, is_stuck, served_number, waits_for, with_daemon}
+use Rattle.sdr_lock.specs.Standing.{GroundState}
 use Rattle.sdr_lock.specs.Transaction.{bytes_given, refused}
 use Rattle.sdr_lock.specs.declared.came.Came.{Came}
 use Rattle.sdr_lock.specs.declared.daemon.Daemon.{Daemon}
@@ -44,37 +44,37 @@ is_fault_answer (answers.Reply replies.DiskFault) = true
 is_fault_answer answer = false
 
 -- it stands for something of which P tells
-pub record StandsFor {T : Type 0} (stands : T → Standing → Type 0) (t : T) (P : Standing → Type 0) : Type 0 where
-  pub for : Standing
+pub record SomeState {T : Type 0} (stands : T → GroundState → Type 0) (t : T) (P : GroundState → Type 0) : Type 0 where
+  pub for : GroundState
   pub holds : stands t for
   pub tells : P for
 
 -- whatever it stood for before, it stands for something now of which P tells
-pub record Brings {T : Type 0} (stands : T → Standing → Type 0) (old new : T) (P : Standing → Standing → Type 0) : Type 0 where
-  pub each : (v : Standing) → stands old v → StandsFor stands new (P v)
+pub record Brings {T : Type 0} (stands : T → GroundState → Type 0) (old new : T) (P : GroundState → GroundState → Type 0) : Type 0 where
+  pub each : (v : GroundState) → stands old v → SomeState stands new (P v)
 
 -- A call was answered by a step of the machine, with its moves, as media tell.
-pub record Calls (told : Option Told) (call : Call) (reply : Reply) (v v' : Standing) : Type 0 where
+pub record Calls (told : Option Told) (call : Call) (reply : Reply) (v v' : GroundState) : Type 0 where
   pub steps : Steps v.now call (record { reply = reply; moves = v'.moves; after = v'.now })
   pub media :
       AgreesWith told v.now.world (events.Say call) (answers.Reply reply) (bytes_given (answers.Reply reply) v'.now.world.shown)
   pub before : v'.before ≡ v.before
 
--- the transaction was kept
-abbrev pub Keeps : Standing → Standing → Type 0
-Keeps v v' = (v'.before ≡ kept v.now) × (v'.now ≡ kept v.now)
+-- the transaction was committed
+abbrev pub Commits : GroundState → GroundState → Type 0
+Commits v v' = (v'.before ≡ committed v.now) × (v'.now ≡ committed v.now)
 
--- it was put back
-abbrev pub PutsBack : Standing → Standing → Type 0
-PutsBack v v' = (v'.before ≡ put_back v.before v.now) × (v'.now ≡ put_back v.before v.now)
+-- it was rolled back
+abbrev pub RollsBack : GroundState → GroundState → Type 0
+RollsBack v v' = (v'.before ≡ rolled_back v.before v.now) × (v'.now ≡ rolled_back v.before v.now)
 
--- a transaction that closed so was kept or put back
-abbrev pub Settles : Close → Standing → Standing → Type 0
-Settles closes.Ended v v' = Keeps v v'
-Settles close v v' = PutsBack v v'
+-- a transaction that closed so was committed or rolled back
+abbrev pub Settles : Close → GroundState → GroundState → Type 0
+Settles closes.Ended v v' = Commits v v'
+Settles close v v' = RollsBack v v'
 
 -- it stands for the same states
-pub record StandsStill (v v' : Standing) : Type 0 where
+pub record SameStates (v v' : GroundState) : Type 0 where
   pub before : v'.before ≡ v.before
   pub now : v'.now ≡ v.now
 
@@ -87,20 +87,20 @@ abbrev pub shown_in : World → ℕ → Option Bool
 shown_in w ticket = shown_among (pending_of w ticket)
 
 -- whether the ticket is there, and granted, before the open transaction
-pub record Shows (ticket : ℕ) (granted : Option Bool) (v v' : Standing) : Type 0 where
+pub record Shows (ticket : ℕ) (granted : Option Bool) (v v' : GroundState) : Type 0 where
   pub shown : granted ≡ shown_in v.before.world ticket
-  pub still : StandsStill v v'
+  pub still : SameStates v v'
 
 -- The disk failed: it stood on a heap, and the count of faults rose.
 pub record MeetsFault {T : Type 0} (g : Ghosts T) (old new : T) : Type 0 where
-  pub heap : (v : Standing) → g.stands old v → HasHeap v.before.base
+  pub heap : (v : GroundState) → g.stands old v → HasHeap v.before.base
   pub cause : Rose (g.faults old) (g.faults new)
 
 -- What a ground keeps in whatever it is asked, where a call is spent or none: no count of faults falls, its media tell the
 -- same, and it lasts for as many calls, but for the one that is spent.
 pub record KeepsGround {T : Type 0} (g : Ghosts T) (spent : Bool) (old new : T) : Type 0 where
   pub later : g.faults old ≤ g.faults new
-  pub gaps : GapsLast (g.gaps old) (g.gaps new)
+  pub lapses : LapsesLast (g.lapses old) (g.lapses new)
   pub media : g.told new ≡ g.told old
   pub lasts : (n : ℕ) → g.lasts old (if spent then suc n else n) → g.lasts new n
 
@@ -109,7 +109,7 @@ abbrev pub with_given : State → Option (List ℕ) → State
 with_given s given = record s { world = record s.world { shown = unwrap_or given s.world.shown } }
 
 -- these bytes are shown, and all else stays
-pub record ShowsBytes (given : Option (List ℕ)) (v v' : Standing) : Type 0 where
+pub record ShowsBytes (given : Option (List ℕ)) (v v' : GroundState) : Type 0 where
   pub before : v'.before ≡ v.before
   pub now : v'.now ≡ with_given v.now given
 
@@ -119,22 +119,23 @@ pub record Locked (T : Type 0) : Type 0 where
   pub base : T
 
 -- the machine of a lock that stands for this
-abbrev pub machine_at : Roll → Standing → Machine
+abbrev pub machine_at : Roll → GroundState → Machine
 machine_at r v = record { roll = r; before = v.before; now = v.now }
 
 -- the lock stands for this, unless the disk has failed
-abbrev pub Stood : {T : Type 0} → (T → Standing → Type 0) → Locked T → Standing → Type 0
-Stood stands l v = l.roll.failed ≡ None → stands l.base v
+abbrev pub IsInState : {T : Type 0} → (T → GroundState → Type 0) → Locked T → GroundState → Type 0
+IsInState stands l v = l.roll.failed ≡ None → stands l.base v
 
 -- the lock stands for something of which P tells
-pub record StoodFor {T : Type 0} (stands : T → Standing → Type 0) (l : Locked T) (P : Standing → Type 0) : Type 0 where
-  pub for : Standing
-  pub stood : Stood stands l for
+pub record IsInSomeState {T : Type 0} (stands : T → GroundState → Type 0) (l : Locked T) (P : GroundState → Type 0) :
+    Type 0 where
+  pub for : GroundState
+  pub stood : IsInState stands l for
   pub tells : P for
 
 -- whatever the lock stood for before, it stands for something now of which P tells
-pub record Leads {T : Type 0} (stands : T → Standing → Type 0) (old new : Locked T) (P : Standing → Standing → Type 0) : Type 0 where
-  pub each : (v : Standing) → Stood stands old v → StoodFor stands new (P v)
+pub record LeadsLock {T : Type 0} (stands : T → GroundState → Type 0) (old new : Locked T) (P : GroundState → GroundState → Type 0) : Type 0 where
+  pub each : (v : GroundState) → IsInState stands old v → IsInSomeState stands new (P v)
 
 -- what was said in an event, whose call had these moves, and by which these bytes are shown
 abbrev pub said_with : ℕ → Event → Came → List Move → List ℕ → Said
@@ -152,12 +153,12 @@ made_with daemon event a begun done line moves shown =
     record { daemon = daemon; said = said_with line event a moves shown; begun = begun; done = done }
 
 -- the same, where the lock then stands for this
-abbrev pub made_by : ℕ → Event → Came → ℕ → ℕ → ℕ → Standing → Made
+abbrev pub made_by : ℕ → Event → Came → ℕ → ℕ → ℕ → GroundState → Made
 made_by daemon event a begun done line v = made_with daemon event a begun done line v.moves v.now.world.shown
 
 -- An event of a daemon is a step of the machine between two moments, of whatever statement it is, and agrees with what media
 -- tell. Where a call was made for it, the disk hasn't failed.
-pub record Makes {T : Type 0} (g : Ghosts T) (R : Machine → Made → Machine → Type 0) (old new : Locked T) (daemon : ℕ) (event : Event) (a : Came) (v v' : Standing) : Type 0 where
+pub record MakesMachineStep {T : Type 0} (g : Ghosts T) (R : Machine → Made → Machine → Type 0) (old new : Locked T) (daemon : ℕ) (event : Event) (a : Came) (v v' : GroundState) : Type 0 where
   pub sound : a.called ≡ true → new.roll.failed ≡ None
   pub step : (line : ℕ) → R (machine_at old.roll v) (made_by daemon event a (g.moment old.base) (g.moment new.base) line v') (machine_at new.roll v')
   pub media : AgreesWith (g.told old.base) v.now.world event a.answer (if a.called then bytes_given a.answer v'.now.world.shown else [])
@@ -171,13 +172,13 @@ is_disk_fault a = not a.called && is_fault_answer a.answer
 pub record Asks {T : Type 0} (g : Ghosts T) (keeps : Bool) (a : Came) (old new : Locked T) : Type 0 where
   pub kept : KeepsGround g true old.base new.base
   pub cause : is_disk_fault a ≡ true → Rose (g.faults old.base) (g.faults new.base)
-  pub gap : HasGapCause a.answer (g.gaps old.base) (g.gaps new.base)
+  pub gap : HasLapseCause a.answer (g.lapses old.base) (g.lapses new.base)
   pub any_moment : LeavesOr keeps g old.base new.base
   pub failed : IsSome old.roll.failed → new.base ≡ old.base
 
 -- The lock answers an event of a daemon by such a step of the machine, for which the ground is asked.
 pub record Acts {T : Type 0} (g : Ghosts T) (keeps : Bool) (R : Machine → Made → Machine → Type 0) (daemon : ℕ) (event : Event) (a : Came) (old new : Locked T) : Type 0 where
-  pub leads : Leads g.stands old new (Makes g R old new daemon event a)
+  pub leads : LeadsLock g.stands old new (MakesMachineStep g R old new daemon event a)
   pub asks : Asks g keeps a old new
 
 -- the answer to a look at a ticket that waits: all have stalled where that holds, and the daemon waited for it before
@@ -203,25 +204,25 @@ is_sight answer = false
 
 -- the daemon after a look that was answered so
 abbrev pub after_look : Daemon → ℕ → Answer → Daemon
-after_look d ticket answers.Awarded = after_entry d
-after_look d ticket answers.Stalled = after_entry d
+after_look d ticket answers.Awarded = when_done d
+after_look d ticket answers.Stalled = when_done d
 after_look d ticket answers.Waits = after_wait d ticket
-after_look d ticket answer = after_number d
+after_look d ticket answer = when_passed_over d
 
 -- what a look at a ticket is answered, and what it stands for stays
-pub record Sees (r : Roll) (d : Daemon) (ticket : ℕ) (answer : Answer) (v v' : Standing) : Type 0 where
+pub record Sees (r : Roll) (d : Daemon) (ticket : ℕ) (answer : Answer) (v v' : GroundState) : Type 0 where
   pub seen : answer ≡ sight r v.before.world d ticket
-  pub still : StandsStill v v'
+  pub still : SameStates v v'
 
 -- what a look at a ticket that waits is answered, and what it stands for stays
-pub record Doubts (r : Roll) (d : Daemon) (ticket : ℕ) (answer : Answer) (v v' : Standing) : Type 0 where
+pub record Doubts (r : Roll) (d : Daemon) (ticket : ℕ) (answer : Answer) (v v' : GroundState) : Type 0 where
   pub seen : answer ≡ waiting_answer (waits_for d ticket) (is_stalled r v.before.world)
-  pub still : StandsStill v v'
+  pub still : SameStates v v'
 
 -- whether all of these daemons are stuck, and what it stands for stays
-pub record Finds (ds : List Daemon) (stuck : Bool) (v v' : Standing) : Type 0 where
+pub record Finds (ds : List Daemon) (stuck : Bool) (v v' : GroundState) : Type 0 where
   pub found : stuck ≡ list_all (is_stuck v.before.world) ds
-  pub still : StandsStill v v'
+  pub still : SameStates v v'
 
 -- whether a transaction is served under the number, and isn't doomed
 abbrev pub is_served : Roll → Holding → Bool

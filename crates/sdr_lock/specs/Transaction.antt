@@ -16,7 +16,7 @@ use Rattle.sdr_model.specs.declared.journal.Said.{Said}
 use Rattle.sdr_lock.specs.Nesting.{Inner, cancelled, closing, deepened, ended, nested, noted}
 use Rattle.sdr_lock.specs.declared.daemon.Holding.{Holding}
 use Rattle.sdr_lock.specs.declared.nesting.Nesting.{Nesting}
-use Rattle.sdr_lock.specs.Ground.{State, HasHeap, Replied, Steps, kept, put_back}
+use Rattle.sdr_lock.specs.Ground.{State, HasHeap, Replied, Steps, committed, rolled_back}
 
 -- the answer is this refusal
 abbrev pub refused : Refusal → Answer
@@ -33,8 +33,8 @@ abbrev pub transaction_of : Holding → State → OpenTransaction
 transaction_of h s = record { number = h.number; nesting = h.nesting; state = s }
 
 -- a transaction that has just begun under a number
-abbrev pub begun_in : ℕ → State → OpenTransaction
-begun_in number s = record { number = number; nesting = nested 1; state = s }
+abbrev pub begun_under : ℕ → State → OpenTransaction
+begun_under number s = record { number = number; nesting = nested 1; state = s }
 
 -- what was said has this answer, no moves and no bytes
 pub record IsAnswered (said : Said) (given : Answer) : Type 0 where
@@ -106,15 +106,15 @@ asks_disk t (events.Say call) = is_none t.nesting.doom
 asks_disk t event = is_closing t event
 
 -- the state that a closed transaction leaves, where it was this before
-abbrev pub left_by : Close → State → State → State
-left_by closes.Ended before now = kept now
-left_by close before now = put_back before now
+abbrev pub state_left : Close → State → State → State
+state_left closes.Ended before now = committed now
+state_left close before now = rolled_back before now
 
 -- what was said closes the transaction so, and leaves this state
 pub record ClosesSo (before : State) (t : OpenTransaction) (said : Said) (close : Close) (after : State) : Type 0 where
   pub how : close ≡ closing t.nesting said.event
   pub told : IsAnswered said (answers.Closed close)
-  pub left : after ≡ left_by close before t.state
+  pub left : after ≡ state_left close before t.state
 
 -- The disk fails as this is said, and nothing follows it: the state before is left.
 pub record FaultsSo (before : State) (said : Said) (close : Close) (after : State) : Type 0 where
@@ -158,4 +158,4 @@ pub record LooksInVain (before : State) (said : Said) (close : Close) (left : St
 abbrev pub Runs : Option Told → State → ℕ → List Said → Close → State → Type 0
 Runs told before number [] close left = ⊥
 Runs told before number (said ∷ []) close left = LooksInVain before said close left
-Runs told before number (said ∷ more) close left = IsOpening number said × GoesOn told before (begun_in number before) more close left
+Runs told before number (said ∷ more) close left = IsOpening number said × GoesOn told before (begun_under number before) more close left

@@ -1,6 +1,6 @@
 // A daemon, as a lock knows it.
 ghost use Rattle.std.specs.Prelude.{◌≡◌};
-ghost use Rattle.sdr_lock.specs.Roll.{after_entry, after_leave, after_number, after_wait, at_nesting, waits_for};
+ghost use Rattle.sdr_lock.specs.Roll.{when_done, after_leave, when_passed_over, after_wait, at_nesting, waits_for};
 
 use crate::Nesting;
 
@@ -34,9 +34,10 @@ impl Daemon {
         Daemon { holds, ..self }
     }
 
-    /// After an entry that is no wait.
-    pub fn after_entry(self) -> Daemon
-        ensures { result ≡ after_entry self }
+    /// The daemon once a transaction, an awarded look or a stalled look of it stands in the journal: it holds
+    /// no number and waits for no ticket.
+    pub fn when_done(self) -> Daemon
+        ensures { result ≡ when_done self }
     {
         Daemon {
             waits: None,
@@ -56,9 +57,9 @@ impl Daemon {
         }
     }
 
-    /// Without its number.
-    pub fn after_number(self) -> Daemon
-        ensures { result ≡ after_number self }
+    /// The daemon without its number: its look was refused, and stands in no entry.
+    pub fn when_passed_over(self) -> Daemon
+        ensures { result ≡ when_passed_over self }
     {
         Daemon {
             holds: None,

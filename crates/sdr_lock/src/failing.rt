@@ -18,7 +18,7 @@ fn come_failed(roll: &mut Roll, daemon: Daemon, event: &Event)
         }
         Event::Leaves(_) => {
             if roll.serving() == 0 {
-                roll.pass();
+                roll.draw_done();
                 roll.put(daemon.after_leave());
             } else {
                 roll.draw(daemon, 0);

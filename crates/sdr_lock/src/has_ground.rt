@@ -1,14 +1,14 @@
 // A ground that stands for states of the machine.
 ghost use Rattle.std.specs.Prelude.{ℕ, List, Option, suc};
 ghost use Rattle.sdr_base.specs.Media.{Told};
-ghost use Rattle.sdr_lock.specs.Gaps.{Gaps};
+ghost use Rattle.sdr_lock.specs.Lapses.{Lapses};
 ghost use Rattle.sdr_lock.specs.Ground.{State};
-ghost use Rattle.sdr_lock.specs.Standing.{Standing};
+ghost use Rattle.sdr_lock.specs.Standing.{GroundState};
 
 /// A ground that stands for states of the machine: what contracts say of it.
 pub trait HasGround {
     /// What it stands for.
-    ghost stands: { Self → Standing → Type 0 };
+    ghost stands: { Self → GroundState → Type 0 };
 
     /// The disk's moment, 0 where there is no disk.
     ghost moment: { Self → ℕ };
@@ -17,7 +17,7 @@ pub trait HasGround {
     ghost faults: { Self → ℕ };
 
     /// How often its media have failed, and have given fewer bytes than were asked for.
-    ghost gaps: { Self → Gaps };
+    ghost lapses: { Self → Lapses };
 
     /// What its media tell.
     ghost told: { Self → Option Told };
@@ -32,7 +32,7 @@ pub trait HasGround {
     ghost opens: { List ℕ → State → Type 0 };
 
     /// A crash now leaves what it stood for before the transaction.
-    ghost crash_now: { (t : Self) (v : Standing) (image : List ℕ) → stands t v → left t (moment t) image → opens image v.before };
+    ghost crash_now: { (t : Self) (v : GroundState) (image : List ℕ) → stands t v → left t (moment t) image → opens image v.before };
 
     /// It lasts for fewer calls too.
     ghost lasts_less: { (t : Self) (n : ℕ) → lasts t (suc n) → lasts t n };

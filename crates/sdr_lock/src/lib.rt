@@ -6,7 +6,7 @@
 //! 2. Daemons draw lock numbers from 1 up, and the least that isn't done is served. `Nesting` is a transaction's depth,
 //!    doom and close; `Roll` the daemons and the numbers that they hold. Neither takes memory once it is made.
 //! 3. `Lock` makes each event of a daemon a step of the machine (`MachineStep`), looks, leaves and disk faults among them,
-//!    on any ground that `Serves`. What a ground stands for is a relation: whatever it stood for before a call, it stands
+//!    on any ground that is a `Backing`. What a ground stands for is a relation: whatever it stood for before a call, it stands
 //!    for something now, and between the two lies the step.
 //! 4. A crash during an event leaves the state before the open transaction, or during the outermost end of one that isn't
 //!    doomed the state that it keeps. After a disk fault each event is answered `Failed`.
@@ -28,7 +28,7 @@ mod lock;
 mod nesting;
 mod roll;
 mod seeing;
-mod serves;
+mod backing;
 mod settling;
 mod shows;
 mod tells;
@@ -40,6 +40,6 @@ pub use has_ground::HasGround;
 pub use lock::Lock;
 pub use nesting::{Nesting, refused};
 pub use roll::Roll;
-pub use serves::Serves;
+pub use backing::Backing;
 pub use shows::Shows;
 pub use tells::{Room, Tells};

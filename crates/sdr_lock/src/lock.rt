@@ -1,16 +1,16 @@
 // The lock of a machine: it serves the daemon whose number is served, on any ground.
 ghost use Rattle.std.specs.Prelude.{◌&&◌, ◌==◌, not, ◌≡◌, ◌<◌, ◌+◌, ◌^◌, ◌∷◌, ◌⊎◌, IfErr, IfOk, None, Some, Ok, OnErr, OnOk, true, false};
-ghost use Rattle.sdr_lock.specs.Crash.{keeps_by, keeps_in, keeps_of, keeps_under};
+ghost use Rattle.sdr_lock.specs.Crash.{commits_by, commits_in, commits_of, commits_under};
 ghost use Rattle.sdr_lock.specs.Ground.{State};
-ghost use Rattle.sdr_lock.specs.Machine.{MachineStep, Answers, Comes, ComesLooking, Holds, Serves, Performs, Enters, Looks, LooksHolding, Opens, Closes, FaultsWithin, ComesLeaving, Draws, IsSuspended, LeavesHolding, is_of_work, is_outside};
-ghost use Rattle.sdr_lock.specs.Roll.{MayDraw, after_entry, at_nesting, first_roll, held_by, with_daemon, with_fault, with_number};
+ghost use Rattle.sdr_lock.specs.Machine.{MachineStep, StepsOf, Comes, ComesLooking, Holds, OnTurn, Performs, Enters, Looks, LooksHolding, BeginsUnder, Closes, FaultsWithin, ComesLeaving, Draws, IsSuspended, LeavesHolding, is_of_work, is_outside};
+ghost use Rattle.sdr_lock.specs.Roll.{MayDraw, when_done, at_nesting, first_roll, held_by, with_daemon, with_fault, with_number};
 ghost use Rattle.sdr_lock.specs.Serving.{Acts, is_served, takes_memory};
 ghost use Rattle.sdr_lock.specs.Transaction.{is_closing, transaction_of};
 
 use crate::failing::go_failed;
 use crate::seeing::{after_look, sight};
 use crate::settling::settle;
-use crate::{Came, Daemon, Fault, Halt, Holding, Nesting, Roll, Serves, Shows, refused};
+use crate::{Came, Daemon, Fault, Halt, Holding, Nesting, Roll, Backing, Shows, refused};
 use sdr_base::{Bytes, NoMemory, Refusal};
 use sdr_model::{Answer, Call, Event, Reply};
 use std::alloc::{AllocError, Global};
@@ -18,12 +18,12 @@ use std::marker::Model;
 
 /// The roll of the daemons, and the ground of the served transaction.
 #[derive(Drop)]
-pub struct Lock<T: Serves> {
+pub struct Lock<T: Backing> {
     roll: Roll,
     base: T,
 }
 
-impl<T: Serves> Model for Lock<T> {
+impl<T: Backing> Model for Lock<T> {
     ghost use Rattle.sdr_lock.specs.Serving.{Locked};
 
     ghost Value = { Locked T };
@@ -51,7 +51,7 @@ fn is_outside(holding: &Holding, event: &Event) -> bool
     }
 }
 
-impl<T: Serves> Lock<T> {
+impl<T: Backing> Lock<T> {
     /// No number drawn, on this ground.
     pub fn new(alloc: Global, ids: &[u8], base: T) -> Result<Lock<T>, (NoMemory, T)>
         ensures made { IfOk result (λ lock. lock ≡ record { roll = first_roll ids.now; base = base }) }
@@ -66,11 +66,11 @@ impl<T: Serves> Lock<T> {
     // The disk has failed in an event of a daemon, whose number is done.
     fn fail(&mut self, daemon: Daemon) -> Came
         ensures answer { result ≡ record { answer = Answer.Reply Reply.DiskFault; called = false } }
-        ensures roll { self.new.roll ≡ with_fault (with_daemon self.old.roll (after_entry daemon))
+        ensures roll { self.new.roll ≡ with_fault (with_daemon self.old.roll (when_done daemon))
             (T.moment self.new.base) }
         ensures base { self.new.base ≡ self.old.base }
     {
-        self.roll.put(daemon.after_entry());
+        self.roll.put(daemon.when_done());
         self.roll.fail(self.base.moment());
         told(Answer::Reply(Reply::DiskFault))
     }
@@ -81,8 +81,8 @@ impl<T: Serves> Lock<T> {
         requires sound { self.old.roll.failed ≡ None }
         requires undoomed { holding.nesting.doom ≡ None }
         ensures serves { IfOk result (λ came. Acts T.HasGround
-            (keeps_in holding.nesting (Event.Say call.now))
-            (λ m e m'. Serves m daemon holding (Event.Say call.now) e m') daemon.id (Event.Say call.now) came self.old self.new) }
+            (commits_in holding.nesting (Event.Say call.now))
+            (λ m e m'. OnTurn m daemon holding (Event.Say call.now) e m') daemon.id (Event.Say call.now) came self.old self.new) }
         ensures err { OnErr result (self.new ≡ self.old) }
     {
         match self.base.call(call) {
@@ -105,8 +105,8 @@ impl<T: Serves> Lock<T> {
         requires lasts { T.lasts self.old.base 1 }
         requires sound { self.old.roll.failed ≡ None }
         ensures serves { IfOk result (λ came. Acts T.HasGround
-            (keeps_in holding.nesting (Event.Say call.now))
-            (λ m e m'. Serves m daemon holding (Event.Say call.now) e m') daemon.id (Event.Say call.now) came self.old self.new) }
+            (commits_in holding.nesting (Event.Say call.now))
+            (λ m e m'. OnTurn m daemon holding (Event.Say call.now) e m') daemon.id (Event.Say call.now) came self.old self.new) }
         ensures err { OnErr result (self.new ≡ self.old) }
     {
         match holding.nesting.doom {
@@ -118,22 +118,22 @@ impl<T: Serves> Lock<T> {
         }
     }
 
-    // Keeps or puts back the transaction, whose number is then done. Only one that is kept may find no memory.
+    // Commits or rolls back the transaction, whose number is then done. Only a commit may find no memory.
     fn finish(&mut self, daemon: Daemon, holding: &Holding, event: &Event) -> Result<Came, NoMemory>
         requires sound { self.old.roll.failed ≡ None }
         requires closing { (s : State) → is_closing (transaction_of holding.now s) event.now
             ≡ true }
         ensures closes { IfOk result (λ came. Acts T.HasGround
-            (keeps_in holding.now.nesting event.now)
+            (commits_in holding.now.nesting event.now)
             (λ m e m'. Closes m daemon holding.now e m' ⊎ FaultsWithin m daemon holding.now event.now e m')
             daemon.id event.now came self.old self.new) }
         ensures err { OnErr result (self.new ≡ self.old) }
-        ensures kept { OnErr result (keeps_in holding.now.nesting event.now ≡ true) }
+        ensures kept { OnErr result (commits_in holding.now.nesting event.now ≡ true) }
     {
         let close = holding.nesting.closing(event);
         match settle(&mut self.base, close) {
             Ok(()) => {
-                self.roll.put(daemon.after_entry());
+                self.roll.put(daemon.when_done());
                 Ok(told(Answer::Closed(close)))
             }
             Err(Halt::Memory) => Err(AllocError),
@@ -144,7 +144,7 @@ impl<T: Serves> Lock<T> {
     // The first begin under a number that was drawn before.
     fn open(&mut self, daemon: Daemon, holding: Holding) -> Came
         ensures { Acts T.HasGround false (λ m e m'.
-            Opens m daemon holding e m') daemon.id Event.Begin result self.old self.new }
+            BeginsUnder m daemon holding e m') daemon.id Event.Begin result self.old self.new }
     {
         let number = holding.number;
         self.roll.put(daemon.at_nesting(holding, Nesting::at(1)));
@@ -154,7 +154,7 @@ impl<T: Serves> Lock<T> {
     // A begin: the first one, or an inner one.
     fn begin(&mut self, daemon: Daemon, holding: Holding) -> Came
         ensures { Acts T.HasGround false (λ m e m'.
-            Serves m daemon holding Event.Begin e m') daemon.id Event.Begin result self.old
+            OnTurn m daemon holding Event.Begin e m') daemon.id Event.Begin result self.old
             self.new }
     {
         let mut nesting = holding.nesting;
@@ -169,8 +169,8 @@ impl<T: Serves> Lock<T> {
     // An end: the outermost one, or an inner one.
     fn end(&mut self, daemon: Daemon, holding: Holding) -> Result<Came, NoMemory>
         requires sound { self.old.roll.failed ≡ None }
-        ensures closes { IfOk result (λ came. Acts T.HasGround (keeps_in holding.nesting Event.End)
-            (λ m e m'. Serves m daemon holding Event.End e m')
+        ensures closes { IfOk result (λ came. Acts T.HasGround (commits_in holding.nesting Event.End)
+            (λ m e m'. OnTurn m daemon holding Event.End e m')
             daemon.id Event.End came self.old self.new) }
         ensures err { OnErr result (self.new ≡ self.old) }
         ensures memory { OnErr result (takes_memory Event.End ≡ true) }
@@ -188,7 +188,7 @@ impl<T: Serves> Lock<T> {
     fn exit(&mut self, daemon: Daemon, holding: Holding) -> Result<Came, NoMemory>
         requires sound { self.old.roll.failed ≡ None }
         ensures closes { IfOk result (λ came. Acts T.HasGround false (λ m e m'.
-            Serves m daemon holding Event.Exit e m')
+            OnTurn m daemon holding Event.Exit e m')
             daemon.id Event.Exit came self.old self.new) }
         ensures err { OnErr result (self.new ≡ self.old) }
         ensures memory { OnErr result (takes_memory Event.Exit ≡ true) }
@@ -206,7 +206,7 @@ impl<T: Serves> Lock<T> {
     fn cancel(&mut self, daemon: Daemon, holding: Holding) -> Result<Came, NoMemory>
         requires sound { self.old.roll.failed ≡ None }
         ensures closes { IfOk result (λ came. Acts T.HasGround false (λ m e m'.
-            Serves m daemon holding Event.Cancel e m')
+            OnTurn m daemon holding Event.Cancel e m')
             daemon.id Event.Cancel came self.old self.new) }
         ensures err { OnErr result (self.new ≡ self.old) }
         ensures memory { OnErr result (takes_memory Event.Cancel ≡ true) }
@@ -269,7 +269,7 @@ impl<T: Serves> Lock<T> {
         if self.roll.serving() != 0 {
             return self.draw_suspended(daemon, event);
         }
-        self.roll.pass();
+        self.roll.draw_done();
         self.look(daemon, ticket)
     }
 
@@ -282,7 +282,7 @@ impl<T: Serves> Lock<T> {
         if self.roll.serving() != 0 {
             return self.draw_suspended(daemon, event);
         }
-        self.roll.pass();
+        self.roll.draw_done();
         self.roll.put(daemon.after_leave());
         told(Answer::Reply(Reply::Done))
     }
@@ -310,7 +310,7 @@ impl<T: Serves> Lock<T> {
         requires sound { self.old.roll.failed ≡ None }
         requires closing { (s : State) → is_closing (transaction_of holding.now s) event.now
             ≡ true }
-        requires no_end { keeps_in holding.now.nesting event.now ≡ false }
+        requires no_end { commits_in holding.now.nesting event.now ≡ false }
         ensures { Acts T.HasGround false (λ m e m'.
             LeavesHolding m daemon holding.now event.now e m') daemon.id event.now
             result self.old self.new }
@@ -361,7 +361,7 @@ impl<T: Serves> Lock<T> {
         requires sound { self.old.roll.failed ≡ None }
         requires lasts { T.lasts self.old.base 1 }
         ensures holds { IfOk result (λ came. Acts T.HasGround
-            (keeps_under self.old.roll holding event.now)
+            (commits_under self.old.roll holding event.now)
             (λ m e m'. Holds m daemon holding event.now e m') daemon.id event.now came self.old self.new) }
         ensures err { OnErr result (self.new ≡ self.old) }
         ensures memory { OnErr result (takes_memory event.now ≡ true) }
@@ -382,7 +382,7 @@ impl<T: Serves> Lock<T> {
         requires lasts { T.lasts self.old.base 1 }
         requires within { is_of_work event.now ≡ true }
         ensures enters { IfOk result (λ came. Acts T.HasGround
-            (keeps_under self.old.roll holding event.now)
+            (commits_under self.old.roll holding event.now)
             (λ m e m'. Enters m daemon holding event.now e m') daemon.id event.now came self.old self.new) }
         ensures err { OnErr result (self.new ≡ self.old) }
         ensures memory { OnErr result (takes_memory event.now ≡ true) }
@@ -403,8 +403,8 @@ impl<T: Serves> Lock<T> {
         requires sound { self.old.roll.failed ≡ None }
         requires lasts { T.lasts self.old.base 1 }
         requires within { is_of_work event.now ≡ true }
-        ensures serves { IfOk result (λ came. Acts T.HasGround (keeps_in holding.nesting event.now)
-            (λ m e m'. Serves m daemon holding event.now e m') daemon.id event.now came self.old self.new) }
+        ensures serves { IfOk result (λ came. Acts T.HasGround (commits_in holding.nesting event.now)
+            (λ m e m'. OnTurn m daemon holding event.now e m') daemon.id event.now came self.old self.new) }
         ensures err { OnErr result (self.new ≡ self.old) }
         ensures memory { OnErr result (takes_memory event.now ≡ true) }
     {
@@ -424,7 +424,7 @@ impl<T: Serves> Lock<T> {
         requires sound { self.old.roll.failed ≡ None }
         requires lasts { T.lasts self.old.base 1 }
         ensures performs { IfOk result (λ came. Acts T.HasGround
-            (keeps_of self.old.roll daemon event.now)
+            (commits_of self.old.roll daemon event.now)
             (λ m e m'. Performs m daemon e m') daemon.id event.now came self.old self.new) }
         ensures err { OnErr result (self.new ≡ self.old) }
         ensures memory { OnErr result (takes_memory event.now ≡ true) }
@@ -444,7 +444,7 @@ impl<T: Serves> Lock<T> {
         requires sound { self.old.roll.failed ≡ None }
         requires lasts { T.lasts self.old.base 1 }
         ensures answers { IfOk result (λ came. Acts T.HasGround
-            (keeps_by self.old.roll id event.now) (λ m e m'. Answers m e m')
+            (commits_by self.old.roll id event.now) (λ m e m'. StepsOf m e m')
             id event.now came self.old self.new) }
         ensures err { OnErr result (self.new ≡ self.old) }
         ensures memory { OnErr result (takes_memory event.now ≡ true) }
@@ -460,7 +460,7 @@ impl<T: Serves> Lock<T> {
         requires drawn { MayDraw self.old.roll (held_by self.old.roll daemon) }
         requires lasts { T.lasts self.old.base 1 }
         ensures step { IfOk result (λ came. Acts T.HasGround
-            (keeps_by self.old.roll daemon event.now) MachineStep
+            (commits_by self.old.roll daemon event.now) MachineStep
             daemon event.now came self.old self.new) }
         ensures err { OnErr result (self.new ≡ self.old) }
         ensures memory { OnErr result (takes_memory event.now ≡ true) }

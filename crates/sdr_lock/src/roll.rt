@@ -181,7 +181,7 @@ impl Roll {
     }
 
     /// A number is drawn and done.
-    pub fn pass(&mut self)
+    pub fn draw_done(&mut self)
         requires { self.old.drawn < 2 ^ 60 }
         ensures { self.new ≡ with_drawn self.old }
     {

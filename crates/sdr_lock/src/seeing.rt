@@ -3,12 +3,12 @@ ghost use Rattle.std.specs.Prelude.{false, true, ◌≡◌, ◌∷◌, [], IfOk,
 ghost use Rattle.sdr_lock.specs.Crash.{LeavesBefore};
 ghost use Rattle.sdr_lock.specs.Serving.{Brings, Doubts, Finds, KeepsGround, MeetsFault, Sees, after_look, is_sight};
 
-use crate::{Daemon, Fault, Roll, Serves, refused};
+use crate::{Daemon, Fault, Roll, Backing, refused};
 use sdr_base::Refusal;
 use sdr_model::Answer;
 
 // Whether the daemon has left, or waits for a ticket that isn't granted.
-fn is_stuck<T: Serves>(base: &mut T, daemon: &Daemon) -> Result<bool, Fault>
+fn is_stuck<T: Backing>(base: &mut T, daemon: &Daemon) -> Result<bool, Fault>
     ensures found { IfOk result (λ stuck. Brings T.stands base.old base.new
         (Finds (daemon.now ∷ []) stuck)) }
     ensures fault { OnErr result (MeetsFault T.HasGround base.old base.new) }
@@ -28,7 +28,7 @@ fn is_stuck<T: Serves>(base: &mut T, daemon: &Daemon) -> Result<bool, Fault>
 }
 
 // Whether all of these daemons have left, or wait for tickets that aren't granted.
-fn are_stuck<T: Serves>(base: &mut T, daemons: &[Daemon]) -> Result<bool, Fault>
+fn are_stuck<T: Backing>(base: &mut T, daemons: &[Daemon]) -> Result<bool, Fault>
     ensures found { IfOk result (λ stuck. Brings T.stands base.old base.new
         (Finds daemons.now stuck)) }
     ensures fault { OnErr result (MeetsFault T.HasGround base.old base.new) }
@@ -52,15 +52,15 @@ pub fn after_look(daemon: Daemon, ticket: u64, answer: &Answer) -> Daemon
     ensures { result ≡ after_look daemon ticket answer.now }
 {
     match answer {
-        Answer::Awarded => daemon.after_entry(),
-        Answer::Stalled => daemon.after_entry(),
+        Answer::Awarded => daemon.when_done(),
+        Answer::Stalled => daemon.when_done(),
         Answer::Waits => daemon.after_wait(ticket),
-        _ => daemon.after_number(),
+        _ => daemon.when_passed_over(),
     }
 }
 
 // What a look at a ticket that waits is answered.
-fn doubt<T: Serves>(
+fn doubt<T: Backing>(
     base: &mut T,
     roll: &Roll,
     daemon: &Daemon,
@@ -84,7 +84,7 @@ fn doubt<T: Serves>(
 }
 
 /// What a look at a ticket is answered.
-pub fn sight<T: Serves>(
+pub fn sight<T: Backing>(
     base: &mut T,
     roll: &Roll,
     daemon: &Daemon,

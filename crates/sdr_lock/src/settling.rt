@@ -1,20 +1,20 @@
 // How a transaction is kept or put back.
 ghost use Rattle.std.specs.Prelude.{◌≡◌, false, true, IsErrOf, OnErr, OnOk};
 ghost use Rattle.sdr_lock.specs.Crash.{LeavesBefore, LeavesOr, is_kept};
-ghost use Rattle.sdr_lock.specs.Serving.{Brings, KeepsGround, MeetsFault, PutsBack, Settles};
+ghost use Rattle.sdr_lock.specs.Serving.{Brings, KeepsGround, MeetsFault, RollsBack, Settles};
 
-use crate::{Fault, Halt, Serves};
+use crate::{Fault, Halt, Backing};
 use sdr_model::Close;
 
-// Puts back what was before the transaction.
-fn put_back<T: Serves>(base: &mut T) -> Result<(), Halt>
-    ensures put_back { OnOk result (Brings T.stands base.old base.new PutsBack) }
+// Rolls the transaction back.
+fn roll_back<T: Backing>(base: &mut T) -> Result<(), Halt>
+    ensures put_back { OnOk result (Brings T.stands base.old base.new RollsBack) }
     ensures fault { OnErr result (MeetsFault T.HasGround base.old base.new) }
     ensures only { IsErrOf result Halt.Memory → ⊥ }
     ensures keeps { KeepsGround T.HasGround false base.old base.new }
     ensures any_moment { LeavesBefore T.HasGround base.old base.new }
 {
-    match base.put_back() {
+    match base.roll_back() {
         Ok(()) => Ok(()),
         Err(Fault) => Err(Halt::Fault),
     }
@@ -22,7 +22,7 @@ fn put_back<T: Serves>(base: &mut T) -> Result<(), Halt>
 
 /// Keeps the open transaction or puts it back, by how it closes. Only one that is kept may find no memory, which
 /// leaves all as before.
-pub fn settle<T: Serves>(base: &mut T, close: Close) -> Result<(), Halt>
+pub fn settle<T: Backing>(base: &mut T, close: Close) -> Result<(), Halt>
     ensures left { OnOk result (Brings T.stands base.old base.new (Settles close)) }
     ensures memory { IsErrOf result Halt.Memory → base.new ≡ base.old }
     ensures only { IsErrOf result Halt.Memory → is_kept close ≡ true }
@@ -32,8 +32,8 @@ pub fn settle<T: Serves>(base: &mut T, close: Close) -> Result<(), Halt>
 {
     match close {
         Close::Ended => base.keep(),
-        Close::Exited => put_back(base),
-        Close::Cancelled(_) => put_back(base),
-        Close::Faulted => put_back(base),
+        Close::Exited => roll_back(base),
+        Close::Cancelled(_) => roll_back(base),
+        Close::Faulted => roll_back(base),
     }
 }

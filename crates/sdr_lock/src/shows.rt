@@ -2,11 +2,11 @@
 ghost use Rattle.sdr_lock.specs.Serving.{Brings, KeepsGround, ShowsBytes};
 ghost use Rattle.std.specs.Prelude.{true};
 
-use crate::Serves;
+use crate::Backing;
 use sdr_base::Bytes;
 
 /// A ground whose media are asked outside: it is told what bytes a call gave.
-pub trait Shows: Serves {
+pub trait Shows: Backing {
     /// Shows these bytes, or those that it shows already.
     fn show(&mut self, given: Option<Bytes>)
         ensures shown { Brings Self.stands self.old self.new (ShowsBytes given) }

@@ -1,8 +1,8 @@
 // A ground that tells what its calls did.
 ghost use Rattle.std.specs.Prelude.{◌≡◌, IfOk};
-ghost use Rattle.sdr_lock.specs.Standing.{Standing};
+ghost use Rattle.sdr_lock.specs.Standing.{GroundState};
 
-use crate::Serves;
+use crate::Backing;
 use sdr_base::{Move, NoMemory};
 use sdr_model::Call;
 
@@ -17,19 +17,19 @@ pub struct Room {
 
 /// A ground that tells the moves of its last call and the bytes that it shows, and how many there may be in the call that
 /// follows.
-pub trait Tells: Serves {
+pub trait Tells: Backing {
     ghost use Rattle.sdr_lock.specs.Room.{HoldsAny};
 
     /// The moves of the last call.
     fn moves(&self) -> &[Move]
-        ensures { (v : Standing) → Self.stands self.now v → result.now ≡ v.moves };
+        ensures { (v : GroundState) → Self.stands self.now v → result.now ≡ v.moves };
 
     /// The bytes that it shows.
     fn shown(&self) -> &[u8]
-        ensures { (v : Standing) → Self.stands self.now v → result.now ≡ v.now.world.shown };
+        ensures { (v : GroundState) → Self.stands self.now v → result.now ≡ v.now.world.shown };
 
     /// Room for what a call that follows may come to.
     fn room_for(&self, call: &Call) -> Result<Room, NoMemory>
-        ensures { IfOk result (λ room. (v : Standing) → Self.stands self.now v →
+        ensures { IfOk result (λ room. (v : GroundState) → Self.stands self.now v →
             HoldsAny room v.now call.now) };
 }

@@ -9,7 +9,7 @@ use Rattle.byteorder.specs.Endian.{big_number}
 use Rattle.byteorder.specs.Numbers.{big_number-reads_back, length-bytes_high_first}
 use Rattle.sdr_base.specs.Parts.{part}
 use Rattle.sdr_log.specs.Batch.{batch_of, encoded, end_of}
-use Rattle.sdr_log.specs.Frame.{number, four}
+use Rattle.sdr_log.specs.Frame.{first_number, four}
 use Rattle.sdr_log.specs.Log.{AreLines, are_good, batches_of, records_of}
 use Rattle.sdr_log.specs.declared.record.Record.{Record}
 use Rattle.sdr_log.proofs.RecordsLemmas.{are_good-cons}
@@ -19,9 +19,9 @@ unfolding four
 length-four n = length-bytes_high_first 4 n
 
 -- a number in four bytes is read back
-number-four : (n : ℕ) (rest : List ℕ) → n < 2 ^ 32 → number (take 4 (four n ++ rest)) ≡ n
-unfolding number four
-number-four n rest lt =
+first_number-four : (n : ℕ) (rest : List ℕ) → n < 2 ^ 32 → first_number (take 4 (four n ++ rest)) ≡ n
+unfolding first_number four
+first_number-four n rest lt =
     ap (big_number 4) (take_at (four n) rest 4 (length-four n) ∙ sym (append-nil (four n)))
     ∙ big_number-reads_back 4 n [] lt
 
@@ -61,13 +61,13 @@ AreShort-good n (r ∷ records) le good =
 
 -- one record from the front
 one_record : (r : Record) (rest : List ℕ) → r.line < 2 ^ 32 → length r.bytes ≡ 64 →
-    (number (take 4 (encoded r ++ rest)) ≡ r.line) × (part 4 64 (encoded r ++ rest) ≡ r.bytes)
+    (first_number (take 4 (encoded r ++ rest)) ≡ r.line) × (part 4 64 (encoded r ++ rest) ≡ r.bytes)
     × (drop 68 (encoded r ++ rest) ≡ rest)
 unfolding encoded
 one_record r rest lt long =
     let split : (four r.line ++ r.bytes) ++ rest ≡ four r.line ++ (r.bytes ++ rest) =
     append_assoc (four r.line) r.bytes rest in (
-      ap (λ (l : List ℕ). number (take 4 l)) split ∙ number-four r.line (r.bytes ++ rest) lt,
+      ap (λ (l : List ℕ). first_number (take 4 l)) split ∙ first_number-four r.line (r.bytes ++ rest) lt,
       ap (λ (l : List ℕ). take 64 (drop 4 l)) split
           ∙ ap (λ (l : List ℕ). take 64 l) (drop_at (four r.line) (r.bytes ++ rest) 4 (length-four r.line))
           ∙ take_at r.bytes rest 64 long,
@@ -84,7 +84,7 @@ records_of-encoded (r ∷ records) rest short lines =
     let split : (encoded r ++ flat_map encoded records) ++ rest ≡ encoded r ++ (flat_map encoded records ++ rest) =
     append_assoc (encoded r) (flat_map encoded records) rest in
     let one = one_record r (flat_map encoded records ++ rest) short.0 lines.0 in
-    let line = ap (λ (l : List ℕ). number (take 4 l)) split ∙ one.0 in
+    let line = ap (λ (l : List ℕ). first_number (take 4 l)) split ∙ one.0 in
     let bytes = ap (λ (l : List ℕ). part 4 64 l) split ∙ one.1 in
     let behind = ap (λ (l : List ℕ). drop 68 l) split ∙ one.2 in
     (λ i. record { line = line i; bytes = bytes i } ∷ records_of (length records) (behind i))
@@ -106,8 +106,8 @@ module _ (records : List Record) (junk : List ℕ) (short : AreShort records) (l
   unfolding batch_of
   split = append_assoc (four n ++ body) (0 ∷ []) junk ∙ append_assoc (four n) body (0 ∷ junk)
 
-  count : number (take 4 whole) ≡ n
-  count = ap (λ (l : List ℕ). number (take 4 l)) split ∙ number-four n (body ++ 0 ∷ junk) few
+  count : first_number (take 4 whole) ≡ n
+  count = ap (λ (l : List ℕ). first_number (take 4 l)) split ∙ first_number-four n (body ++ 0 ∷ junk) few
 
   front : drop 4 whole ≡ body ++ 0 ∷ junk
   front = ap (λ (l : List ℕ). drop 4 l) split ∙ drop_at (four n) (body ++ 0 ∷ junk) 4 (length-four n)

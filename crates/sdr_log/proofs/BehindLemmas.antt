@@ -6,7 +6,7 @@ use Rattle.std.specs.Prelude.{Option, option_map}
 use Rattle.std.proofs.lemmas.List.{drop-append-le, take-append-le}
 use Rattle.std.proofs.lemmas.Bool.Decides.{nat_tests}
 use Rattle.sdr_log.specs.Batch.{batch_size, end_of}
-use Rattle.sdr_log.specs.Frame.{number}
+use Rattle.sdr_log.specs.Frame.{first_number}
 use Rattle.sdr_log.specs.Log.{batches_of, records_of}
 use Rattle.sdr_log.specs.declared.record.Record.{Record}
 
@@ -16,7 +16,7 @@ pub records_of-append : (count : ℕ) (bytes more : List ℕ) → 68 * count ≤
 unfolding records_of
 records_of-append zero bytes more le = refl
 records_of-append (suc count) bytes more le =
-    let line = ap number (take-append-le 4 bytes more (omega arith)) in
+    let line = ap first_number (take-append-le 4 bytes more (omega arith)) in
     let old = ap (take 64) (drop-append-le 4 bytes more (omega arith))
     ∙ take-append-le 64 (drop 4 bytes) more (omega (arith, length-drop 4 bytes)) in
     let rest = ap (records_of count) (drop-append-le 68 bytes more (omega arith))
@@ -57,10 +57,10 @@ behind_none fuel some = record {
 
 -- a batch more before: its gate is open, and its bytes are those of so many records
 module _ (fuel gate : ℕ) (body : List ℕ) (before : List ℕ) (records : List Record)
-    (is_open : (gate == 0) ≡ false) (long : length body ≡ 4 + 68 * number (take 4 body))
-    (some : (number (take 4 body) == 0) ≡ false) (b : Behind fuel before records) where
+    (is_open : (gate == 0) ≡ false) (long : length body ≡ 4 + 68 * first_number (take 4 body))
+    (some : (first_number (take 4 body) == 0) ≡ false) (b : Behind fuel before records) where
   abbrev count : ℕ
-  count = number (take 4 body)
+  count = first_number (take 4 body)
 
   abbrev own : List Record
   own = records_of count (drop 4 body)
@@ -68,9 +68,9 @@ module _ (fuel gate : ℕ) (body : List ℕ) (before : List ℕ) (records : List
   split : (rest : List ℕ) → (body ++ before) ++ rest ≡ body ++ (before ++ rest)
   split rest = append_assoc body before rest
 
-  count_is : (rest : List ℕ) → number (take 4 ((body ++ before) ++ rest)) ≡ count
-  count_is rest = ap (λ (l : List ℕ). number (take 4 l)) (split rest)
-      ∙ ap number (take-append-le 4 body (before ++ rest) (omega (arith, long)))
+  count_is : (rest : List ℕ) → first_number (take 4 ((body ++ before) ++ rest)) ≡ count
+  count_is rest = ap (λ (l : List ℕ). first_number (take 4 l)) (split rest)
+      ∙ ap first_number (take-append-le 4 body (before ++ rest) (omega (arith, long)))
 
   records_are : (rest : List ℕ) → records_of count (drop 4 ((body ++ before) ++ rest)) ≡ own
   records_are rest =

@@ -12,7 +12,7 @@ use Rattle.sdr_disk.proofs.RangesLemmas.{Agrees-overwrite, Agrees-part}
 use Rattle.sdr_log.specs.Calls.{Closes}
 use Rattle.sdr_log.specs.Frame.{IsInLimits}
 use Rattle.sdr_log.specs.Log.{batches_of, first_gate, heap_of, put_records, read_log}
-use Rattle.sdr_log.specs.Logged.{Gives, GivesSame, HasRegions, IsOpen}
+use Rattle.sdr_log.specs.Logged.{GivesHeap, GivesSame, HasRegions, IsOpen}
 use Rattle.sdr_log.specs.declared.frame.Frame.{Frame}
 use Rattle.sdr_log.proofs.FoundLemmas.{batches_of-gate}
 use Rattle.sdr_log.proofs.LogLemmas.{log_of-cons, put_back_of-closed}
@@ -21,7 +21,7 @@ use Rattle.sdr_log.proofs.LoggedLemmas.{put_back_of-logs}
 
 -- the image is put back as before, or its heap region is the heap
 abbrev pub GivesEither : Frame → List ℕ → List ℕ → Type 0
-GivesEither f x image = GivesSame x image ⊎ Gives (heap_of f x) image
+GivesEither f x image = GivesSame x image ⊎ GivesHeap (heap_of f x) image
 
 -- A disk with an open batch, and an image of it with any byte at the first gate.
 module _ (f : Frame) (x image : List ℕ) (left : List ℕ → Type 0) (o : IsOpen f x left)
@@ -55,7 +55,7 @@ module _ (f : Frame) (x image : List ℕ) (left : List ℕ → Type 0) (o : IsOp
       ∙ batches_of-gate (64 * f.log_lines) (first_gate image) (first_gate x) (part 65 k x) same
       ∙ ap (batches_of (64 * f.log_lines)) (sym (log_of-cons f x k is (omega (arith, regions.inside))))
 
-  pub gate_gives : first_gate image ≡ 0 → Gives (heap_of f x) image
+  pub gate_gives : first_gate image ≡ 0 → GivesHeap (heap_of f x) image
   gate_gives shut =
       put_back_of-closed f image gate_regions.head (omega (arith, limits.least_log)) gate_regions.inside shut
       ∙ ap Some gate_heap
@@ -92,19 +92,21 @@ closes f x y left left' o is only =
     }
 
 -- Closing at every moment.
-module _ {D : Type 0} (moment : D → ℕ) (may_leave : D → ℕ → List ℕ → Type 0) (f : Frame) (old : D) (x : List ℕ)
-    (o : IsOpen f x (may_leave old (moment old))) where
+module _ {D : Type 0} (moment : D → ℕ) (may_hold_after : D → ℕ → List ℕ → Type 0) (f : Frame) (old : D) (x : List ℕ)
+    (o : IsOpen f x (may_hold_after old (moment old))) where
   -- while the lines are synced
-  pub at_lines : (now : D) → Syncs moment may_leave old now → AtEach moment may_leave old now (GivesEither f x)
+  pub at_lines : (now : D) → Syncs moment may_hold_after old now → AtEach moment may_hold_after old now
+      (GivesEither f x)
   at_lines now s =
-      at_synced moment may_leave old old now (GivesEither f x)
-      (at_first moment may_leave old (GivesEither f x) (λ image l. inl (logged_same f x image _ o.logged l))) s
+      at_synced moment may_hold_after old old now (GivesEither f x)
+      (at_first moment may_hold_after old (GivesEither f x) (λ image l. inl (logged_same f x image _ o.logged l))) s
 
   -- and while the gate is closed
-  pub at_closing : (mid now : D) → Syncs moment may_leave old mid → Only x (may_leave mid (moment mid)) →
-      AtEach moment may_leave mid now (IsTorn (may_leave mid (moment mid)) 64 1) →
-      AtEach moment may_leave old now (GivesEither f x)
+  pub at_closing : (mid now : D) → Syncs moment may_hold_after old mid → Only x (may_hold_after mid (moment mid)) →
+      AtEach moment may_hold_after mid now (IsTorn (may_hold_after mid (moment mid)) 64 1) →
+      AtEach moment may_hold_after old now (GivesEither f x)
   at_closing mid now s only each =
-      at_both moment may_leave old mid now (GivesEither f x) _ (GivesEither f x) (at_lines mid s) each (λ image e. e)
+      at_both moment may_hold_after old mid now (GivesEither f x) _ (GivesEither f x) (at_lines mid s) each
+          (λ image e. e)
       (λ image t. torn_gate f x image _ o
       (subst (λ (y : List ℕ). Agrees (range 64 1 ∷ []) y image) (only t.whole t.left_before) t.agrees))

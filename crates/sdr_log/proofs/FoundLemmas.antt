@@ -8,7 +8,7 @@ use Rattle.std.proofs.lemmas.Option.{same_Some, none-some}
 use Rattle.std.proofs.lemmas.List.{drop-append-le, take-take, length-take-le}
 use Rattle.std.proofs.lemmas.Bool.Decides.{nat_tests}
 use Rattle.sdr_log.specs.Batch.{batch_size, batch_of, end_of}
-use Rattle.sdr_log.specs.Frame.{number}
+use Rattle.sdr_log.specs.Frame.{first_number}
 use Rattle.sdr_log.specs.Log.{AreLines, batches_of, records_of}
 use Rattle.sdr_log.specs.declared.record.Record.{Record}
 use Rattle.sdr_log.proofs.BatchLemmas.{batches_of-one, end_of-one, AreShort}
@@ -25,7 +25,7 @@ pub record Found (fuel : ℕ) (log : List ℕ) (records : List Record) (place : 
 -- One batch, and what is found behind it.
 module _ (fuel gate : ℕ) (log : List ℕ) where
   abbrev count : ℕ
-  count = number (take 4 log)
+  count = first_number (take 4 log)
 
   abbrev size : ℕ
   size = 4 + 68 * count
@@ -41,10 +41,10 @@ module _ (fuel gate : ℕ) (log : List ℕ) where
       Found (suc fuel) (gate ∷ log) (own ++ records) (batch_size count + place)
   found_one_more records place is_open some inside f =
       let long : length body ≡ size = length-take-le size log (omega (arith, inside)) in
-      let same : number (take 4 body) ≡ count = ap number (take-take 4 size log (omega arith)) in
-      let many : length body ≡ 4 + 68 * number (take 4 body) = long ∙ ap (λ (n : ℕ). 4 + 68 * n) (sym same) in
+      let same : first_number (take 4 body) ≡ count = ap first_number (take-take 4 size log (omega arith)) in
+      let many : length body ≡ 4 + 68 * first_number (take 4 body) = long ∙ ap (λ (n : ℕ). 4 + 68 * n) (sym same) in
       let whole : body ++ drop size log ≡ log = take-append-drop size log in
-      let read : records_of (number (take 4 body)) (drop 4 body) ≡ own =
+      let read : records_of (first_number (take 4 body)) (drop 4 body) ≡ own =
       ap (λ (n : ℕ). records_of n (drop 4 body)) same
       ∙ sym (records_of-append count (drop 4 body) (drop size log) (omega (arith, long, length-drop 4 body)))
       ∙ ap (records_of count) (sym (drop-append-le 4 body (drop size log) (omega (arith, long))))
@@ -114,7 +114,8 @@ unfolding batches_of end_of
 found zero log records place is ends = absurd (none-some records is)
 found (suc fuel) [] records place is ends = absurd (none-some records is)
 found (suc fuel) (gate ∷ log) records place is ends =
-    by_gate fuel gate log records place (λ rs p. found fuel (drop (4 + 68 * number (take 4 log)) log) rs p) (gate == 0)
+    by_gate fuel gate log records place (λ rs p. found fuel (drop (4 + 68 * first_number (take 4 log)) log) rs p)
+        (gate == 0)
     refl is ends
 
 pub batches_of-closed : (fuel gate : ℕ) (log : List ℕ) → gate ≡ 0 → batches_of (suc fuel) (gate ∷ log) ≡ Some []

@@ -3,9 +3,9 @@ use Rattle.std.proofs.Common.{◌≡◌, ◌≤◌, ◌<◌, ℕ, ◌*◌, Bool,
 use Rattle.std.proofs.Common.{refl, sym, ap, ◌∙◌, arith, append-nil, append_assoc}
 use Rattle.std.proofs.lemmas.Bool.Decides.{nat_tests}
 use Rattle.sdr_log.specs.Calls.{AreBelow, AreNamed, HoldLines}
-use Rattle.sdr_log.specs.Log.{AreLines, are_good, is_named, put_records}
+use Rattle.sdr_log.specs.Log.{AreLines, are_good, names_line, put_records}
 use Rattle.sdr_log.specs.declared.record.Record.{Record}
-use Rattle.sdr_log.proofs.RecordsLemmas.{AreLines-push, are_good-cons, is_named-push, put_records-own}
+use Rattle.sdr_log.proofs.RecordsLemmas.{AreLines-push, are_good-cons, names_line-push, put_records-own}
 
 -- the first of good records are good
 pub are_good-before : (n : ℕ) (records more : List Record) → are_good n (records ++ more) ≡ true →
@@ -17,22 +17,22 @@ are_good-before n (r ∷ records) more good =
     let new = unnamed records more r.line g.1 in
     grind (arith, nat_tests, g.0)
   where
-    unnamed : (records more : List Record) (line : ℕ) → is_named (records ++ more) line ≡ false →
-        is_named records line ≡ false
+    unnamed : (records more : List Record) (line : ℕ) → names_line (records ++ more) line ≡ false →
+        names_line records line ≡ false
     unnamed [] more line other = refl
     unnamed (o ∷ records) more line other =
         let rest = unnamed records more line (grind (arith, nat_tests)) in grind (arith, nat_tests)
 
 -- the last of good records is of the heap, and no other names its line
 pub are_good-last : (n : ℕ) (records : List Record) (r : Record) → are_good n (records ++ r ∷ []) ≡ true →
-    (r.line < n) × (is_named records r.line ≡ false)
+    (r.line < n) × (names_line records r.line ≡ false)
 are_good-last n [] r good = (grind (arith, nat_tests), refl)
 are_good-last n (o ∷ records) r good =
     let g = are_good-cons n o (records ++ r ∷ []) good in
     let rest = are_good-last n records r g.2 in (
       rest.0,
-      apart o.line r.line (is_named records r.line) rest.1 (other (is_named records o.line) (r.line == o.line)
-          (sym (is_named-push records r o.line) ∙ g.1)),
+      apart o.line r.line (names_line records r.line) rest.1 (other (names_line records o.line) (r.line == o.line)
+          (sym (names_line-push records r o.line) ∙ g.1)),
     )
   where
     other : (a b : Bool) → (a || b) ≡ false → b ≡ false
@@ -43,14 +43,15 @@ are_good-last n (o ∷ records) r good =
     apart a b named is ne = grind (arith, nat_tests)
 
 -- a record among others names its line below the end of the heap
-pub is_named-below : (n : ℕ) (records : List Record) (line : ℕ) → are_good n records ≡ true →
-    is_named records line ≡ true → line < n
-is_named-below n [] line good is = absurd cc
-is_named-below n (r ∷ records) line good is =
-    let g = are_good-cons n r records good in by (r.line == line) refl is g.0 (λ e. is_named-below n records line g.2 e)
+pub names_line-below : (n : ℕ) (records : List Record) (line : ℕ) → are_good n records ≡ true →
+    names_line records line ≡ true → line < n
+names_line-below n [] line good is = absurd cc
+names_line-below n (r ∷ records) line good is =
+    let g = are_good-cons n r records good in by (r.line == line) refl is g.0
+        (λ e. names_line-below n records line g.2 e)
   where
-    by : (b : Bool) → (r.line == line) ≡ b → (b || is_named records line) ≡ true → r.line < n →
-        (is_named records line ≡ true → line < n) → line < n
+    by : (b : Bool) → (r.line == line) ≡ b → (b || names_line records line) ≡ true → r.line < n →
+        (names_line records line ≡ true → line < n) → line < n
     by true same is below rest = let e : r.line ≡ line = grind (arith, nat_tests) in omega (arith, e, below)
     by false same is below rest = rest is
 

@@ -5,7 +5,7 @@ use Rattle.std.proofs.Common.{Some, None}
 use Rattle.std.specs.Prelude.{replicate}
 use Rattle.std.proofs.lemmas.List.{drop_more}
 use Rattle.std.proofs.lemmas.Bool.{le-leb, lt-leb}
-use Rattle.sdr_log.specs.Frame.{four, number, frame_of, disk_bytes}
+use Rattle.sdr_log.specs.Frame.{four, first_number, frame_of, disk_bytes}
 use Rattle.sdr_log.specs.Log.{log_of, heap_of, batches_of, records_of, read_log, put_back_in, put_back_of}
 use Rattle.sdr_log.specs.declared.frame.Frame.{Frame}
 use Rattle.sdr_base.specs.Parts.{part}
@@ -19,7 +19,7 @@ row_of_a_closed_gate = refl
 row_of_one_record :
     batches_of 128 (1 ∷ four 1 ++ four 5 ++ replicate 64 9 ++ replicate 55 0)
     ≡ Some (record { line = 5; bytes = replicate 64 9 } ∷ [])
-unfolding batches_of records_of four number
+unfolding batches_of records_of four first_number
 row_of_one_record = refl
 
 -- two open batches
@@ -27,22 +27,22 @@ row_of_two_batches :
     batches_of 192 (1 ∷ four 1 ++ four 5 ++ replicate 64 9 ++ 7 ∷ four 1 ++ four 300 ++ replicate 64 8 ++ replicate
     46 0)
     ≡ Some (record { line = 5; bytes = replicate 64 9 } ∷ record { line = 300; bytes = replicate 64 8 } ∷ [])
-unfolding batches_of records_of four number
+unfolding batches_of records_of four first_number
 row_of_two_batches = refl
 
 -- an open batch without a record
 row_of_an_empty_batch : batches_of 128 (1 ∷ replicate 127 0) ≡ None
-unfolding batches_of number
+unfolding batches_of first_number
 row_of_an_empty_batch = refl
 
 -- an open batch of two records in two lines, which ends behind the region
 row_of_a_long_batch : batches_of 128 (1 ∷ four 2 ++ replicate 123 0) ≡ None
-unfolding batches_of four number
+unfolding batches_of four first_number
 row_of_a_long_batch = refl
 
 -- an open batch that ends where the region does, so that there is no place for the next gate
 row_of_a_batch_to_the_end : batches_of 73 (1 ∷ four 1 ++ replicate 68 0) ≡ None
-unfolding batches_of four number
+unfolding batches_of four first_number
 row_of_a_batch_to_the_end = refl
 
 -- the log region begins with the first gate

@@ -12,8 +12,8 @@ use Rattle.sdr_base.specs.Parts.{part}
 use Rattle.sdr_disk.specs.Ranges.{Agrees, IsInNone, range}
 use Rattle.sdr_disk.proofs.RangesLemmas.{Agrees-nil, Agrees-one_more, Agrees-part, Agrees-refl}
 use Rattle.sdr_base.proofs.PartsLemmas.{get_or-part, length-part}
-use Rattle.sdr_log.specs.Frame.{IsInLimits, disk_bytes, frame_of, heap_place, number}
-use Rattle.sdr_log.specs.Log.{AreLines, batches_of, first_gate, heap_of, is_named, log_of, put_back_in}
+use Rattle.sdr_log.specs.Frame.{IsInLimits, disk_bytes, frame_of, heap_place, first_number}
+use Rattle.sdr_log.specs.Log.{AreLines, batches_of, first_gate, heap_of, names_line, log_of, put_back_in}
 use Rattle.sdr_log.specs.Log.{put_back_of, put_records, read_log, records_of}
 use Rattle.sdr_log.specs.Logged.{GivesSame, HasRegions, IsAtRest, IsLogged, Logs, line_ranges}
 use Rattle.sdr_log.specs.declared.frame.Frame.{Frame}
@@ -48,10 +48,10 @@ AreLines-append (r ∷ a) b la lb = (la.0, AreLines-append a b la.1 lb)
 
 -- one batch, and those behind it
 module _ (fuel : ℕ) (log : List ℕ) (records : List Record)
-    (each : (rs : List Record) → batches_of fuel (drop (4 + 68 * number (take 4 log)) log) ≡ Some rs →
+    (each : (rs : List Record) → batches_of fuel (drop (4 + 68 * first_number (take 4 log)) log) ≡ Some rs →
     AreLines rs) where
   abbrev count : ℕ
-  count = number (take 4 log)
+  count = first_number (take 4 log)
 
   abbrev rest : Option (List Record)
   rest = batches_of fuel (drop (4 + 68 * count) log)
@@ -83,7 +83,7 @@ AreLines-batches_of zero log records is = absurd (none-some records is)
 AreLines-batches_of (suc fuel) [] records is = absurd (none-some records is)
 AreLines-batches_of (suc fuel) (gate ∷ log) records is =
     AreLines-by_gate fuel log records
-    (λ rs e. AreLines-batches_of fuel (drop (4 + 68 * number (take 4 log)) log) rs e) (gate == 0) is
+    (λ rs e. AreLines-batches_of fuel (drop (4 + 68 * first_number (take 4 log)) log) rs e) (gate == 0) is
 
 pub Logs-lines : (f : Frame) (x : List ℕ) (records : List Record) → Logs f x records → AreLines records
 unfolding read_log
@@ -96,7 +96,7 @@ before_lines f [] i lt = tt
 before_lines f (r ∷ records) i lt = (inl (omega arith), before_lines f records i lt)
 
 -- a byte of the heap whose line isn't named
-unnamed_outside : (f : Frame) (records : List Record) (i : ℕ) → is_named records (i / 64) ≡ false →
+unnamed_outside : (f : Frame) (records : List Record) (i : ℕ) → names_line records (i / 64) ≡ false →
     IsInNone (line_ranges f records) (heap_place f + i)
 unnamed_outside f [] i other = tt
 unnamed_outside f (r ∷ records) i other =
@@ -152,7 +152,7 @@ module _ (f : Frame) (x image : List ℕ) (records : List Record) (place count :
       below_or_past : (i n : ℕ) → (i < n) ⊎ (n ≤ i)
       below_or_past i n = grind arith
 
-      at : (i : ℕ) → is_named records (i / 64) ≡ false → (i < 64 * f.heap_lines) ⊎ (64 * f.heap_lines ≤ i) →
+      at : (i : ℕ) → names_line records (i / 64) ≡ false → (i < 64 * f.heap_lines) ⊎ (64 * f.heap_lines ≤ i) →
           get_or (part (heap_place f) (64 * f.heap_lines) image) i 0
           ≡ get_or (part (heap_place f) (64 * f.heap_lines) x) i 0
       at i other (inl lt) =

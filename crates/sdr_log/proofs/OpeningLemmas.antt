@@ -14,7 +14,7 @@ use Rattle.sdr_disk.proofs.RangesLemmas.{Agrees-more, Agrees-one_more, Agrees-ov
 use Rattle.sdr_base.proofs.PartsLemmas.{get_or-overwrite_inside}
 use Rattle.sdr_disk.proofs.RangesLemmas.{Agrees-trans}
 use Rattle.sdr_log.specs.Batch.{batch_of, batch_size, end_of, log_end, with_batch}
-use Rattle.sdr_log.specs.Calls.{MayOpen, Opens}
+use Rattle.sdr_log.specs.Calls.{MayOpen, OpensBatch}
 use Rattle.sdr_log.specs.Frame.{IsInLimits}
 use Rattle.sdr_log.specs.Log.{AreLines, are_good, batches_of, heap_of, log_of, put_records}
 use Rattle.sdr_log.specs.Log.{read_log}
@@ -257,7 +257,7 @@ module _ (f : Frame) (place : ℕ) (records : List Record) (x : List ℕ) (left 
       ∙ ap (λ (k : ℕ). get_or (1 ∷ []) k 0) first
 
   -- what the call leaves, where nothing is pending
-  pub opens : (left' : List ℕ → Type 0) → Only opened left' → Opens f place records x opened left'
+  pub opens : (left' : List ℕ → Type 0) → Only opened left' → OpensBatch f place records x opened left'
   opens left' only =
       let is_open : (get_or opened (64 + place) 0 == 0) ≡ false = grind (arith, nat_tests, gate_open) in
       let l = open_logs opened gate_over is_open in
@@ -278,7 +278,7 @@ module _ (f : Frame) (place : ℕ) (records : List Record) (x : List ℕ) (left 
       }
 
   pub opens_written : (y : List ℕ) (left' : List ℕ → Type 0) → y ≡ opened → Only y left' →
-      Opens f place records x y left'
+      OpensBatch f place records x y left'
   opens_written y left' is only =
-      subst (λ (z : List ℕ). Opens f place records x z left') (sym is)
+      subst (λ (z : List ℕ). OpensBatch f place records x z left') (sym is)
       (opens left' (subst (λ (z : List ℕ). Only z left') is only))

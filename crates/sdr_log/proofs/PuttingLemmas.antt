@@ -15,11 +15,11 @@ use Rattle.sdr_disk.proofs.RangesLemmas.{Agrees-more, Agrees-overwrite, Agrees-s
 use Rattle.sdr_base.proofs.PartsLemmas.{length-part}
 use Rattle.sdr_log.specs.Calls.{AreNamed, MayPut, Puts, with_records}
 use Rattle.sdr_log.specs.Frame.{heap_place}
-use Rattle.sdr_log.specs.Log.{first_gate, heap_of, is_named, put_records, read_log}
+use Rattle.sdr_log.specs.Log.{first_gate, heap_of, names_line, put_records, read_log}
 use Rattle.sdr_log.specs.Logged.{GivesSame, HasRegions, IsLogged, Logs, line_ranges}
 use Rattle.sdr_log.specs.declared.frame.Frame.{Frame}
 use Rattle.sdr_log.specs.declared.record.Record.{Record}
-use Rattle.sdr_log.proofs.GoodLemmas.{is_named-below}
+use Rattle.sdr_log.proofs.GoodLemmas.{names_line-below}
 use Rattle.sdr_log.proofs.LoggedLemmas.{HasRegions-limits, logged_same, pending_gate, pending_log, pending_logs}
 use Rattle.sdr_log.proofs.LoggedLemmas.{pending_same}
 
@@ -43,7 +43,7 @@ heap_of-overwrite f line bytes x regions long below =
     ∙ part-overwrite p (overwrite (64 * line) bytes heap) x (omega (arith, new, wide))
 
 -- a place outside all named lines is outside each of them
-named_outside : (f : Frame) (records : List Record) (line i : ℕ) → is_named records line ≡ true →
+named_outside : (f : Frame) (records : List Record) (line i : ℕ) → names_line records line ≡ true →
     IsInNone (line_ranges f records) i → (i < heap_place f + 64 * line) ⊎ (heap_place f + 64 * line + 64 ≤ i)
 named_outside f [] line i is o = absurd cc
 named_outside f (r ∷ records) line i is o = elim (cases_eq r.line line) [
@@ -53,7 +53,7 @@ named_outside f (r ∷ records) line i is o = elim (cases_eq r.line line) [
   | inr other ↦ named_outside f records line i (grind (arith, nat_tests)) o.1
 ]
 
-Agrees-named : (f : Frame) (records : List Record) (line : ℕ) (a b : List ℕ) → is_named records line ≡ true →
+Agrees-named : (f : Frame) (records : List Record) (line : ℕ) (a b : List ℕ) → names_line records line ≡ true →
     Agrees (range (heap_place f + 64 * line) 64 ∷ []) a b → Agrees (line_ranges f records) a b
 Agrees-named f records line a b is g =
     Agrees-more (range (heap_place f + 64 * line) 64 ∷ []) (line_ranges f records) a b
@@ -61,12 +61,12 @@ Agrees-named f records line a b is g =
 
 -- A logged line, over a disk of these bytes.
 module _ (f : Frame) (x : List ℕ) (left : List ℕ → Type 0) (l : IsLogged f x left) (r : Record)
-    (named : is_named l.records r.line ≡ true) (long : length r.bytes ≡ 64) where
+    (named : names_line l.records r.line ≡ true) (long : length r.bytes ≡ 64) where
   abbrev pub put : List ℕ
   put = overwrite (heap_place f + 64 * r.line) r.bytes x
 
   below : r.line < f.heap_lines
-  below = is_named-below f.heap_lines l.records r.line l.logs.good named
+  below = names_line-below f.heap_lines l.records r.line l.logs.good named
 
   put_agrees : Agrees (line_ranges f l.records) x put
   put_agrees =
@@ -113,27 +113,27 @@ module _ (f : Frame) (x : List ℕ) (left : List ℕ → Type 0) (l : IsLogged f
   }
 
 -- what stands where so many lines are put and these are left
-pub record PutSoFar {D : Type 0} (moment : D → ℕ) (may_leave : D → ℕ → List ℕ → Type 0) (f : Frame)
+pub record PutSoFar {D : Type 0} (moment : D → ℕ) (may_hold_after : D → ℕ → List ℕ → Type 0) (f : Frame)
     (lines rest : List Record) (old now : D) (x y : List ℕ) : Type 0 where
-  pub may : MayPut f rest y (may_leave now (moment now))
+  pub may : MayPut f rest y (may_hold_after now (moment now))
   pub heap : put_records rest (heap_of f y) ≡ put_records lines (heap_of f x)
   pub log : read_log f y ≡ read_log f x
   pub gate : first_gate y ≡ first_gate x
   pub back : GivesSame x y
-  pub each : AtEach moment may_leave old now (GivesSame x)
+  pub each : AtEach moment may_hold_after old now (GivesSame x)
 
 -- the bytes then, of a disk that tells them
-pub record Putting {D : Type 0} (moment : D → ℕ) (may_leave : D → ℕ → List ℕ → Type 0)
+pub record Putting {D : Type 0} (moment : D → ℕ) (may_hold_after : D → ℕ → List ℕ → Type 0)
     (bytes : D → Option (List ℕ)) (f : Frame) (lines rest : List Record) (old now : D) (x : List ℕ) : Type 0 where
   pub y : List ℕ
   pub told : bytes now ≡ Some y
   pub written : with_records f rest y ≡ with_records f lines x
-  pub so_far : MayPut f lines x (may_leave old (moment old)) →
-      PutSoFar moment may_leave f lines rest old now x y
+  pub so_far : MayPut f lines x (may_hold_after old (moment old)) →
+      PutSoFar moment may_hold_after f lines rest old now x y
 
-module _ {D : Type 0} (moment : D → ℕ) (may_leave : D → ℕ → List ℕ → Type 0) (bytes : D → Option (List ℕ))
+module _ {D : Type 0} (moment : D → ℕ) (may_hold_after : D → ℕ → List ℕ → Type 0) (bytes : D → Option (List ℕ))
     (f : Frame) (lines : List Record) (old : D) (x : List ℕ) where
-  pub putting_none : bytes old ≡ Some x → Putting moment may_leave bytes f lines lines old old x
+  pub putting_none : bytes old ≡ Some x → Putting moment may_hold_after bytes f lines lines old old x
   putting_none is = record {
     y = x;
     told = is;
@@ -144,28 +144,29 @@ module _ {D : Type 0} (moment : D → ℕ) (may_leave : D → ℕ → List ℕ �
       log = refl;
       gate = refl;
       back = refl;
-      each = at_first moment may_leave old (GivesSame x) (λ image l. logged_same f x image _ m.logged l);
+      each = at_first moment may_hold_after old (GivesSame x) (λ image l. logged_same f x image _ m.logged l);
     };
   }
 
   -- One line more.
   module _ (now new : D) (all rest : List Record) (r : Record) (split : all ≡ r ∷ rest) (long : length r.bytes ≡ 64)
-      (p : Putting moment may_leave bytes f lines all old now x)
-      (w : Writes moment may_leave (heap_place f + 64 * r.line) 64 now new) where
+      (p : Putting moment may_hold_after bytes f lines all old now x)
+      (w : Writes moment may_hold_after (heap_place f + 64 * r.line) 64 now new) where
     abbrev place : ℕ
     place = heap_place f + 64 * r.line
 
     -- at each moment of its write
-    pub putting_each : MayPut f lines x (may_leave old (moment old)) → AtEach moment may_leave old new (GivesSame x)
+    pub putting_each : MayPut f lines x (may_hold_after old (moment old)) → AtEach moment may_hold_after old new
+        (GivesSame x)
     putting_each m =
         let s = p.so_far m in
         let named = (subst (λ (l : List Record). AreNamed s.may.logged.records l) split s.may.named).0 in
-        at_written moment may_leave old now new (GivesSame x) place 64 s.each w
+        at_written moment may_hold_after old now new (GivesSame x) place 64 s.each w
         (λ whole image of_left g. torn_same f p.y _ s.may.logged r named long whole image of_left g ∙ s.back)
 
     -- and once it is done
     pub putting_more : bytes new ≡ Some (overwrite place r.bytes p.y) → moment new ≡ moment now + 2 →
-        Putting moment may_leave bytes f lines rest old new x
+        Putting moment may_hold_after bytes f lines rest old new x
     unfolding put_logged
     putting_more is rises = record {
       y = overwrite place r.bytes p.y;
@@ -177,7 +178,7 @@ module _ {D : Type 0} (moment : D → ℕ) (may_leave : D → ℕ → List ℕ �
           let l = s.may.logged in
           record {
             may = record {
-              logged = put_logged f p.y _ l r named.0 long (may_leave new (moment new))
+              logged = put_logged f p.y _ l r named.0 long (may_hold_after new (moment new))
                   (λ image of_left. w.torn (moment new) image (omega arith) (omega arith) of_left);
               named = named.1;
             };
@@ -193,11 +194,12 @@ module _ {D : Type 0} (moment : D → ℕ) (may_leave : D → ℕ → List ℕ �
 
   -- all lines put
   pub putting_all : (now : D) (rest : List Record) → rest ≡ [] →
-      (p : Putting moment may_leave bytes f lines rest old now x) → (y : List ℕ) → bytes now ≡ Some y →
-      MayPut f lines x (may_leave old (moment old)) → Puts f lines x y (may_leave now (moment now))
+      (p : Putting moment may_hold_after bytes f lines rest old now x) → (y : List ℕ) → bytes now ≡ Some y →
+      MayPut f lines x (may_hold_after old (moment old)) → Puts f lines x y (may_hold_after now (moment now))
   putting_all now rest none p y is m =
       let s = p.so_far m in
-      subst (λ (z : List ℕ). Puts f lines x z (may_leave now (moment now))) (same_Some p.y y (sym p.told ∙ is)) record {
+      subst (λ (z : List ℕ). Puts f lines x z (may_hold_after now (moment now))) (same_Some p.y y (sym p.told ∙ is))
+          record {
         logged = s.may.logged;
         heap = subst (λ (l : List Record). put_records l (heap_of f p.y) ≡ put_records lines (heap_of f x)) none s.heap;
         log = s.log;
@@ -206,6 +208,6 @@ module _ {D : Type 0} (moment : D → ℕ) (may_leave : D → ℕ → List ℕ �
       }
 
   pub putting_written : (now : D) (rest : List Record) → rest ≡ [] →
-      Putting moment may_leave bytes f lines rest old now x → bytes now ≡ Some (with_records f lines x)
+      Putting moment may_hold_after bytes f lines rest old now x → bytes now ≡ Some (with_records f lines x)
   putting_written now rest none p =
       p.told ∙ ap Some (subst (λ (l : List Record). with_records f l p.y ≡ with_records f lines x) none p.written)

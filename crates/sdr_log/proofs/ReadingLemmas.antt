@@ -9,33 +9,33 @@ use Rattle.std.proofs.lemmas.Bool.Decides.{nat_tests}
 use Rattle.std.proofs.lemmas.Grind.{common_steps}
 use Rattle.std.proofs.lemmas.List.{length-set}
 use Rattle.sdr_log.specs.BackErrors.{OnBadLog}
-use Rattle.sdr_log.specs.Frame.{number}
-use Rattle.sdr_log.specs.Log.{are_good, batches_of, is_named, records_of}
+use Rattle.sdr_log.specs.Frame.{first_number}
+use Rattle.sdr_log.specs.Log.{are_good, batches_of, names_line, records_of}
 use Rattle.sdr_log.specs.Reading.{IsBad, IsMarked, IsWrong, Noted, ReadsBatch, noted}
 use Rattle.sdr_log.specs.declared.error.BackError.{BackError}
 use Rattle.sdr_log.specs.declared.error.BackError.TheVariants as errors
 use Rattle.sdr_log.specs.declared.record.Record.{Record}
 use Rattle.sdr_log.proofs.FoundLemmas.{batches_of-closed}
 use Rattle.sdr_log.proofs.GoodLemmas.{are_good-before, are_good-last}
-use Rattle.sdr_log.proofs.RecordsLemmas.{are_good-push, is_named-push}
+use Rattle.sdr_log.proofs.RecordsLemmas.{are_good-push, names_line-push}
 
 -- one record more, whose line no other names
 pub IsMarked-push : (records : List Record) (r : Record) (marks : List Bool) → IsMarked records marks →
-    (r.line < length marks) × (is_named records r.line ≡ false) →
+    (r.line < length marks) × (names_line records r.line ≡ false) →
     IsMarked (records ++ r ∷ []) (slice_set marks r.line true)
 IsMarked-push records r marks m (lt, free) = record {
   good =
       subst (λ (n : ℕ). are_good n (records ++ r ∷ []) ≡ true) (sym (length-set marks r.line true))
       (are_good-push (length marks) records r m.good lt free);
   told = λ line lt'. elim (cases_eq r.line line) [
-    | inl same ↦ grind (arith, nat_tests, common_steps, is_named-push records r line)
-    | inr other ↦ grind (arith, nat_tests, common_steps, is_named-push records r line, m.told line)
+    | inl same ↦ grind (arith, nat_tests, common_steps, names_line-push records r line)
+    | inr other ↦ grind (arith, nat_tests, common_steps, names_line-push records r line, m.told line)
   ];
 }
 
 -- a record that may be added is of the heap, and no other names its line
 pub IsBad-refused : (n : Noted) (r : Record) →
-    ((r.line < n.lines) × (is_named n.records r.line ≡ false) → ⊥) → IsBad n (r ∷ [])
+    ((r.line < n.lines) × (names_line n.records r.line ≡ false) → ⊥) → IsBad n (r ∷ [])
 IsBad-refused n r never good = never (are_good-last n.lines n.records r good)
 
 -- where the first of more records can't stand, all can't
@@ -46,7 +46,7 @@ IsBad-more n first more bad good =
 
 -- one record from the front, and the others
 pub noted_one_more : (n : Noted) (count : ℕ) (bytes : List ℕ) → (r : Record) →
-    r ≡ record { line = number (take 4 bytes); bytes = take 64 (drop 4 bytes) } →
+    r ≡ record { line = first_number (take 4 bytes); bytes = take 64 (drop 4 bytes) } →
     noted (noted n (r ∷ [])) (records_of count (drop 68 bytes)) ≡ noted n (records_of (suc count) bytes)
 unfolding records_of
 noted_one_more n count bytes r is =
@@ -60,7 +60,7 @@ unfolding records_of
 noted_none n bytes = ap (λ (l : List Record). record { lines = n.lines; records = l }) (append-nil n.records)
 
 pub IsBad-first : (n : Noted) (count : ℕ) (bytes : List ℕ) (r : Record) →
-    r ≡ record { line = number (take 4 bytes); bytes = take 64 (drop 4 bytes) } → IsBad n (r ∷ []) →
+    r ≡ record { line = first_number (take 4 bytes); bytes = take 64 (drop 4 bytes) } → IsBad n (r ∷ []) →
     IsBad n (records_of (suc count) bytes)
 unfolding records_of
 IsBad-first n count bytes r is bad =
@@ -71,7 +71,8 @@ IsBad-first n count bytes r is bad =
 
 -- a batch that is empty, or too long for the region
 pub IsWrong-batch : (n : Noted) (bytes : List ℕ) →
-    (number (take 4 bytes) == 0 || nat_le (length bytes) (4 + 68 * number (take 4 bytes))) ≡ true → IsWrong n bytes
+    (first_number (take 4 bytes) == 0 || nat_le (length bytes) (4 + 68 * first_number (take 4 bytes))) ≡ true →
+        IsWrong n bytes
 unfolding batches_of
 IsWrong-batch n bytes why zero gate records is_open is good = none-some records is
 IsWrong-batch n bytes why (suc fuel) gate records is_open is good =
@@ -81,7 +82,7 @@ IsWrong-batch n bytes why (suc fuel) gate records is_open is good =
 -- what is found behind an open gate, as its records and those of the batches behind it
 record Opened (bytes : List ℕ) (fuel : ℕ) (records : List Record) : Type 0 where
   more : List Record
-  is : records ≡ records_of (number (take 4 bytes)) (drop 4 bytes) ++ more
+  is : records ≡ records_of (first_number (take 4 bytes)) (drop 4 bytes) ++ more
 
 opened : (bytes : List ℕ) (fuel gate : ℕ) (records : List Record) → gate ≢ 0 →
     batches_of (suc fuel) (gate ∷ bytes) ≡ Some records → Opened bytes fuel records
@@ -90,30 +91,32 @@ opened bytes fuel gate records is_open is =
     by_end (count == 0 || nat_le (length bytes) (4 + 68 * count)) (rw (gate_is) at is)
   where
     count : ℕ
-    count = number (take 4 bytes)
+    count = first_number (take 4 bytes)
 
     gate_is : (gate == 0) ≡ false
     gate_is = grind (arith, nat_tests, is_open)
 
     by_rest : (found : Option (List Record)) →
-        option_map (λ rest. records_of (number (take 4 bytes)) (drop 4 bytes) ++ rest) found ≡ Some records →
+        option_map (λ rest. records_of (first_number (take 4 bytes)) (drop 4 bytes) ++ rest) found ≡ Some records →
         Opened bytes fuel records
     by_rest None e = absurd (none-some records e)
     by_rest (Some more) e = record { more = more; is = sym (same_Some _ _ e) }
 
-    by_end : (b : Bool) → cond b None (option_map (λ rest. records_of (number (take 4 bytes)) (drop 4 bytes) ++ rest)
-        (batches_of fuel (drop (4 + 68 * number (take 4 bytes)) bytes))) ≡ Some records → Opened bytes fuel records
+    by_end : (b : Bool) → cond b None
+        (option_map (λ rest. records_of (first_number (take 4 bytes)) (drop 4 bytes) ++ rest)
+        (batches_of fuel (drop (4 + 68 * first_number (take 4 bytes)) bytes))) ≡ Some records →
+            Opened bytes fuel records
     by_end true e = absurd (none-some records e)
-    by_end false e = by_rest (batches_of fuel (drop (4 + 68 * number (take 4 bytes)) bytes)) e
+    by_end false e = by_rest (batches_of fuel (drop (4 + 68 * first_number (take 4 bytes)) bytes)) e
 
 -- a batch with a record that can't stand
-pub IsWrong-records : (n : Noted) (bytes : List ℕ) → IsBad n (records_of (number (take 4 bytes)) (drop 4 bytes)) →
+pub IsWrong-records : (n : Noted) (bytes : List ℕ) → IsBad n (records_of (first_number (take 4 bytes)) (drop 4 bytes)) →
     IsWrong n bytes
 unfolding batches_of
 IsWrong-records n bytes bad zero gate records is_open is good = none-some records is
 IsWrong-records n bytes bad (suc fuel) gate records is_open is good =
     let o = opened bytes fuel gate records is_open is in
-    IsBad-more n (records_of (number (take 4 bytes)) (drop 4 bytes)) o.more bad
+    IsBad-more n (records_of (first_number (take 4 bytes)) (drop 4 bytes)) o.more bad
     (ap (λ (l : List Record). are_good n.lines (n.records ++ l)) (sym o.is) ∙ good)
 
 -- What was found up to here, and what is left to read.
@@ -153,7 +156,7 @@ module _ (lines : ℕ) (log : List ℕ) (n : Noted) (gate : ℕ) (bytes : List �
   pub read_more : (rest : List ℕ) (m : Noted) → gate ≢ 0 → ReadsBatch bytes rest n m → ReadSoFar lines log m rest
   unfolding less batches_of
   read_more rest m is_open r =
-      let count = number (take 4 bytes) in
+      let count = first_number (take 4 bytes) in
       let own = records_of count (drop 4 bytes) in
       let g : (gate == 0) ≡ false = grind (arith, nat_tests, is_open) in
       let t : (count == 0 || nat_le (length bytes) (4 + 68 * count)) ≡ false =

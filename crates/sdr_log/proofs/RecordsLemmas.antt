@@ -7,41 +7,41 @@ use Rattle.std.proofs.lemmas.Bool.Decides.{nat_tests}
 use Rattle.sdr_base.proofs.PartsLemmas.{sides, length-overwrite, length-part, get_or-part, overwrite-part}
 use Rattle.sdr_base.proofs.PartsLemmas.{get_or-overwrite_inside, get_or-overwrite_outside}
 use Rattle.sdr_base.specs.Parts.{overwrite, part}
-use Rattle.sdr_log.specs.Log.{is_named, are_good, AreLines, put_records}
+use Rattle.sdr_log.specs.Log.{names_line, are_good, AreLines, put_records}
 use Rattle.sdr_log.specs.declared.record.Record.{Record}
 
 -- two heaps that differ in the lines of these records alone
 pub record SameBut (records : List Record) (a b : List ℕ) : Type 0 where
   pub long : length b ≡ length a
-  pub same : (i : ℕ) → is_named records (i / 64) ≡ false → get_or b i 0 ≡ get_or a i 0
+  pub same : (i : ℕ) → names_line records (i / 64) ≡ false → get_or b i 0 ≡ get_or a i 0
 
 pub are_good-cons : (n : ℕ) (r : Record) (records : List Record) → are_good n (r ∷ records) ≡ true →
-    (r.line < n) × (is_named records r.line ≡ false) × (are_good n records ≡ true)
+    (r.line < n) × (names_line records r.line ≡ false) × (are_good n records ≡ true)
 are_good-cons n r records g = grind (arith, nat_tests)
 
 -- a record of another line at the end
-pub is_named-push : (records : List Record) (r : Record) (line : ℕ) →
-    is_named (records ++ r ∷ []) line ≡ (is_named records line || r.line == line)
-is_named-push [] r line = or_false (r.line == line)
+pub names_line-push : (records : List Record) (r : Record) (line : ℕ) →
+    names_line (records ++ r ∷ []) line ≡ (names_line records line || r.line == line)
+names_line-push [] r line = or_false (r.line == line)
   where
     or_false : (b : Bool) → (b || false) ≡ (false || b)
     or_false true = refl
     or_false false = refl
-is_named-push (o ∷ records) r line =
-    ap (λ (b : Bool). o.line == line || b) (is_named-push records r line)
-    ∙ or_assoc (o.line == line) (is_named records line) (r.line == line)
+names_line-push (o ∷ records) r line =
+    ap (λ (b : Bool). o.line == line || b) (names_line-push records r line)
+    ∙ or_assoc (o.line == line) (names_line records line) (r.line == line)
   where
     or_assoc : (a b c : Bool) → (a || (b || c)) ≡ (a || b || c)
     or_assoc true b c = refl
     or_assoc false b c = refl
 
 pub are_good-push : (n : ℕ) (records : List Record) (r : Record) → are_good n records ≡ true → r.line < n →
-    is_named records r.line ≡ false → are_good n (records ++ r ∷ []) ≡ true
+    names_line records r.line ≡ false → are_good n (records ++ r ∷ []) ≡ true
 are_good-push n [] r good below new = grind (arith, nat_tests)
 are_good-push n (o ∷ records) r good below new =
     let g = are_good-cons n o records good in
     let rest = are_good-push n records r g.2 below (grind (arith, nat_tests)) in
-    grind (arith, nat_tests, is_named-push records r o.line)
+    grind (arith, nat_tests, names_line-push records r o.line)
 
 pub AreLines-push : (records : List Record) (r : Record) → AreLines records → length r.bytes ≡ 64 →
     AreLines (records ++ r ∷ [])
@@ -58,8 +58,8 @@ line_of : (i line : ℕ) → 64 * line ≤ i → i < 64 * line + 64 → i / 64 �
 line_of i line ge lt = omega arith
 
 -- what names none of these lines names neither the first nor another
-unnamed : (r : Record) (records : List Record) (line : ℕ) → is_named (r ∷ records) line ≡ false →
-    (is_named (r ∷ []) line ≡ false) × (is_named records line ≡ false)
+unnamed : (r : Record) (records : List Record) (line : ℕ) → names_line (r ∷ records) line ≡ false →
+    (names_line (r ∷ []) line ≡ false) × (names_line records line ≡ false)
 unnamed r records line other = (grind (arith, nat_tests), grind (arith, nat_tests))
 
 -- the line put is the only one that changes
@@ -71,7 +71,7 @@ SameBut-one r heap long le = record {
       get_or-overwrite_outside (64 * r.line) r.bytes heap i (omega (arith, long)) (beside i other);
 }
   where
-    beside : (i : ℕ) → is_named (r ∷ []) (i / 64) ≡ false → (i < 64 * r.line) ⊎ (64 * r.line + length r.bytes ≤ i)
+    beside : (i : ℕ) → names_line (r ∷ []) (i / 64) ≡ false → (i < 64 * r.line) ⊎ (64 * r.line + length r.bytes ≤ i)
     beside i other = elim (sides (64 * r.line) (length r.bytes) i) [
       | inl out ↦ out
       | inr w ↦ let at : i / 64 ≡ r.line = line_of i r.line w.0 (omega (arith, w.1, long)) in absurd
@@ -110,7 +110,7 @@ put_records-same_but n (r ∷ records) a b good lines le s =
     })
   where
     here : (i : ℕ) → 64 * r.line + length r.bytes ≤ length a → 64 * r.line + length r.bytes ≤ length b →
-        is_named records (i / 64) ≡ false →
+        names_line records (i / 64) ≡ false →
         ((i < 64 * r.line) ⊎ (64 * r.line + length r.bytes ≤ i)) ⊎
         ((64 * r.line ≤ i) × (i < 64 * r.line + length r.bytes)) →
         get_or (overwrite (64 * r.line) r.bytes b) i 0 ≡ get_or (overwrite (64 * r.line) r.bytes a) i 0
@@ -122,14 +122,14 @@ put_records-same_but n (r ∷ records) a b good lines le s =
         ∙ s.same i (apart i out other)
         ∙ sym (get_or-overwrite_outside (64 * r.line) r.bytes a i in_a out)
       where
-        apart : (i : ℕ) → (i < 64 * r.line) ⊎ (64 * r.line + length r.bytes ≤ i) → is_named records (i / 64) ≡ false →
-            is_named (r ∷ records) (i / 64) ≡ false
+        apart : (i : ℕ) → (i < 64 * r.line) ⊎ (64 * r.line + length r.bytes ≤ i) → names_line records (i / 64) ≡ false →
+            names_line (r ∷ records) (i / 64) ≡ false
         apart i (inl lt) other = let ne : i / 64 < r.line = omega arith in grind (arith, nat_tests)
         apart i (inr ge) other = let ne : r.line < i / 64 = omega (arith, ge, lines.0) in grind (arith, nat_tests)
 
 -- a line that isn't put is the same
 pub part-same_but : (records : List Record) (line : ℕ) (heap put : List ℕ) → SameBut records heap put →
-    is_named records line ≡ false → 64 * line + 64 ≤ length heap →
+    names_line records line ≡ false → 64 * line + 64 ≤ length heap →
     part (64 * line) 64 put ≡ part (64 * line) 64 heap
 part-same_but records line heap put s new inside =
     let long = length-part (64 * line) 64 put (omega (arith, inside, s.long)) in
@@ -137,13 +137,13 @@ part-same_but records line heap put s new inside =
     (long ∙ sym (length-part (64 * line) 64 heap inside))
     (λ i lt. let lt' : i < 64 = omega (arith, lt, long) in
     get_or-part (64 * line) 64 put i lt'
-    ∙ s.same (64 * line + i) (subst (λ (k : ℕ). is_named records k ≡ false)
+    ∙ s.same (64 * line + i) (subst (λ (k : ℕ). names_line records k ≡ false)
     (sym (line_of (64 * line + i) line (omega arith) (omega arith))) new)
     ∙ sym (get_or-part (64 * line) 64 heap i lt'))
 
 -- a line's own bytes put there change nothing
 pub put_records-own : (n : ℕ) (records : List Record) (r : Record) (heap : List ℕ) → are_good n records ≡ true →
-    AreLines records → 64 * n ≤ length heap → r.line < n → is_named records r.line ≡ false →
+    AreLines records → 64 * n ≤ length heap → r.line < n → names_line records r.line ≡ false →
     r.bytes ≡ part (64 * r.line) 64 heap → put_records (records ++ r ∷ []) heap ≡ put_records records heap
 put_records-own n records r heap good lines le below new own =
     let put = put_records records heap in

@@ -13,7 +13,7 @@ use Rattle.sdr_disk.proofs.MomentsLemmas.{at_both, at_first, at_read}
 use Rattle.sdr_base.proofs.PartsLemmas.{overwrite-part}
 use Rattle.sdr_disk.proofs.RangesLemmas.{Agrees-refl}
 use Rattle.sdr_log.specs.Calls.{AreNamed, MayPut, MayPutBack, Puts, PutsBack, with_records}
-use Rattle.sdr_log.specs.Frame.{heap_place, number}
+use Rattle.sdr_log.specs.Frame.{heap_place, first_number}
 use Rattle.sdr_log.specs.Log.{AreLines, batches_of, first_gate, heap_of, put_back_of, put_records, read_log, records_of}
 use Rattle.sdr_log.specs.Logged.{GivesSame, IsAtRest, IsLogged, IsOpen, Logs, line_ranges}
 use Rattle.sdr_log.specs.declared.frame.Frame.{Frame}
@@ -45,12 +45,13 @@ puts_open f x y records left left' o p =
     record { logged = p.logged; gate = omega (arith, p.gate, o.gate) }
 
 -- and closing then gives the same heap at every moment
-pub at_closed : {D : Type 0} (moment : D → ℕ) (may_leave : D → ℕ → List ℕ → Type 0) (f : Frame) (old mid new : D)
+pub at_closed : {D : Type 0} (moment : D → ℕ) (may_hold_after : D → ℕ → List ℕ → Type 0) (f : Frame) (old mid new : D)
     (x y : List ℕ) (records : List Record) (left' : List ℕ → Type 0) → Logs f x records → Puts f records x y left' →
-    AtEach moment may_leave old mid (GivesSame x) → AtEach moment may_leave mid new (GivesEither f y) →
-    AtEach moment may_leave old new (GivesSame x)
-at_closed moment may_leave f old mid new x y records left' l p before each =
-    at_both moment may_leave old mid new (GivesSame x) (GivesEither f y) (GivesSame x) before each (λ image same. same)
+    AtEach moment may_hold_after old mid (GivesSame x) → AtEach moment may_hold_after mid new (GivesEither f y) →
+    AtEach moment may_hold_after old new (GivesSame x)
+at_closed moment may_hold_after f old mid new x y records left' l p before each =
+    at_both moment may_hold_after old mid new (GivesSame x) (GivesEither f y) (GivesSame x) before each
+        (λ image same. same)
     (λ image either. ⊎_elim (λ same. same ∙ p.back)
     (λ gives. gives ∙ ap Some p.heap ∙ sym (put_back_of-logs f x records l)) either)
 
@@ -130,13 +131,15 @@ none_closed f x l =
     by_end count bytes false false found some same e = by_rest count bytes found some e
 
     by_gate : (gate fuel : ℕ) (log : List ℕ) (b : Bool) → (gate == 0) ≡ b →
-        cond b (Some []) (cond (number (take 4 log) == 0 || nat_le (length log) (4 + 68 * number (take 4 log))) None
-        (option_map (λ more. records_of (number (take 4 log)) (drop 4 log) ++ more)
-        (batches_of fuel (drop (4 + 68 * number (take 4 log)) log)))) ≡ Some [] → gate ≡ 0
+        cond b (Some []) (cond (first_number (take 4 log) == 0 || nat_le (length log)
+            (4 + 68 * first_number (take 4 log))) None
+        (option_map (λ more. records_of (first_number (take 4 log)) (drop 4 log) ++ more)
+        (batches_of fuel (drop (4 + 68 * first_number (take 4 log)) log)))) ≡ Some [] → gate ≡ 0
     by_gate gate fuel log true is e = grind (arith, nat_tests, is)
     by_gate gate fuel log false is e =
-        absurd (by_end (number (take 4 log)) (drop 4 log) (nat_le (length log) (4 + 68 * number (take 4 log)))
-        (number (take 4 log) == 0) (batches_of fuel (drop (4 + 68 * number (take 4 log)) log)) refl refl e)
+        absurd (by_end (first_number (take 4 log)) (drop 4 log)
+            (nat_le (length log) (4 + 68 * first_number (take 4 log)))
+        (first_number (take 4 log) == 0) (batches_of fuel (drop (4 + 68 * first_number (take 4 log)) log)) refl refl e)
 
     shut : (fuel gate : ℕ) (log : List ℕ) → batches_of (suc fuel) (gate ∷ log) ≡ Some [] → gate ≡ 0
     shut fuel gate log e = by_gate gate fuel log (gate == 0) refl e
@@ -169,32 +172,33 @@ pub back_same : (f : Frame) (x image : List ℕ) (left : List ℕ → Type 0) �
 back_same f x image left (inl only) l = ap put_back_of (only image l)
 back_same f x image left (inr logged) l = logged_same f x image left logged l
 
-module _ {D : Type 0} (bytes : D → Option (List ℕ)) (moment : D → ℕ) (may_leave : D → ℕ → List ℕ → Type 0) (f : Frame)
-    (old now : D) (x : List ℕ) (r : Reads bytes moment may_leave old now)
-    (m : MayPutBack f x (may_leave old (moment old))) where
+module _ {D : Type 0} (bytes : D → Option (List ℕ)) (moment : D → ℕ) (may_hold_after : D → ℕ → List ℕ → Type 0)
+    (f : Frame)
+    (old now : D) (x : List ℕ) (r : Reads bytes moment may_hold_after old now)
+    (m : MayPutBack f x (may_hold_after old (moment old))) where
   -- what a crash leaves now it left before
-  left_before : (image : List ℕ) → may_leave now (moment now) image → may_leave old (moment old) image
+  left_before : (image : List ℕ) → may_hold_after now (moment now) image → may_hold_after old (moment old) image
   left_before image l =
-      r.past.now_then (moment old) image (omega arith) (subst (λ (k : ℕ). may_leave now k image) r.time l)
+      r.past.now_then (moment old) image (omega arith) (subst (λ (k : ℕ). may_hold_after now k image) r.time l)
 
   -- while it is read
-  pub at_reads : AtEach moment may_leave old now (GivesSame x)
+  pub at_reads : AtEach moment may_hold_after old now (GivesSame x)
   at_reads =
-      at_read moment may_leave old old now (GivesSame x)
-      (at_first moment may_leave old (GivesSame x) (λ image l. back_same f x image _ m l)) r.time r.past
+      at_read moment may_hold_after old old now (GivesSame x)
+      (at_first moment may_hold_after old (GivesSame x) (λ image l. back_same f x image _ m l)) r.time r.past
 
   -- and while the batches are put back
-  pub at_restored : (new : D) → AtEach moment may_leave now new (GivesSame x) →
-      AtEach moment may_leave old new (GivesSame x)
+  pub at_restored : (new : D) → AtEach moment may_hold_after now new (GivesSame x) →
+      AtEach moment may_hold_after old new (GivesSame x)
   at_restored new each =
-      at_both moment may_leave old now new (GivesSame x) (GivesSame x) (GivesSame x) at_reads each
+      at_both moment may_hold_after old now new (GivesSame x) (GivesSame x) (GivesSame x) at_reads each
       (λ image s. s) (λ image s. s)
 
   -- the batches may still be put back
-  pub reads_may : MayPutBack f x (may_leave now (moment now))
+  pub reads_may : MayPutBack f x (may_hold_after now (moment now))
   reads_may = by m
     where
-      by : MayPutBack f x (may_leave old (moment old)) → MayPutBack f x (may_leave now (moment now))
+      by : MayPutBack f x (may_hold_after old (moment old)) → MayPutBack f x (may_hold_after now (moment now))
       by (inl only) = inl (λ image of_left. only image (left_before image of_left))
       by (inr logged) = inr record {
         records = logged.records;
@@ -203,10 +207,10 @@ module _ {D : Type 0} (bytes : D → Option (List ℕ)) (moment : D → ℕ) (ma
       }
 
   -- all that is pending is logged
-  pub reads_logged : (records : List Record) → Logs f x records → IsLogged f x (may_leave now (moment now))
+  pub reads_logged : (records : List Record) → Logs f x records → IsLogged f x (may_hold_after now (moment now))
   reads_logged records l = by m
     where
-      by : MayPutBack f x (may_leave old (moment old)) → IsLogged f x (may_leave now (moment now))
+      by : MayPutBack f x (may_hold_after old (moment old)) → IsLogged f x (may_hold_after now (moment now))
       by (inl only) = record {
         records = records;
         logs = l;
@@ -220,13 +224,13 @@ module _ {D : Type 0} (bytes : D → Option (List ℕ)) (moment : D → ℕ) (ma
       }
 
   pub reads_open : (records : List Record) → Logs f x records → 0 < length records →
-      IsOpen f x (may_leave now (moment now))
+      IsOpen f x (may_hold_after now (moment now))
   reads_open records l some = record { logged = reads_logged records l; gate = logs_gate f x records l some }
 
   -- with no batch open, the disk is at rest
-  pub reads_rest : (y : List ℕ) → y ≡ x → Logs f x [] → IsAtRest f y (may_leave now (moment now))
-  reads_rest y is l = subst (λ (z : List ℕ). IsAtRest f z (may_leave now (moment now))) (sym is) record {
+  pub reads_rest : (y : List ℕ) → y ≡ x → Logs f x [] → IsAtRest f y (may_hold_after now (moment now))
+  reads_rest y is l = subst (λ (z : List ℕ). IsAtRest f z (may_hold_after now (moment now))) (sym is) record {
     regions = l.regions;
     gate = none_closed f x l;
-    only = closed_only f x (may_leave now (moment now)) (reads_logged [] l) (none_closed f x l);
+    only = closed_only f x (may_hold_after now (moment now)) (reads_logged [] l) (none_closed f x l);
   }

@@ -7,8 +7,8 @@ use Rattle.sdr_disk.specs.History.{MayLeave}
 use Rattle.sdr_base.specs.Parts.{part}
 use Rattle.sdr_disk.proofs.RangesLemmas.{Agrees-nil}
 use Rattle.sdr_log.specs.Batch.{end_of, log_end}
-use Rattle.sdr_log.specs.Calls.{AreNamed, HoldLines, MayOpen, MayPut, Opens}
-use Rattle.sdr_log.specs.Log.{are_good, first_gate, heap_of, is_named, read_log}
+use Rattle.sdr_log.specs.Calls.{AreNamed, HoldLines, MayOpen, MayPut, OpensBatch}
+use Rattle.sdr_log.specs.Log.{are_good, first_gate, heap_of, names_line, read_log}
 use Rattle.sdr_log.specs.Logged.{HasRegions, IsAtRest}
 use Rattle.sdr_log.specs.declared.frame.Frame.{Frame}
 use Rattle.sdr_log.specs.declared.record.Record.{Record}
@@ -49,7 +49,7 @@ rest_may_open f records x left r good own = record {
 
 -- once a batch is open, the lines that it names may be put
 pub opens_may_put : (f : Frame) (place : ℕ) (records lines earlier : List Record) (x y : List ℕ)
-    (left : List ℕ → Type 0) → Opens f place records x y left → read_log f x ≡ Some earlier →
+    (left : List ℕ → Type 0) → OpensBatch f place records x y left → read_log f x ≡ Some earlier →
     AreNamed records lines → MayPut f lines y left
 opens_may_put f place records lines earlier x y left o log named =
     let l = o.is_open.logged in
@@ -61,8 +61,8 @@ opens_may_put f place records lines earlier x y left o log named =
       named = subst (λ (rs : List Record). AreNamed rs lines) all (behind earlier records lines named);
     }
   where
-    named_behind : (earlier records : List Record) (line : ℕ) → is_named records line ≡ true →
-        is_named (earlier ++ records) line ≡ true
+    named_behind : (earlier records : List Record) (line : ℕ) → names_line records line ≡ true →
+        names_line (earlier ++ records) line ≡ true
     named_behind [] records line is = is
     named_behind (r ∷ earlier) records line is = or_true (r.line == line) (named_behind earlier records line is)
       where
@@ -82,5 +82,5 @@ rest_reads f x left r =
 
 -- a batch that was opened at rest is the only one
 pub opens_alone : (f : Frame) (records : List Record) (x y : List ℕ) (left left' : List ℕ → Type 0) →
-    IsAtRest f x left → Opens f 0 records x y left' → read_log f y ≡ Some records
+    IsAtRest f x left → OpensBatch f 0 records x y left' → read_log f y ≡ Some records
 opens_alone f records x y left left' r o = o.log ∙ ap (option_map (λ rs. rs ++ records)) (rest_reads f x left r)

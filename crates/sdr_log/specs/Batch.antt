@@ -3,7 +3,7 @@ use Rattle.std.specs.Prelude.{ℕ, zero, suc, ◌+◌, ◌*◌, cond, ◌||◌, 
 use Rattle.std.specs.Prelude.{flat_map, nat_le, Option, Some, None, option_map}
 use Rattle.sdr_base.specs.declared.line.TheConstants.{LINE}
 use Rattle.sdr_base.specs.Parts.{overwrite}
-use Rattle.sdr_log.specs.Frame.{number, four}
+use Rattle.sdr_log.specs.Frame.{first_number, four}
 use Rattle.sdr_log.specs.Log.{log_of}
 use Rattle.sdr_log.specs.declared.frame.Frame.{Frame}
 use Rattle.sdr_log.specs.declared.record.Record.{Record}
@@ -29,7 +29,7 @@ unfoldable pub end_of : ℕ → List ℕ → Option ℕ
 end_of zero log = None
 end_of (suc bytes) [] = None
 end_of (suc bytes) (gate ∷ log) =
-    let count = number (take 4 log) in
+    let count = first_number (take 4 log) in
     cond (gate == 0) (Some 0)
     (cond (count == 0 || nat_le (length log) (4 + 68 * count)) None
     (option_map (λ place. batch_size count + place) (end_of bytes (drop (4 + 68 * count) log))))

@@ -7,9 +7,9 @@ use Rattle.sdr_base.specs.Parts.{overwrite, part}
 use Rattle.sdr_disk.specs.Told.{IfTold}
 use Rattle.sdr_log.specs.Batch.{batch_size, log_end}
 use Rattle.sdr_log.specs.Frame.{IsInLimits, disk_bytes, frame_of, heap_place}
-use Rattle.sdr_log.specs.Log.{are_good, first_gate, heap_of, is_named, put_back_of, put_records}
+use Rattle.sdr_log.specs.Log.{are_good, first_gate, heap_of, names_line, put_back_of, put_records}
 use Rattle.sdr_log.specs.Log.{read_log}
-use Rattle.sdr_log.specs.Logged.{Gives, GivesSame, HasRegions, IsAtRest, IsLogged, IsOpen, Logs}
+use Rattle.sdr_log.specs.Logged.{GivesHeap, GivesSame, HasRegions, IsAtRest, IsLogged, IsOpen, Logs}
 use Rattle.sdr_log.specs.declared.frame.Frame.{Frame}
 use Rattle.sdr_log.specs.declared.record.Record.{Record}
 
@@ -26,7 +26,7 @@ AreBelow lines (r ∷ records) = (r.line < lines) × AreBelow lines records
 -- these records name the lines of all of the others
 abbrev pub AreNamed : List Record → List Record → Type 0
 AreNamed records [] = ⊤
-AreNamed records (r ∷ others) = (is_named records r.line ≡ true) × AreNamed records others
+AreNamed records (r ∷ others) = (names_line records r.line ≡ true) × AreNamed records others
 
 -- the disk with these records' bytes in place of their lines
 abbrev pub with_records : Frame → List Record → List ℕ → List ℕ
@@ -48,7 +48,8 @@ pub record MayOpen (f : Frame) (place : ℕ) (records : List Record) (x : List �
   pub own : HoldLines (heap_of f x) records
 
 -- the batch is open, behind the others, and opening the disk gives the same heap as before
-pub record Opens (f : Frame) (place : ℕ) (records : List Record) (x y : List ℕ) (left : List ℕ → Type 0) : Type 0 where
+pub record OpensBatch (f : Frame) (place : ℕ) (records : List Record) (x y : List ℕ) (left : List ℕ → Type 0) : Type 0
+    where
   pub is_open : IsOpen f y left
   pub log : read_log f y ≡ option_map (λ earlier. earlier ++ records) (read_log f x)
   pub ends : log_end f y ≡ Some (place + batch_size (length records))
@@ -72,7 +73,7 @@ pub record Puts (f : Frame) (lines : List Record) (x y : List ℕ) (left : List 
 pub record Closes (f : Frame) (x y : List ℕ) (left : List ℕ → Type 0) : Type 0 where
   pub rest : IsAtRest f y left
   pub heap : heap_of f y ≡ heap_of f x
-  pub gives : Gives (heap_of f x) y
+  pub gives : GivesHeap (heap_of f x) y
 
 -- a disk of so many bytes has the head of these regions, and room for them
 pub record IsFramed (size : ℕ) (told : Option (List ℕ)) (f : Frame) : Type 0 where
@@ -95,7 +96,7 @@ pub record PutsBack (f : Frame) (count : ℕ) (x y : List ℕ) : Type 0 where
   pub logs : Logs f x records
   pub lines : count ≡ length records
   pub written : y ≡ overwrite LINE (0 ∷ []) (with_records f records x)
-  pub gives : Gives (heap_of f y) x
+  pub gives : GivesHeap (heap_of f y) x
   pub regions : HasRegions f y
   pub gate : first_gate y ≡ 0
 

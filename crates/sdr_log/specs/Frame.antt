@@ -37,8 +37,8 @@ pub record LieInside (f : Frame) (size : ℕ) : Type 0 where
   pub inside : disk_bytes f ≤ size
 
 -- the number in the first four bytes
-unfoldable pub number : List ℕ → ℕ
-number bytes = big_number 4 bytes
+unfoldable pub first_number : List ℕ → ℕ
+first_number bytes = big_number 4 bytes
 
 -- a number in four bytes
 unfoldable pub four : ℕ → List ℕ
@@ -50,7 +50,7 @@ head_of f = codes "SDRHEAP1" ++ four 1 ++ four f.log_lines ++ four f.heap_lines 
 
 -- the frame whose lengths stand in a head
 abbrev pub frame_in : List ℕ → Frame
-frame_in head = record { log_lines = number (drop 12 head); heap_lines = number (drop 16 head) }
+frame_in head = record { log_lines = first_number (drop 12 head); heap_lines = first_number (drop 16 head) }
 
 -- the frame that a head tells of; none where it is no head, or a length is out of its limits
 unfoldable pub frame_of : List ℕ → Option Frame

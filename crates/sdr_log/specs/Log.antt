@@ -4,7 +4,7 @@ use Rattle.std.specs.Prelude.{◌∷◌, ◌++◌, length, take, drop, nat_lt, n
 use Rattle.std.specs.Prelude.{option_and_then, option_map, slice_index}
 use Rattle.sdr_base.specs.declared.line.TheConstants.{LINE}
 use Rattle.sdr_base.specs.Parts.{overwrite, part}
-use Rattle.sdr_log.specs.Frame.{number, frame_of, heap_place, disk_bytes}
+use Rattle.sdr_log.specs.Frame.{first_number, frame_of, heap_place, disk_bytes}
 use Rattle.sdr_log.specs.declared.frame.Frame.{Frame}
 use Rattle.sdr_log.specs.declared.record.Record.{Record}
 
@@ -20,7 +20,7 @@ heap_of f image = part (heap_place f) (LINE * f.heap_lines) image
 unfoldable pub records_of : ℕ → List ℕ → List Record
 records_of zero bytes = []
 records_of (suc count) bytes =
-    record { line = number (take 4 bytes); bytes = part 4 64 bytes } ∷ records_of count (drop 68 bytes)
+    record { line = first_number (take 4 bytes); bytes = part 4 64 bytes } ∷ records_of count (drop 68 bytes)
 
 -- the records of the open batches from here on; none where a batch is empty, or the next gate isn't inside the region.
 -- Batches are no more than the region has bytes.
@@ -28,7 +28,7 @@ unfoldable pub batches_of : ℕ → List ℕ → Option (List Record)
 batches_of zero log = None
 batches_of (suc bytes) [] = None
 batches_of (suc bytes) (gate ∷ log) =
-    let count = number (take 4 log) in
+    let count = first_number (take 4 log) in
     cond (gate == 0) (Some [])
     (cond (count == 0 || nat_le (length log) (4 + 68 * count)) None
     (option_map (λ rest. records_of count (drop 4 log) ++ rest) (batches_of bytes (drop (4 + 68 * count) log))))
@@ -38,14 +38,14 @@ unfoldable pub read_log : Frame → List ℕ → Option (List Record)
 read_log f image = batches_of (LINE * f.log_lines) (log_of f image)
 
 -- whether a record names the line
-abbrev pub is_named : List Record → ℕ → Bool
-is_named [] line = false
-is_named (r ∷ records) line = r.line == line || is_named records line
+abbrev pub names_line : List Record → ℕ → Bool
+names_line [] line = false
+names_line (r ∷ records) line = r.line == line || names_line records line
 
 -- whether each line is one of the heap's, and named once
 abbrev pub are_good : ℕ → List Record → Bool
 are_good lines [] = true
-are_good lines (r ∷ records) = nat_lt r.line lines && not (is_named records r.line) && are_good lines records
+are_good lines (r ∷ records) = nat_lt r.line lines && not (names_line records r.line) && are_good lines records
 
 -- each record has the bytes of a whole line
 abbrev pub AreLines : List Record → Type 0

@@ -47,5 +47,5 @@ abbrev pub GivesSame : List ℕ → List ℕ → Type 0
 GivesSame x image = put_back_of image ≡ put_back_of x
 
 -- opening the image gives this heap
-abbrev pub Gives : List ℕ → List ℕ → Type 0
-Gives heap image = put_back_of image ≡ Some heap
+abbrev pub GivesHeap : List ℕ → List ℕ → Type 0
+GivesHeap heap image = put_back_of image ≡ Some heap

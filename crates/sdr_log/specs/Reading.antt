@@ -2,8 +2,8 @@
 use Rattle.std.specs.Prelude.{◌≡◌, ◌≢◌, ◌<◌, ℕ, ◌+◌, ◌*◌, Bool, true, false, List, ◌∷◌, ◌++◌}
 use Rattle.std.specs.Prelude.{length, take, drop, get_or}
 use Rattle.std.specs.Prelude.{Some}
-use Rattle.sdr_log.specs.Frame.{number}
-use Rattle.sdr_log.specs.Log.{are_good, batches_of, is_named, records_of}
+use Rattle.sdr_log.specs.Frame.{first_number}
+use Rattle.sdr_log.specs.Log.{are_good, batches_of, names_line, records_of}
 use Rattle.sdr_log.specs.declared.record.Record.{Record}
 
 -- records of the open batches read so far, of a heap of so many lines
@@ -14,7 +14,7 @@ pub record Noted : Type 0 where
 -- the records are good, and the marks tell which lines they name
 pub record IsMarked (records : List Record) (marks : List Bool) : Type 0 where
   pub good : are_good (length marks) records ≡ true
-  pub told : (line : ℕ) → line < length marks → get_or marks line false ≡ is_named records line
+  pub told : (line : ℕ) → line < length marks → get_or marks line false ≡ names_line records line
 
 -- with more records read
 abbrev pub noted : Noted → List Record → Noted
@@ -26,10 +26,10 @@ IsBad n records = are_good n.lines (n.records ++ records) ≢ true
 
 -- a batch that stands behind an open gate was read, up to the next gate
 pub record ReadsBatch (bytes rest : List ℕ) (old new : Noted) : Type 0 where
-  pub some : 0 < number (take 4 bytes)
-  pub inside : 4 + 68 * number (take 4 bytes) < length bytes
-  pub behind : rest ≡ drop (4 + 68 * number (take 4 bytes)) bytes
-  pub records : new ≡ noted old (records_of (number (take 4 bytes)) (drop 4 bytes))
+  pub some : 0 < first_number (take 4 bytes)
+  pub inside : 4 + 68 * first_number (take 4 bytes) < length bytes
+  pub behind : rest ≡ drop (4 + 68 * first_number (take 4 bytes)) bytes
+  pub records : new ≡ noted old (records_of (first_number (take 4 bytes)) (drop 4 bytes))
 
 -- the batches from an open gate on, behind which these bytes stand, are wrong
 abbrev pub IsWrong : Noted → List ℕ → Type 0

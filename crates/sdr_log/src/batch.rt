@@ -6,7 +6,7 @@ ghost use Rattle.sdr_disk.specs.Moments.{AtEach, IsTorn, Only};
 ghost use Rattle.sdr_base.specs.Parts.{overwrite};
 ghost use Rattle.sdr_disk.specs.Told.{Both, IfTold};
 ghost use Rattle.sdr_log.specs.Batch.{batch_of, batch_size, with_batch};
-ghost use Rattle.sdr_log.specs.Calls.{HasPlace, KeepsDisk, MayOpen, Opens};
+ghost use Rattle.sdr_log.specs.Calls.{HasPlace, KeepsDisk, MayOpen, OpensBatch};
 ghost use Rattle.sdr_log.specs.Frame.{LieInside};
 ghost use Rattle.sdr_log.specs.Logged.{GivesSame};
 
@@ -29,10 +29,10 @@ fn save_batch<D: Disk>(disk: &mut D, place: u64, batch: &[u8]) -> Result<(), Dis
     ensures size { D.size disk.new ≡ D.size disk.old }
 
     ensures durable { OnOk result (IfTold (D.bytes disk.new)
-        (λ x. Only x (D.may_leave disk.new (D.moment disk.new)))) }
+        (λ x. Only x (D.may_hold_after disk.new (D.moment disk.new)))) }
     ensures calls { D.moment disk.new ≤ D.moment disk.old + 4 }
-    ensures any_moment { AtEach D.moment D.may_leave disk.old disk.new
-        (IsTorn (D.may_leave disk.old (D.moment disk.old)) (LINE + place + 1)
+    ensures any_moment { AtEach D.moment D.may_hold_after disk.old disk.new
+        (IsTorn (D.may_hold_after disk.old (D.moment disk.old)) (LINE + place + 1)
         (length batch.now)) }
 {
     save_at(disk, LINE + place + 1, batch)
@@ -51,10 +51,10 @@ fn open_gate<D: Disk>(disk: &mut D, place: u64) -> Result<(), DiskFault>
     ensures size { D.size disk.new ≡ D.size disk.old }
 
     ensures durable { OnOk result (IfTold (D.bytes disk.new)
-        (λ x. Only x (D.may_leave disk.new (D.moment disk.new)))) }
+        (λ x. Only x (D.may_hold_after disk.new (D.moment disk.new)))) }
     ensures calls { D.moment disk.new ≤ D.moment disk.old + 4 }
-    ensures any_moment { AtEach D.moment D.may_leave disk.old disk.new
-        (IsTorn (D.may_leave disk.old (D.moment disk.old)) (LINE + place) 1) }
+    ensures any_moment { AtEach D.moment D.may_hold_after disk.old disk.new
+        (IsTorn (D.may_hold_after disk.old (D.moment disk.old)) (LINE + place) 1) }
 {
     save_at(disk, LINE + place, &[1])
 }
@@ -80,12 +80,12 @@ pub fn write_batch<D: Disk>(
     ensures disk { KeepsDisk D.size D.bytes disk.old disk.new }
 
     ensures opens { OnOk result (Both (D.bytes disk.old) (D.bytes disk.new)
-        (λ x y. MayOpen frame place records.now x (D.may_leave disk.old (D.moment disk.old))
-        → Opens frame place records.now x y (D.may_leave disk.new (D.moment disk.new)))) }
+        (λ x y. MayOpen frame place records.now x (D.may_hold_after disk.old (D.moment disk.old))
+        → OpensBatch frame place records.now x y (D.may_hold_after disk.new (D.moment disk.new)))) }
     ensures calls { D.moment disk.new ≤ D.moment disk.old + 8 }
     ensures any_moment { IfTold (D.bytes disk.old)
-        (λ x. MayOpen frame place records.now x (D.may_leave disk.old (D.moment disk.old))
-        → AtEach D.moment D.may_leave disk.old disk.new (GivesSame x)) }
+        (λ x. MayOpen frame place records.now x (D.may_hold_after disk.old (D.moment disk.old))
+        → AtEach D.moment D.may_hold_after disk.old disk.new (GivesSame x)) }
 {
     let batch = gather(records, buffer);
     save_batch(disk, place, batch)?;

@@ -8,7 +8,7 @@ ghost use Rattle.sdr_disk.specs.Told.{Both, IfTold};
 ghost use Rattle.sdr_log.specs.Calls.{Closes, KeepsDisk};
 ghost use Rattle.sdr_log.specs.Frame.{LieInside};
 ghost use Rattle.sdr_log.specs.Log.{heap_of};
-ghost use Rattle.sdr_log.specs.Logged.{Gives, GivesSame, IsOpen};
+ghost use Rattle.sdr_log.specs.Logged.{GivesHeap, GivesSame, IsOpen};
 
 use crate::Frame;
 use crate::saving::save_at;
@@ -23,8 +23,8 @@ fn save_lines<D: Disk>(disk: &mut D) -> Result<(), DiskFault>
     ensures size { D.size disk.new ≡ D.size disk.old }
 
     ensures durable { OnOk result (IfTold (D.bytes disk.new)
-        (λ x. Only x (D.may_leave disk.new (D.moment disk.new)))) }
-    ensures moments { Syncs D.moment D.may_leave disk.old disk.new }
+        (λ x. Only x (D.may_hold_after disk.new (D.moment disk.new)))) }
+    ensures moments { Syncs D.moment D.may_hold_after disk.old disk.new }
 {
     disk.sync()
 }
@@ -41,10 +41,10 @@ fn close_gate<D: Disk>(disk: &mut D) -> Result<(), DiskFault>
     ensures size { D.size disk.new ≡ D.size disk.old }
 
     ensures durable { OnOk result (IfTold (D.bytes disk.new)
-        (λ x. Only x (D.may_leave disk.new (D.moment disk.new)))) }
+        (λ x. Only x (D.may_hold_after disk.new (D.moment disk.new)))) }
     ensures calls { D.moment disk.new ≤ D.moment disk.old + 4 }
-    ensures any_moment { AtEach D.moment D.may_leave disk.old disk.new
-        (IsTorn (D.may_leave disk.old (D.moment disk.old)) LINE 1) }
+    ensures any_moment { AtEach D.moment D.may_hold_after disk.old disk.new
+        (IsTorn (D.may_hold_after disk.old (D.moment disk.old)) LINE 1) }
 {
     save_at(disk, LINE, &[0])
 }
@@ -61,15 +61,15 @@ pub fn close<D: Disk>(disk: &mut D, frame: Frame) -> Result<(), DiskFault>
     ensures disk { KeepsDisk D.size D.bytes disk.old disk.new }
 
     ensures closes { OnOk result (Both (D.bytes disk.old) (D.bytes disk.new)
-        (λ x y. IsOpen frame x (D.may_leave disk.old (D.moment disk.old))
-        → Closes frame x y (D.may_leave disk.new (D.moment disk.new)))) }
-    ensures synced { OnOk result (IsSynced D.bytes D.moment D.may_leave disk.new) }
+        (λ x y. IsOpen frame x (D.may_hold_after disk.old (D.moment disk.old))
+        → Closes frame x y (D.may_hold_after disk.new (D.moment disk.new)))) }
+    ensures synced { OnOk result (IsSynced D.bytes D.moment D.may_hold_after disk.new) }
     ensures calls { D.moment disk.new ≤ D.moment disk.old + 6 }
     // A crash leaves the heap from before the call, or the heap region as it stands.
     ensures any_moment { IfTold (D.bytes disk.old)
-        (λ x. IsOpen frame x (D.may_leave disk.old (D.moment disk.old))
-        → AtEach D.moment D.may_leave disk.old disk.new
-        (λ image. GivesSame x image ⊎ Gives (heap_of frame x) image)) }
+        (λ x. IsOpen frame x (D.may_hold_after disk.old (D.moment disk.old))
+        → AtEach D.moment D.may_hold_after disk.old disk.new
+        (λ image. GivesSame x image ⊎ GivesHeap (heap_of frame x) image)) }
 {
     save_lines(disk)?;
     close_gate(disk)?;

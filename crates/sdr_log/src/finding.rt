@@ -20,7 +20,7 @@ pub fn read_frame<D: Disk>(disk: &mut D) -> Result<Option<Frame>, DiskFault>
     ensures cause { HasCause (D.faults disk.old) (D.faults disk.new) result }
 
     ensures size { D.size disk.new ≡ D.size disk.old }
-    ensures reads { Reads D.bytes D.moment D.may_leave disk.old disk.new }
+    ensures reads { Reads D.bytes D.moment D.may_hold_after disk.old disk.new }
 {
     let have = disk.len();
     if have < LINE {

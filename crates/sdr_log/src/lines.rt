@@ -26,7 +26,7 @@ fn put_line<D: Disk>(disk: &mut D, frame: Frame, line: &Record) -> Result<(), Di
     ensures tells { is_some (D.bytes disk.new) ≡ is_some (D.bytes disk.old) }
     ensures size { D.size disk.new ≡ D.size disk.old }
 
-    ensures moments { Writes D.moment D.may_leave (heap_place frame + LINE * line.now.line) LINE
+    ensures moments { Writes D.moment D.may_hold_after (heap_place frame + LINE * line.now.line) LINE
         disk.old disk.new }
 {
     disk.write_at(frame.heap_place() + LINE * line.line as u64, &line.bytes)
@@ -44,12 +44,12 @@ pub fn put_lines<D: Disk>(disk: &mut D, frame: Frame, lines: &[Record]) -> Resul
     ensures disk { KeepsDisk D.size D.bytes disk.old disk.new }
 
     ensures puts { OnOk result (Both (D.bytes disk.old) (D.bytes disk.new)
-        (λ x y. MayPut frame lines.now x (D.may_leave disk.old (D.moment disk.old))
-        → Puts frame lines.now x y (D.may_leave disk.new (D.moment disk.new)))) }
+        (λ x y. MayPut frame lines.now x (D.may_hold_after disk.old (D.moment disk.old))
+        → Puts frame lines.now x y (D.may_hold_after disk.new (D.moment disk.new)))) }
     ensures calls { D.moment disk.new ≤ D.moment disk.old + 2 * length lines.now }
     ensures any_moment { IfTold (D.bytes disk.old)
-        (λ x. MayPut frame lines.now x (D.may_leave disk.old (D.moment disk.old))
-        → AtEach D.moment D.may_leave disk.old disk.new (GivesSame x)) }
+        (λ x. MayPut frame lines.now x (D.may_hold_after disk.old (D.moment disk.old))
+        → AtEach D.moment D.may_hold_after disk.old disk.new (GivesSame x)) }
 {
     let mut rest = lines;
     while let Some((line, after)) = rest.split_first() {

@@ -1,7 +1,7 @@
 // The records of open batches, as they are read and checked.
 ghost use Rattle.std.specs.Prelude.{◌≡◌, ◌<◌, ◌↔◌, false, true, ◌∷◌, [], IfOk, IfErr, OnOk, IsTrue};
 ghost use Rattle.sdr_log.specs.BackErrors.{OnBadLog, OnFault};
-ghost use Rattle.sdr_log.specs.Log.{are_good, is_named};
+ghost use Rattle.sdr_log.specs.Log.{are_good, names_line};
 ghost use Rattle.sdr_log.specs.Reading.{IsBad, Noted, noted};
 
 use crate::{BackError, Record};
@@ -42,7 +42,7 @@ impl Noted {
     // Whether a line is one of the heap's, and no record names it yet.
     fn is_free(&self, line: u32) -> bool
         ensures { IsTrue result
-            ↔ ((line < self.now.lines) × (is_named self.now.records line ≡ false)) }
+            ↔ ((line < self.now.lines) × (names_line self.now.records line ≡ false)) }
     {
         (line as usize) < self.marks.len() && !self.marks[line as usize]
     }

@@ -3,7 +3,7 @@ ghost use Rattle.std.specs.Prelude.{◌≡◌, ◌≢◌, ◌≤◌, ◌<◌, �
 ghost use Rattle.std.specs.Prelude.{IfOk, IfErr, OnOk, Some};
 ghost use Rattle.sdr_base.specs.Parts.{part};
 ghost use Rattle.sdr_log.specs.BackErrors.{OnBadLog, OnFault};
-ghost use Rattle.sdr_log.specs.Frame.{number};
+ghost use Rattle.sdr_log.specs.Frame.{first_number};
 ghost use Rattle.sdr_log.specs.Log.{are_good, batches_of, records_of};
 ghost use Rattle.sdr_log.specs.Reading.{IsBad, IsWrong, ReadsBatch, noted};
 ghost use Rattle.sdr_log.specs.declared.record.Record.{Record};
@@ -18,7 +18,7 @@ use std::alloc::Global;
 #[tactic(auto, unfolding(crate::specs::Frame::number))]
 fn first_record(bytes: &[u8]) -> Record
     requires { 68 ≤ length bytes.now }
-    ensures { result ≡ record { line = number (take 4 bytes.now); bytes = part 4 64 bytes.now } }
+    ensures { result ≡ record { line = first_number (take 4 bytes.now); bytes = part 4 64 bytes.now } }
 {
     let mut old = [0; 64];
     old.copy_from_slice(&bytes[4..68]);

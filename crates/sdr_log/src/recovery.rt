@@ -26,7 +26,7 @@ fn read_log<D: Disk>(alloc: Global, disk: &mut D, frame: Frame) -> Result<Bytes,
     ensures cause { HasBackCause (D.faults disk.old) (D.faults disk.new) result }
 
     ensures size { D.size disk.new ≡ D.size disk.old }
-    ensures reads { Reads D.bytes D.moment D.may_leave disk.old disk.new }
+    ensures reads { Reads D.bytes D.moment D.may_hold_after disk.old disk.new }
 {
     let mut bytes = vec![in alloc; 0; (LINE * frame.log_lines) as usize]?;
     disk.read_at(LINE, &mut bytes)?;
@@ -48,7 +48,7 @@ fn read_records<D: Disk>(
     ensures cause { HasBackCause (D.faults disk.old) (D.faults disk.new) result }
 
     ensures size { D.size disk.new ≡ D.size disk.old }
-    ensures reads { Reads D.bytes D.moment D.may_leave disk.old disk.new }
+    ensures reads { Reads D.bytes D.moment D.may_hold_after disk.old disk.new }
 {
     let log = read_log(alloc, disk, frame)?;
     let records = read_batches(alloc, frame.heap_lines as usize, log.as_slice())?;
@@ -69,11 +69,11 @@ fn restore<D: Disk>(disk: &mut D, frame: Frame, records: &[Record]) -> Result<()
 
     ensures rest { OnOk result (Both (D.bytes disk.old) (D.bytes disk.new)
         (λ x y. Logs frame x records.now
-        → IsOpen frame x (D.may_leave disk.old (D.moment disk.old))
-        → IsAtRest frame y (D.may_leave disk.new (D.moment disk.new)))) }
+        → IsOpen frame x (D.may_hold_after disk.old (D.moment disk.old))
+        → IsAtRest frame y (D.may_hold_after disk.new (D.moment disk.new)))) }
     ensures any_moment { IfTold (D.bytes disk.old) (λ x. Logs frame x records.now
-        → IsOpen frame x (D.may_leave disk.old (D.moment disk.old))
-        → AtEach D.moment D.may_leave disk.old disk.new (GivesSame x)) }
+        → IsOpen frame x (D.may_hold_after disk.old (D.moment disk.old))
+        → AtEach D.moment D.may_hold_after disk.old disk.new (GivesSame x)) }
 {
     put_lines(disk, frame, records)?;
     close(disk, frame)?;
@@ -96,18 +96,18 @@ pub fn put_back_found<D: Disk>(alloc: Global, disk: &mut D, frame: Frame) -> Res
     ensures disk { KeepsDisk D.size D.bytes disk.old disk.new }
     // Where it refuses, it has read alone, and so it has where no batch is open.
     ensures same { IfErr result (λ why. UnlessFault why
-        (Reads D.bytes D.moment D.may_leave disk.old disk.new)) }
+        (Reads D.bytes D.moment D.may_hold_after disk.old disk.new)) }
     ensures quiet { IfTold (D.bytes disk.old) (λ x. first_gate x ≡ 0
-        → Reads D.bytes D.moment D.may_leave disk.old disk.new) }
+        → Reads D.bytes D.moment D.may_hold_after disk.old disk.new) }
     ensures calls { IfOk result (λ count.
         D.moment disk.new ≤ D.moment disk.old + 2 * (count + 3)) }
 
     ensures rest { OnOk result (Both (D.bytes disk.old) (D.bytes disk.new)
-        (λ x y. MayPutBack frame x (D.may_leave disk.old (D.moment disk.old))
-        → IsAtRest frame y (D.may_leave disk.new (D.moment disk.new)))) }
+        (λ x y. MayPutBack frame x (D.may_hold_after disk.old (D.moment disk.old))
+        → IsAtRest frame y (D.may_hold_after disk.new (D.moment disk.new)))) }
     ensures any_moment { IfTold (D.bytes disk.old)
-        (λ x. MayPutBack frame x (D.may_leave disk.old (D.moment disk.old))
-        → AtEach D.moment D.may_leave disk.old disk.new (GivesSame x)) }
+        (λ x. MayPutBack frame x (D.may_hold_after disk.old (D.moment disk.old))
+        → AtEach D.moment D.may_hold_after disk.old disk.new (GivesSame x)) }
 {
     let records = read_records(alloc, disk, frame)?;
     if records.len() == 0 {
@@ -128,18 +128,18 @@ pub fn put_back<D: Disk>(alloc: Global, disk: &mut D, frame: Frame) -> Result<u6
     ensures disk { KeepsDisk D.size D.bytes disk.old disk.new }
     // Where it refuses, it has read alone, and so it has where no batch is open.
     ensures same { IfErr result (λ why. UnlessFault why
-        (Reads D.bytes D.moment D.may_leave disk.old disk.new)) }
+        (Reads D.bytes D.moment D.may_hold_after disk.old disk.new)) }
     ensures quiet { IfTold (D.bytes disk.old) (λ x. first_gate x ≡ 0
-        → Reads D.bytes D.moment D.may_leave disk.old disk.new) }
+        → Reads D.bytes D.moment D.may_hold_after disk.old disk.new) }
     ensures calls { IfOk result (λ count.
         D.moment disk.new ≤ D.moment disk.old + 2 * (count + 3)) }
 
     ensures rest { OnOk result (Both (D.bytes disk.old) (D.bytes disk.new)
-        (λ x y. MayPutBack frame x (D.may_leave disk.old (D.moment disk.old))
-        → IsAtRest frame y (D.may_leave disk.new (D.moment disk.new)))) }
+        (λ x y. MayPutBack frame x (D.may_hold_after disk.old (D.moment disk.old))
+        → IsAtRest frame y (D.may_hold_after disk.new (D.moment disk.new)))) }
     ensures any_moment { IfTold (D.bytes disk.old)
-        (λ x. MayPutBack frame x (D.may_leave disk.old (D.moment disk.old))
-        → AtEach D.moment D.may_leave disk.old disk.new (GivesSame x)) }
+        (λ x. MayPutBack frame x (D.may_hold_after disk.old (D.moment disk.old))
+        → AtEach D.moment D.may_hold_after disk.old disk.new (GivesSame x)) }
 {
     let found = read_frame(disk)?;
     if found != Some(frame) {

@@ -20,10 +20,10 @@ pub fn save_at<D: Disk>(disk: &mut D, place: u64, from: &[u8]) -> Result<(), Dis
     ensures size { D.size disk.new ≡ D.size disk.old }
 
     ensures durable { OnOk result (IfTold (D.bytes disk.new)
-        (λ x. Only x (D.may_leave disk.new (D.moment disk.new)))) }
+        (λ x. Only x (D.may_hold_after disk.new (D.moment disk.new)))) }
     ensures calls { D.moment disk.new ≤ D.moment disk.old + 4 }
-    ensures any_moment { AtEach D.moment D.may_leave disk.old disk.new
-        (IsTorn (D.may_leave disk.old (D.moment disk.old)) place (length from.now)) }
+    ensures any_moment { AtEach D.moment D.may_hold_after disk.old disk.new
+        (IsTorn (D.may_hold_after disk.old (D.moment disk.old)) place (length from.now)) }
 {
     disk.write_at(place, from)?;
     disk.sync()

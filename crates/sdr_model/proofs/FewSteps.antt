@@ -13,7 +13,7 @@ use Rattle.sdr_model.specs.Accounts.{Pending, account_of, most_amount, pending_i
 use Rattle.sdr_model.specs.Amounts.{amounts_by, first_above, in_space, minus}
 use Rattle.sdr_model.specs.BondSteps.{bond_charge, bond_moves, bonded, capsules_of, with_bonded}
 use Rattle.sdr_model.specs.Charges.{bytes_charge, capsule_bytes, object_bytes, object_charge, rooms}
-use Rattle.sdr_model.specs.Charging.{Charges, grant_left, no_space, with_used}
+use Rattle.sdr_model.specs.Charging.{Charges, grant_left, no_space, with_covered}
 use Rattle.sdr_model.specs.Cuts.{placed}
 use Rattle.sdr_model.specs.Few.{HasFewPieces, pieces}
 use Rattle.sdr_model.specs.Gone.{gone_things, without_things}
@@ -33,7 +33,7 @@ use Rattle.sdr_model.specs.Steps.{DoesWith, Outcome, Refuses, Takes, On, taken_a
 use Rattle.sdr_model.specs.TableSteps.{as_table}
 use Rattle.sdr_model.specs.Things.{capsule_need, extent_need, object_need}
 use Rattle.sdr_model.specs.World.{World, as_raw, as_text, block_at, is_marked, misnamed, spot_of, thing_at}
-use Rattle.sdr_model.specs.Zco.{empty_object, extents_length, object_at, owned_raw, source_at, source_on, space_of, uses_of}
+use Rattle.sdr_model.specs.Zco.{empty_object, extents_length, object_at, owned_raw, source_at, source_naming, space_of, uses_of}
 use Rattle.sdr_model.specs.declared.answer.Reply.{Reply}
 use Rattle.sdr_model.specs.declared.answer.Reply.TheVariants as replies
 use Rattle.sdr_model.specs.declared.call.Call.{Call}
@@ -77,20 +77,20 @@ module _ (most : ℕ) (w : World) (o : Outcome) (few : HasFewPieces most w.thing
       → HasFewPieces (most + 1) (next addr).things) → IsFew
   takes need next reply s f = in_takes_one o.moves need _ s (λ addr p. leaves p.0 (f addr))
 
-  used_few : (p : Option Pending) (amounts : Amounts) → HasFewPieces most (with_used w p amounts).things
+  used_few : (p : Option Pending) (amounts : Amounts) → HasFewPieces most (with_covered w p amounts).things
   used_few None amounts = few
   used_few (Some p) amounts = few
 
   covered : (acct : Acct) (charge : Space → ℕ) (goes : World → Type 0) (p : Option Pending)
       → MatchOption (barrier (minus (amounts_by charge) (grant_left p)) (tickets_of w.accounts acct))
-      (MatchOption (first_above (minus (amounts_by charge) (grant_left p)) (rooms w acct)) (goes (with_used w p (amounts_by charge)))
+      (MatchOption (first_above (minus (amounts_by charge) (grant_left p)) (rooms w acct)) (goes (with_covered w p (amounts_by charge)))
       (λ space. Refuses w o (no_space w acct (minus (amounts_by charge) (grant_left p)) space)))
       (λ t. Refuses w o (refusals.Queue t.number))
       → ((used : World) → HasFewPieces most used.things → goes used → IsFew) → IsFew
   covered acct charge goes p s f =
       in_option (barrier (minus (amounts_by charge) (grant_left p)) (tickets_of w.accounts acct)) s
       (λ s. in_option (first_above (minus (amounts_by charge) (grant_left p)) (rooms w acct)) s
-      (f (with_used w p (amounts_by charge)) (used_few p (amounts_by charge))) (λ space s. leaves s.1 same))
+      (f (with_covered w p (amounts_by charge)) (used_few p (amounts_by charge))) (λ space s. leaves s.1 same))
       (λ t s. leaves s.1 same)
 
   charges : (acct : Acct) (number : ℕ) (charge : Space → ℕ) (goes : World → Type 0)
@@ -107,7 +107,7 @@ module _ (most : ℕ) (w : World) (o : Outcome) (few : HasFewPieces most w.thing
       few_insert (most + 1) used.things addr (things.Object z) (few_more most (most + 1) used.things (omega arith) few) small
 
   unnamed : {goes : Type 0} (raw : ℕ) → OnUnnamed w o raw goes → (goes → IsFew) → IsFew
-  unnamed raw s f = in_option (source_on w raw) s f (λ source s. leaves s.1 same)
+  unnamed raw s f = in_option (source_naming w raw) s f (λ source s. leaves s.1 same)
 
   frees : (addr : ℕ) (raw text : Option (List ℕ)) → FreesThing w o addr raw text → IsFew
   frees addr None None s = leaves s.1 same

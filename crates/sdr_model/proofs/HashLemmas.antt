@@ -10,7 +10,7 @@ use Rattle.std.specs.Cmp.Lexicographic.{same_text}
 use Rattle.std.specs.List.{position, position_or_len, prefix_len}
 use Rattle.std.specs.List.Sorted.{IsNonDecreasingBy, IsPartitionPoint}
 use Rattle.sdr_model.proofs.Cases.{by_test}
-use Rattle.sdr_model.specs.HashChanges.{first_of}
+use Rattle.sdr_model.specs.HashChanges.{bucket_start}
 use Rattle.sdr_model.specs.HashSteps.{bucket_of, has_key}
 use Rattle.sdr_model.specs.Hashes.{Hash, AreByBucket}
 use Rattle.sdr_model.specs.declared.things.HashEntry.{HashEntry}
@@ -123,7 +123,7 @@ other_bucket buckets key e differs =
 
 -- nor has one in front of those of the key's bucket
 pub lower_bucket : (h : Hash) (key : List ℕ) (bucket k : ℕ) (d : HashEntry) → bucket ≡ bucket_of h.buckets key
-    → k < first_of h bucket → has_key key (get_or h.entries k d) ≡ false
+    → k < bucket_start h bucket → has_key key (get_or h.entries k d) ≡ false
 lower_bucket h key bucket k d is before =
     let test = λ (e : HashEntry). ltb (bucket_of h.buckets e.key) bucket in
     let lower = ltb-true _ _ (prefix_len_passes test h.entries k d before) in
@@ -131,7 +131,7 @@ lower_bucket h key bucket k d is before =
 
 -- nor one behind them
 pub higher_bucket : (h : Hash) (key : List ℕ) (bucket k : ℕ) (d : HashEntry) → AreByBucket h.buckets h.entries
-    → bucket ≡ bucket_of h.buckets key → first_of h (bucket + 1) ≤ k → k < length h.entries
+    → bucket ≡ bucket_of h.buckets key → bucket_start h (bucket + 1) ≤ k → k < length h.entries
     → has_key key (get_or h.entries k d) ≡ false
 higher_bucket h key bucket k d by_bucket is behind inside =
     let test = λ (e : HashEntry). ltb (bucket_of h.buckets e.key) (bucket + 1) in

@@ -9,7 +9,7 @@ use Rattle.sdr_model.specs.Reading.{reads_media}
 use Rattle.sdr_model.specs.RowMoves.{row_moves}
 use Rattle.sdr_model.specs.Rows.{ByRow}
 use Rattle.sdr_model.specs.Steps.{On, Outcome, Refuses}
-use Rattle.sdr_model.specs.Wire.{Gives, GivesOf, Spells, ToldBytes, capsules_told, extent_told, extents_told, known, raw_told, some_of, source_told, subject_told, unknown, wire_told}
+use Rattle.sdr_model.specs.Wire.{GivesBytes, GivesOf, Spells, ToldBytes, capsules_told, bytes_of_extent, extents_told, known, raw_told, some_of, bytes_of_source, bytes_of_subject, unknown, wire_told}
 use Rattle.sdr_model.specs.World.{World, as_raw, thing_at}
 use Rattle.sdr_model.specs.Zco.{object_at, source_at}
 use Rattle.sdr_model.specs.declared.answer.Reply.TheVariants as replies
@@ -142,20 +142,21 @@ pub pieces_told-capsules : (capsules : List Capsule) → pieces_told (capsule_pi
 pieces_told-capsules capsules = flat_map-map piece_told (λ (c : Capsule). pieces.Known c.text) capsules
 
 -- what is told of an extent as a piece
-pub piece_told-extent : (w : World) (e : Extent) → piece_told (extent_piece w e) ≡ extent_told w e
+pub piece_told-extent : (w : World) (e : Extent) → piece_told (extent_piece w e) ≡ bytes_of_extent w e
 piece_told-extent w e = of_source (source_at w e.source)
   where
     of_raw : (raw : Option (List ℕ)) → piece_told (raw_piece e.offset e.length raw) ≡ raw_told e.offset e.length raw
     of_raw None = refl
     of_raw (Some text) = refl
 
-    of_subject : (s : Subject) → piece_told (subject_piece w e.offset e.length s) ≡ subject_told w e.offset e.length s
+    of_subject : (s : Subject) → piece_told (subject_piece w e.offset e.length s) ≡ bytes_of_subject w e.offset
+        e.length s
     of_subject (subjects.File path) = refl
     of_subject (subjects.Bulk item) = refl
     of_subject (subjects.Heap raw) = of_raw (as_raw (thing_at w raw))
     of_subject (subjects.Obj raw) = of_raw (as_raw (thing_at w raw))
 
-    of_source : (s : Option ZcoSource) → piece_told (source_piece w e.offset e.length s) ≡ source_told w e.offset e.length s
+    of_source : (s : Option ZcoSource) → piece_told (source_piece w e.offset e.length s) ≡ bytes_of_source w e.offset e.length s
     of_source None = refl
     of_source (Some s) = of_subject s.subject
 
@@ -165,7 +166,7 @@ pieces_told-extents w [] = refl
 pieces_told-extents w (e ∷ es) =
     flat_map-cons piece_told (extent_piece w e) (extent_pieces w es)
     ∙ ap₂ (λ (a b : ToldBytes). a ++ b) (piece_told-extent w e) (pieces_told-extents w es)
-    ∙ sym (flat_map-cons (extent_told w) e es)
+    ∙ sym (flat_map-cons (bytes_of_extent w) e es)
 
 -- what is told of an object on the wire as pieces
 pub pieces_told-wire : (w : World) (z : ZcoObject) → pieces_told (wire_pieces w z) ≡ wire_told w z
@@ -270,12 +271,12 @@ gives-page : (w : World) (addr count : ℕ) (named : Option ZcoObject) (z : ZcoO
     → On w (Shows w bytes) addr named (λ z.
     MatchBool (nat_lt longest_read count)
     (Refuses w (Shows w bytes) (refusals.BadLength count longest_read))
-    (Gives w (Shows w bytes) (of z)))
+    (GivesBytes w (Shows w bytes) (of z)))
 gives-page w addr count None z of bytes is most spells = cc
 gives-page w addr count (Some y) z of bytes is most spells =
-    subst (λ b. MatchBool b (Refuses w (Shows w bytes) (refusals.BadLength count longest_read)) (Gives w (Shows w bytes) (of y)))
+    subst (λ b. MatchBool b (Refuses w (Shows w bytes) (refusals.BadLength count longest_read)) (GivesBytes w (Shows w bytes) (of y)))
     (sym (le-ltb longest_read count most))
-    (subst (λ x. Gives w (Shows w bytes) (of x)) (let same : z ≡ y = cc in same)
+    (subst (λ x. GivesBytes w (Shows w bytes) (of x)) (let same : z ≡ y = cc in same)
     (refl, refl, spells, ap replies.Bytes (length-spelled (of z) bytes spells)))
 
 -- bytes that the pieces asked tell are what the row of the call gives

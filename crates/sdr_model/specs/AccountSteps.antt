@@ -9,7 +9,7 @@ use Rattle.sdr_model.specs.Accounts.{Pending, account_of, most_amount, pending_a
 use Rattle.sdr_model.specs.Amounts.{amount, amounts_by, first_above, is_same_space, no_amounts}
 use Rattle.sdr_model.specs.Charges.{occupancy}
 use Rattle.sdr_model.specs.Queue.{enqueued, with_served}
-use Rattle.sdr_model.specs.Steps.{Outcome, RefusedFor, RefusedIf, RefusedUnless, RefusedWithout, Reads, Does, Takes, gave}
+use Rattle.sdr_model.specs.Steps.{Outcome, RefusedFor, RefusedIf, RefusedUnless, RefusedWithout, ReadsBytes, Does, Takes, gave}
 use Rattle.sdr_model.specs.World.{World}
 use Rattle.sdr_model.specs.declared.accounts.Account.{Account}
 use Rattle.sdr_model.specs.declared.accounts.Ticket.{Ticket}
@@ -21,11 +21,11 @@ pending_of w number = pending_among w.accounts number
 
 -- what is occupied of a space is given
 abbrev pub Occupancy : World → Outcome → Acct → Space → Type 0
-Occupancy w o acct space = Reads w o [] (replies.Value (occupancy w acct space))
+Occupancy w o acct space = ReadsBytes w o [] (replies.Value (occupancy w acct space))
 
 -- the maximum of a space is given
 abbrev pub Maximum : World → Outcome → Acct → Space → Type 0
-Maximum w o acct space = Reads w o [] (replies.Value (amount (account_of w.accounts acct).maxima space))
+Maximum w o acct space = ReadsBytes w o [] (replies.Value (amount (account_of w.accounts acct).maxima space))
 
 -- these amounts, but this one of a space
 abbrev pub with_amount : Amounts → Space → ℕ → Amounts
@@ -86,7 +86,7 @@ abbrev pub Awarded : World → Outcome → ℕ → Type 0
 Awarded w o number =
     RefusedWithout w o (pending_of w number) (refusals.BadTicket number)
     (λ p. RefusedUnless w o p.ticket.granted (refusals.NotAwarded number)
-    (Reads w o [] replies.Done))
+    (ReadsBytes w o [] replies.Done))
 
 -- the world without a ticket, in which the queue is served
 abbrev pub without_ticket : World → Pending → World

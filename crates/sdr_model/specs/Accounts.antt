@@ -11,7 +11,7 @@ use Rattle.sdr_model.specs.declared.accounts.Account.{Account}
 use Rattle.sdr_model.specs.declared.accounts.Accounts.{Accounts}
 pub use Rattle.sdr_model.specs.declared.accounts.Pending.{Pending}
 use Rattle.sdr_model.specs.declared.accounts.Ticket.{Ticket}
-use Rattle.sdr_model.specs.declared.things.Block.{Block}
+use Rattle.sdr_model.specs.declared.things.UsedBlock.{UsedBlock}
 
 -- an account's maximum of a space, the number of a ticket and what a ticket asks of a space are at most this
 abbrev pub most_amount : ℕ
@@ -98,9 +98,9 @@ with_ticket accounts p ticket =
     with_tickets accounts p.acct (set (tickets_of accounts p.acct) p.place ticket)
 
 -- the block of a ticket
-abbrev pub ticket_block : Ticket → Block
-ticket_block t = record { addr = t.block; kind = kinds.Ticket; bytes = ticket_need }
+abbrev pub block_for_ticket : Ticket → UsedBlock
+block_for_ticket t = record { addr = t.block; kind = kinds.Ticket; bytes = ticket_need }
 
 -- the blocks of all tickets
-abbrev pub ticket_blocks : Accounts → List Block
-ticket_blocks accounts = map ticket_block accounts.inbound.tickets ++ map ticket_block accounts.outbound.tickets
+abbrev pub ticket_blocks : Accounts → List UsedBlock
+ticket_blocks accounts = map block_for_ticket accounts.inbound.tickets ++ map block_for_ticket accounts.outbound.tickets

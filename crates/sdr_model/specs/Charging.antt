@@ -26,9 +26,9 @@ grant_left None = no_amounts
 grant_left (Some p) = p.ticket.left
 
 -- the world in which the grant of a ticket covers of these amounts what it can
-abbrev pub with_used : World → Option Pending → Amounts → World
-with_used w None amounts = w
-with_used w (Some p) amounts = record w {
+abbrev pub with_covered : World → Option Pending → Amounts → World
+with_covered w None amounts = w
+with_covered w (Some p) amounts = record w {
   accounts = with_ticket w.accounts p (record p.ticket { left = minus p.ticket.left amounts });
 }
 
@@ -47,4 +47,4 @@ Charges w o acct number charge goes =
     let uncovered = minus (amounts_by charge) (grant_left p) in
     RefusedFor w o (barrier uncovered (tickets_of w.accounts acct)) (λ t. refusals.Queue t.number)
     (RefusedFor w o (first_above uncovered (rooms w acct)) (no_space w acct uncovered)
-    (goes (with_used w p (amounts_by charge)))))
+    (goes (with_covered w p (amounts_by charge)))))

@@ -17,8 +17,8 @@ abbrev pub with_entry : Hash → HashEntry → Hash
 with_entry hash entry = record hash { entries = insert hash.entries (bucket_place hash entry.key) entry }
 
 -- the place of the first entry that is in no lower bucket than this
-abbrev pub first_of : Hash → ℕ → ℕ
-first_of hash bucket = prefix_len (λ e. nat_lt (bucket_of hash.buckets e.key) bucket) hash.entries
+abbrev pub bucket_start : Hash → ℕ → ℕ
+bucket_start hash bucket = prefix_len (λ e. nat_lt (bucket_of hash.buckets e.key) bucket) hash.entries
 
 -- the place of a key's entry, or why there is none
 abbrev pub place_in : Hash → List ℕ → Result ℕ Refusal

@@ -5,7 +5,7 @@ use Rattle.std.specs.List.{prefix_len}
 use Rattle.sdr_base.specs.declared.refusal.Refusal.TheVariants as refusals
 use Rattle.sdr_model.specs.Hashes.{Hash}
 use Rattle.sdr_model.specs.Limits.{longest_key, most_buckets}
-use Rattle.sdr_model.specs.Steps.{Outcome, RefusedFor, RefusedIf, RefusedUnless, RefusedWithout, Reads, Does, Makes, Takes, On, gave, with_thing, without_thing}
+use Rattle.sdr_model.specs.Steps.{Outcome, RefusedFor, RefusedIf, RefusedUnless, RefusedWithout, ReadsBytes, Does, CreatesThing, Takes, On, gave, with_thing, without_thing}
 use Rattle.sdr_model.specs.Things.{hash_need, entry_need}
 use Rattle.sdr_model.specs.World.{World, thing_at}
 use Rattle.sdr_model.specs.declared.answer.Reply.TheVariants as replies
@@ -43,7 +43,8 @@ abbrev pub MakeHash : World → Outcome → ℕ → ℕ → Type 0
 MakeHash w o key_length buckets =
     RefusedIf w o (is_no_key_length key_length) (refusals.BadKeyLength key_length longest_key)
     (RefusedIf w o (is_no_count buckets) (refusals.BadRow buckets most_buckets)
-    (Makes w o (hash_need buckets) (things.Hash (record { key_length = key_length; buckets = buckets; entries = [] }))))
+    (CreatesThing w o (hash_need buckets)
+        (things.Hash (record { key_length = key_length; buckets = buckets; entries = [] }))))
 
 -- The call is refused where the key hasn't the length of the hash's keys, and else goes on.
 abbrev pub OnHash : World → Outcome → ℕ → List ℕ → (Hash → Type 0) → Type 0
@@ -68,13 +69,13 @@ abbrev pub value_at : List HashEntry → ℕ → ℕ
 value_at entries place = value_of (slice_get entries place)
 
 -- the address of an entry, 0 where there is none
-abbrev pub addr_of : Option HashEntry → ℕ
-addr_of None = 0
-addr_of (Some e) = e.block
+abbrev pub entry_addr_or_zero : Option HashEntry → ℕ
+entry_addr_or_zero None = 0
+entry_addr_or_zero (Some e) = e.block
 
 -- the address of the entry at a place, 0 where there is none
 abbrev pub entry_addr : List HashEntry → ℕ → ℕ
-entry_addr entries place = addr_of (slice_get entries place)
+entry_addr entries place = entry_addr_or_zero (slice_get entries place)
 
 -- a new key has this value, in front of its bucket
 abbrev pub HashInsert : World → Outcome → ℕ → List ℕ → ℕ → Type 0
@@ -90,7 +91,7 @@ HashInsert w o addr key value =
 
 -- the key's value is given
 abbrev pub HashRetrieve : World → Outcome → ℕ → List ℕ → Type 0
-HashRetrieve w o addr key = OnKey w o addr key (λ hash place. Reads w o [] (replies.Value (value_at hash.entries place)))
+HashRetrieve w o addr key = OnKey w o addr key (λ hash place. ReadsBytes w o [] (replies.Value (value_at hash.entries place)))
 
 -- the key's value is set
 abbrev pub HashRevise : World → Outcome → ℕ → List ℕ → ℕ → Type 0
@@ -110,7 +111,7 @@ HashRemove w o addr key =
 
 -- the count of the keys is given
 abbrev pub HashCount : World → Outcome → ℕ → Type 0
-HashCount w o addr = On w o addr (as_hash (thing_at w addr)) (λ hash. Reads w o [] (replies.Value (length hash.entries)))
+HashCount w o addr = On w o addr (as_hash (thing_at w addr)) (λ hash. ReadsBytes w o [] (replies.Value (length hash.entries)))
 
 -- the hash goes with its entries, which are given back by bucket, front to back, before it
 abbrev pub HashDestroy : World → Outcome → ℕ → Type 0

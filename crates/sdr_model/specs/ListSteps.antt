@@ -4,7 +4,7 @@ use Rattle.std.specs.Cmp.Lexicographic.{slice_cmp}
 use Rattle.std.specs.Ordering.{nat_cmp, is_gt, is_eq}
 use Rattle.std.specs.declared.cmp.Ordering.{Ordering}
 use Rattle.sdr_model.specs.Limits.{longest_sort_key}
-use Rattle.sdr_model.specs.Steps.{Outcome, Reads, Does, Makes, Takes, On, gave, with_thing, without_thing}
+use Rattle.sdr_model.specs.Steps.{Outcome, ReadsBytes, Does, CreatesThing, Takes, On, gave, with_thing, without_thing}
 use Rattle.sdr_model.specs.Things.{Spot, list_need, element_need}
 use Rattle.sdr_model.specs.World.{World, thing_at, as_raw, spot_of}
 use Rattle.sdr_model.specs.declared.answer.Reply.TheVariants as replies
@@ -21,22 +21,22 @@ as_list (Some (things.List row)) = Some row
 as_list thing = None
 
 -- the address of an element, 0 where there is none
-abbrev pub addr_of : Option Element → ℕ
-addr_of None = 0
-addr_of (Some e) = e.block
+abbrev pub element_addr_or_zero : Option Element → ℕ
+element_addr_or_zero None = 0
+element_addr_or_zero (Some e) = e.block
 
 -- the address of the element at a place, 0 where there is none
 abbrev pub element_addr : List Element → ℕ → ℕ
-element_addr elements place = addr_of (slice_get elements place)
+element_addr elements place = element_addr_or_zero (slice_get elements place)
 
 -- the key of a list's comparison: the first bytes of the raw object that the data names, else none
-abbrev pub bytes_of : Option (List ℕ) → List ℕ
-bytes_of None = []
-bytes_of (Some bytes) = take longest_sort_key bytes
+abbrev pub sort_bytes : Option (List ℕ) → List ℕ
+sort_bytes None = []
+sort_bytes (Some bytes) = take longest_sort_key bytes
 
 -- the key that a datum is compared by
 abbrev pub sort_key : World → ℕ → List ℕ
-sort_key w datum = bytes_of (as_raw (thing_at w datum))
+sort_key w datum = sort_bytes (as_raw (thing_at w datum))
 
 -- an order of keys: how two of them compare
 abbrev pub KeyOrder : Type 0
@@ -76,7 +76,7 @@ found_addr elements (Some place) = element_addr elements place
 
 -- a list without elements is made, with the user's number
 abbrev pub MakeList : World → Outcome → ℕ → Type 0
-MakeList w o user = Makes w o list_need (things.List (record { user = user; elements = [] }))
+MakeList w o user = CreatesThing w o list_need (things.List (record { user = user; elements = [] }))
 
 -- the list goes with its elements, which are given back in order before it
 abbrev pub ListDestroy : World → Outcome → ℕ → Type 0
@@ -85,11 +85,11 @@ ListDestroy w o list = On w o list (as_list (thing_at w list)) (λ row.
 
 -- a number is read off the list
 abbrev pub ReadsList : World → Outcome → ℕ → (SdrList → ℕ) → Type 0
-ReadsList w o list of = On w o list (as_list (thing_at w list)) (λ row. Reads w o [] (replies.Value (of row)))
+ReadsList w o list of = On w o list (as_list (thing_at w list)) (λ row. ReadsBytes w o [] (replies.Value (of row)))
 
 -- an element's address is read off the list
 abbrev pub FindsInList : World → Outcome → ℕ → (SdrList → ℕ) → Type 0
-FindsInList w o list of = On w o list (as_list (thing_at w list)) (λ row. Reads w o [] (replies.At (of row)))
+FindsInList w o list of = On w o list (as_list (thing_at w list)) (λ row. ReadsBytes w o [] (replies.At (of row)))
 
 -- the user's number of the list is set
 abbrev pub SetListUser : World → Outcome → ℕ → ℕ → Type 0
@@ -103,7 +103,7 @@ Delete w o element = On w o element (spot_of w element) (λ s.
 
 -- an element's address is read off the place of another
 abbrev pub FindsBeside : World → Outcome → ℕ → (Spot → ℕ) → Type 0
-FindsBeside w o element of = On w o element (spot_of w element) (λ s. Reads w o [] (replies.At (of s)))
+FindsBeside w o element of = On w o element (spot_of w element) (λ s. ReadsBytes w o [] (replies.At (of s)))
 
 -- the data of an element, 0 where there is none
 abbrev pub datum_of : Option Element → ℕ
@@ -116,7 +116,7 @@ datum_at elements place = datum_of (slice_get elements place)
 
 -- the element's data is given
 abbrev pub Datum : World → Outcome → ℕ → Type 0
-Datum w o element = On w o element (spot_of w element) (λ s. Reads w o [] (replies.Value (datum_at s.row.elements s.place)))
+Datum w o element = On w o element (spot_of w element) (λ s. ReadsBytes w o [] (replies.Value (datum_at s.row.elements s.place)))
 
 -- the element's data is set
 abbrev pub SetDatum : World → Outcome → ℕ → ℕ → Type 0

@@ -3,7 +3,7 @@ use Rattle.std.specs.Prelude.{ℕ, List, [], ◌∷◌, ◌++◌, length, slice_
 use Rattle.sdr_base.specs.declared.refusal.Refusal.TheVariants as refusals
 use Rattle.sdr_model.specs.Limits.{longest_name, is_no_name}
 use Rattle.sdr_model.specs.Names.{name_of, without_name}
-use Rattle.sdr_model.specs.Steps.{Outcome, RefusedIf, RefusedWithout, Refuses, Reads, Does, Takes, gave}
+use Rattle.sdr_model.specs.Steps.{Outcome, RefusedIf, RefusedWithout, Refuses, ReadsBytes, Does, Takes, gave}
 use Rattle.sdr_model.specs.Things.{name_need}
 use Rattle.sdr_model.specs.World.{World}
 use Rattle.sdr_model.specs.declared.answer.Reply.TheVariants as replies
@@ -26,7 +26,7 @@ Catlg w o name kind object =
 
 -- the type and the object of the name are given
 abbrev pub Find : World → Outcome → List ℕ → Type 0
-Find w o name = OnName w o name (Refuses w o refusals.NotFound) (λ n. Reads w o [] (replies.Pair n.kind n.object))
+Find w o name = OnName w o name (Refuses w o refusals.NotFound) (λ n. ReadsBytes w o [] (replies.Pair n.kind n.object))
 
 -- the name goes
 abbrev pub Uncatlg : World → Outcome → List ℕ → Type 0
@@ -38,4 +38,4 @@ Uncatlg w o name =
 abbrev pub Entry : World → Outcome → ℕ → Type 0
 Entry w o place =
     RefusedWithout w o (slice_get w.names place) refusals.NotFound
-    (λ n. Reads w o n.name (replies.Named (length n.name) n.kind n.object))
+    (λ n. ReadsBytes w o n.name (replies.Named (length n.name) n.kind n.object))

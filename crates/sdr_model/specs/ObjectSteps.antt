@@ -12,7 +12,7 @@ use Rattle.sdr_model.specs.Gone.{gone_blocks, gone_things, without_things}
 use Rattle.sdr_model.specs.Limits.{is_no_capsule, longest_capsule}
 use Rattle.sdr_model.specs.Queue.{with_served}
 use Rattle.sdr_model.specs.SourceSteps.{OnUnnamed, new_source}
-use Rattle.sdr_model.specs.Steps.{Outcome, RefusedIf, RefusedWithout, Reads, Does, DoesWith, Takes, On, gave, with_thing, without_thing}
+use Rattle.sdr_model.specs.Steps.{Outcome, RefusedIf, RefusedWithout, ReadsBytes, Does, DoesWith, Takes, On, gave, with_thing, without_thing}
 use Rattle.sdr_model.specs.Things.{capsule_need, extent_need, object_need, source_need}
 use Rattle.sdr_model.specs.World.{World, thing_at, as_raw}
 use Rattle.sdr_model.specs.Zco.{capsules_length, empty_object, extents_length, object_at, source_at, space_of}
@@ -144,11 +144,11 @@ wire_length z = capsules_length z.headers + extents_length z.extents + capsules_
 
 -- the bytes of the object on the wire are given
 abbrev pub ZcoLength : World → Outcome → ℕ → Type 0
-ZcoLength w o addr = On w o addr (object_at w addr) (λ z. Reads w o [] (replies.Value (wire_length z)))
+ZcoLength w o addr = On w o addr (object_at w addr) (λ z. ReadsBytes w o [] (replies.Value (wire_length z)))
 
 -- the bytes of the object's part are given
 abbrev pub SourceLength : World → Outcome → ℕ → Type 0
-SourceLength w o addr = On w o addr (object_at w addr) (λ z. Reads w o [] (replies.Value z.part.length))
+SourceLength w o addr = On w o addr (object_at w addr) (λ z. ReadsBytes w o [] (replies.Value z.part.length))
 
 -- the blocks that are given back where an object goes
 abbrev pub destroy_blocks : World → ℕ → ZcoObject → List ℕ

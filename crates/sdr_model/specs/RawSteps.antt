@@ -4,7 +4,7 @@ use Rattle.sdr_base.specs.Parts.{overwrite, part}
 use Rattle.sdr_base.specs.declared.refusal.Refusal.TheVariants as refusals
 use Rattle.sdr_model.specs.Limits.{longest_raw, longest_string, longest_read}
 use Rattle.sdr_model.specs.SourceSteps.{OnUnnamed}
-use Rattle.sdr_model.specs.Steps.{Outcome, RefusedIf, RefusedUnless, Refuses, Reads, Does, Makes, On, gave, with_thing, without_thing}
+use Rattle.sdr_model.specs.Steps.{Outcome, RefusedIf, RefusedUnless, Refuses, ReadsBytes, Does, CreatesThing, On, gave, with_thing, without_thing}
 use Rattle.sdr_model.specs.Things.{raw_need, text_need}
 use Rattle.sdr_model.specs.World.{World, thing_at, block_at, misnamed, as_raw, as_text, is_marked}
 use Rattle.sdr_model.specs.declared.answer.Reply.TheVariants as replies
@@ -16,7 +16,7 @@ use Rattle.sdr_base.specs.declared.kind.Kind.TheVariants as kinds
 abbrev pub Malloc : World → Outcome → ℕ → Type 0
 Malloc w o bytes =
     RefusedIf w o (nat_lt longest_raw bytes) (refusals.BadLength bytes longest_raw)
-    (Makes w o (raw_need bytes) (things.Raw (replicate bytes 0)))
+    (CreatesThing w o (raw_need bytes) (things.Raw (replicate bytes 0)))
 
 -- the thing at an address goes
 abbrev pub Frees : World → Outcome → ℕ → Type 0
@@ -39,7 +39,7 @@ length_as kind bytes = bytes
 
 -- the length of the thing is given
 abbrev pub Length : World → Outcome → ℕ → Type 0
-Length w o addr = On w o addr (block_at w addr) (λ b. Reads w o [] (replies.Value (length_as b.kind b.bytes)))
+Length w o addr = On w o addr (block_at w addr) (λ b. ReadsBytes w o [] (replies.Value (length_as b.kind b.bytes)))
 
 -- so many bytes of the raw object from a place on are given, of at most a page
 abbrev pub Read : World → Outcome → ℕ → ℕ → ℕ → Type 0
@@ -47,7 +47,7 @@ Read w o addr place count =
     On w o addr (as_raw (thing_at w addr)) (λ bytes.
     RefusedIf w o (nat_lt longest_read count) (refusals.BadLength count longest_read)
     (RefusedIf w o (nat_lt (length bytes) (place + count)) (refusals.OutOfBounds addr place count)
-    (Reads w o (part place count bytes) (replies.Bytes count))))
+    (ReadsBytes w o (part place count bytes) (replies.Bytes count))))
 
 -- the bytes are written into the raw object from a place on, where it was taken or staged in this transaction
 abbrev pub Write : World → Outcome → ℕ → ℕ → List ℕ → Type 0
@@ -63,22 +63,22 @@ Stage w o addr count =
     On w o addr (as_raw (thing_at w addr)) (λ bytes.
     RefusedIf w o (nat_lt longest_read count) (refusals.BadLength count longest_read)
     (RefusedIf w o (nat_lt (length bytes) count) (refusals.OutOfBounds addr 0 count)
-    (Reads (record w { marks = w.marks ++ addr ∷ [] }) o (take count bytes) (replies.Bytes count))))
+    (ReadsBytes (record w { marks = w.marks ++ addr ∷ [] }) o (take count bytes) (replies.Bytes count))))
 
 -- a string of the text is made
 abbrev pub Text : World → Outcome → List ℕ → Type 0
 Text w o text =
     RefusedIf w o (nat_lt longest_string (length text)) (refusals.BadLength (length text) longest_string)
-    (Makes w o (text_need (length text)) (things.Text text))
+    (CreatesThing w o (text_need (length text)) (things.Text text))
 
 -- the length of the string is given
 abbrev pub TextLength : World → Outcome → ℕ → Type 0
-TextLength w o addr = On w o addr (as_text (thing_at w addr)) (λ text. Reads w o [] (replies.Value (length text)))
+TextLength w o addr = On w o addr (as_text (thing_at w addr)) (λ text. ReadsBytes w o [] (replies.Value (length text)))
 
 -- the string's text is given
 abbrev pub TextRead : World → Outcome → ℕ → Type 0
-TextRead w o addr = On w o addr (as_text (thing_at w addr)) (λ text. Reads w o text (replies.Bytes (length text)))
+TextRead w o addr = On w o addr (as_text (thing_at w addr)) (λ text. ReadsBytes w o text (replies.Bytes (length text)))
 
 -- a string of the same text is made
 abbrev pub TextDup : World → Outcome → ℕ → Type 0
-TextDup w o addr = On w o addr (as_text (thing_at w addr)) (λ text. Makes w o (text_need (length text)) (things.Text text))
+TextDup w o addr = On w o addr (as_text (thing_at w addr)) (λ text. CreatesThing w o (text_need (length text)) (things.Text text))

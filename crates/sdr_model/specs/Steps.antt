@@ -36,8 +36,8 @@ abbrev pub RefusedWithout : {X : Type 0} → World → Outcome → Option X → 
 RefusedWithout w o found refusal goes = MatchOption found (Refuses w o refusal) goes
 
 -- the call only reads: the world shows these bytes, and else stays
-abbrev pub Reads : World → Outcome → List ℕ → Reply → Type 0
-Reads w o bytes reply = (o.moves ≡ []) × (o.after ≡ record w { shown = bytes }) × (o.reply ≡ reply)
+abbrev pub ReadsBytes : World → Outcome → List ℕ → Reply → Type 0
+ReadsBytes w o bytes reply = (o.moves ≡ []) × (o.after ≡ record w { shown = bytes }) × (o.reply ≡ reply)
 
 -- the call has these moves, and leaves this world with no bytes shown
 abbrev pub Does : Outcome → List Move → World → Reply → Type 0
@@ -86,8 +86,8 @@ abbrev pub without_thing : World → ℕ → World
 without_thing w addr = record w { things = finite.remove w.things addr }
 
 -- a new thing is made, and the reply is its address
-abbrev pub Makes : World → Outcome → ℕ → Thing → Type 0
-Makes w o need thing = Takes w o need (λ addr. with_thing w addr thing) (λ addr. replies.At addr)
+abbrev pub CreatesThing : World → Outcome → ℕ → Thing → Type 0
+CreatesThing w o need thing = Takes w o need (λ addr. with_thing w addr thing) (λ addr. replies.At addr)
 
 -- blocks are given back in this order
 abbrev pub gave : List ℕ → List Move

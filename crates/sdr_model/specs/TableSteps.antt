@@ -3,7 +3,7 @@ use Rattle.std.specs.Prelude.{ℕ, ◌*◌, ◌==◌, List, [], ◌∷◌, lengt
 use Rattle.sdr_base.specs.Parts.{overwrite, part}
 use Rattle.sdr_base.specs.declared.refusal.Refusal.TheVariants as refusals
 use Rattle.sdr_model.specs.Limits.{longest_raw, longest_read}
-use Rattle.sdr_model.specs.Steps.{Outcome, RefusedIf, RefusedUnless, Reads, Does, Makes, On, gave, with_thing, without_thing}
+use Rattle.sdr_model.specs.Steps.{Outcome, RefusedIf, RefusedUnless, ReadsBytes, Does, CreatesThing, On, gave, with_thing, without_thing}
 use Rattle.sdr_model.specs.Tables.{Table}
 use Rattle.sdr_model.specs.Things.{table_need}
 use Rattle.sdr_model.specs.World.{World, thing_at}
@@ -22,7 +22,7 @@ MakeTable w o rows size user =
     RefusedIf w o (nat_lt longest_raw rows) (refusals.BadLength rows longest_raw)
     (RefusedIf w o (nat_lt longest_raw size) (refusals.BadLength size longest_raw)
     (RefusedIf w o (nat_lt longest_raw (rows * size)) (refusals.BadLength (rows * size) longest_raw)
-    (Makes w o (table_need rows size)
+    (CreatesThing w o (table_need rows size)
     (things.Table (record { user = user; rows = rows; size = size; bytes = replicate (rows * size) 0 })))))
 
 -- The call is refused where the table has no such row, and else goes on.
@@ -37,7 +37,7 @@ abbrev pub Row : World → Outcome → ℕ → ℕ → Type 0
 Row w o addr row =
     OnRow w o addr row (λ table.
     RefusedIf w o (nat_lt longest_read table.size) (refusals.BadLength table.size longest_read)
-    (Reads w o (part (table.size * row) table.size table.bytes) (replies.Bytes table.size)))
+    (ReadsBytes w o (part (table.size * row) table.size table.bytes) (replies.Bytes table.size)))
 
 -- the row is set to bytes of its size
 abbrev pub SetRow : World → Outcome → ℕ → ℕ → List ℕ → Type 0
@@ -48,11 +48,11 @@ SetRow w o addr row from =
 
 -- the count of the rows and the size of one are given
 abbrev pub Dimensions : World → Outcome → ℕ → Type 0
-Dimensions w o addr = On w o addr (as_table (thing_at w addr)) (λ table. Reads w o [] (replies.Pair table.rows table.size))
+Dimensions w o addr = On w o addr (as_table (thing_at w addr)) (λ table. ReadsBytes w o [] (replies.Pair table.rows table.size))
 
 -- the user's number of the table is given
 abbrev pub TableUser : World → Outcome → ℕ → Type 0
-TableUser w o addr = On w o addr (as_table (thing_at w addr)) (λ table. Reads w o [] (replies.Value table.user))
+TableUser w o addr = On w o addr (as_table (thing_at w addr)) (λ table. ReadsBytes w o [] (replies.Value table.user))
 
 -- the table goes
 abbrev pub TableDestroy : World → Outcome → ℕ → Type 0

@@ -1,7 +1,7 @@
 -- The things of a world, and the blocks that they fill.
 use Rattle.sdr_base.specs.declared.kind.Kind.TheVariants as kinds
 use Rattle.sdr_model.specs.declared.name.Name.{Name}
-use Rattle.sdr_model.specs.declared.things.Block.{Block}
+use Rattle.sdr_model.specs.declared.things.UsedBlock.{UsedBlock}
 use Rattle.sdr_model.specs.declared.things.Element.{Element}
 use Rattle.sdr_model.specs.declared.things.HashEntry.{HashEntry}
 use Rattle.sdr_model.specs.declared.things.SdrList.{SdrList}
@@ -80,7 +80,7 @@ abbrev pub capsule_need : ℕ → ℕ
 capsule_need bytes = 8 + bytes
 
 -- the block of a thing
-abbrev pub own_block : ℕ → Thing → Block
+abbrev pub own_block : ℕ → Thing → UsedBlock
 own_block addr (things.Raw bytes) = record { addr = addr; kind = kinds.Raw; bytes = raw_need (length bytes) }
 own_block addr (things.Text text) = record { addr = addr; kind = kinds.Text; bytes = text_need (length text) }
 own_block addr (things.List l) = record { addr = addr; kind = kinds.List; bytes = list_need }
@@ -90,38 +90,38 @@ own_block addr (things.Source s) = record { addr = addr; kind = kinds.Source; by
 own_block addr (things.Object z) = record { addr = addr; kind = kinds.Object; bytes = object_need }
 
 -- the block of an element
-abbrev pub element_block : Element → Block
-element_block e = record { addr = e.block; kind = kinds.Element; bytes = element_need }
+abbrev pub block_for_element : Element → UsedBlock
+block_for_element e = record { addr = e.block; kind = kinds.Element; bytes = element_need }
 
 -- the block of an entry of a hash
-abbrev pub entry_block : HashEntry → Block
+abbrev pub entry_block : HashEntry → UsedBlock
 entry_block e = record { addr = e.block; kind = kinds.HashEntry; bytes = entry_need (length e.key) }
 
 -- the block of an entry of the catalogue
-abbrev pub name_block : Name → Block
-name_block n = record { addr = n.block; kind = kinds.Name; bytes = name_need }
+abbrev pub block_for_name : Name → UsedBlock
+block_for_name n = record { addr = n.block; kind = kinds.Name; bytes = name_need }
 
 -- the block of an extent
-abbrev pub extent_block : Extent → Block
-extent_block e = record { addr = e.block; kind = kinds.Extent; bytes = extent_need }
+abbrev pub block_for_extent : Extent → UsedBlock
+block_for_extent e = record { addr = e.block; kind = kinds.Extent; bytes = extent_need }
 
 -- the block of a header or trailer
-abbrev pub capsule_block : Capsule → Block
-capsule_block c = record { addr = c.block; kind = kinds.Capsule; bytes = capsule_need (length c.text) }
+abbrev pub block_for_capsule : Capsule → UsedBlock
+block_for_capsule c = record { addr = c.block; kind = kinds.Capsule; bytes = capsule_need (length c.text) }
 
 -- the blocks of an object's headers, extents and trailers
-abbrev pub object_blocks : ZcoObject → List Block
-object_blocks z = map capsule_block z.headers ++ map extent_block z.extents ++ map capsule_block z.trailers
+abbrev pub object_blocks : ZcoObject → List UsedBlock
+object_blocks z = map block_for_capsule z.headers ++ map block_for_extent z.extents ++ map block_for_capsule z.trailers
 
 -- the blocks of what is in a thing
-abbrev pub inner_blocks : Thing → List Block
-inner_blocks (things.List l) = map element_block l.elements
+abbrev pub inner_blocks : Thing → List UsedBlock
+inner_blocks (things.List l) = map block_for_element l.elements
 inner_blocks (things.Hash h) = map entry_block h.entries
 inner_blocks (things.Object z) = object_blocks z
 inner_blocks thing = []
 
 -- the block at an address among these
-abbrev pub block_among : ℕ → List Block → Option Block
+abbrev pub block_among : ℕ → List UsedBlock → Option UsedBlock
 block_among addr = find (λ b. b.addr == addr)
 
 -- a place in a list: the list's address, the list, and the place of one of its elements, counted from 0
@@ -152,7 +152,7 @@ IsWithin None = Unit {0}
 IsWithin (Some found) = (found.place < length found.row.now.elements) × (found.place < 2 ^ 63)
 
 -- the block at an address inside these things
-abbrev pub inner_among : ℕ → List (ℕ × Thing) → Option Block
+abbrev pub inner_among : ℕ → List (ℕ × Thing) → Option UsedBlock
 inner_among addr [] = None
 inner_among addr (e ∷ es) = option_or (block_among addr (inner_blocks e.1)) (inner_among addr es)
 

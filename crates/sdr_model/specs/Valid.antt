@@ -115,8 +115,8 @@ HasSubject w bytes (subjects.Obj raw) = HasBytes bytes (as_raw (thing_at w raw))
 HasSubject w bytes subject = Unit {0}
 
 -- a source that goes with its last extent has one
-abbrev pub IsUsed : World → ℕ → ZcoSource → Type 0
-IsUsed w addr source = is_passing source ≡ true → 1 ≤ uses_of w addr
+abbrev pub HasExtentIfPassing : World → ℕ → ZcoSource → Type 0
+HasExtentIfPassing w addr source = is_passing source ≡ true → 1 ≤ uses_of w addr
 
 -- Sources and extents fit each other: extents lie inside their sources, sources of raw objects have these, no raw object
 -- has two, and a source that goes with its last extent has one.
@@ -126,7 +126,7 @@ pub record FitTogether (w : World) : Type 0 where
   pub alone : (raw a b : ℕ)
       → IfSome (thing_at w a) (λ s. IfSome (thing_at w b)
       (λ t. names_raw raw s ≡ true → names_raw raw t ≡ true → a ≡ b))
-  pub used : (addr : ℕ) → IfSome (source_at w addr) (IsUsed w addr)
+  pub used : (addr : ℕ) → IfSome (source_at w addr) (HasExtentIfPassing w addr)
 
 -- whether two tickets may stand one before the other: granted ones are first, and those that wait go by coarse priority, by
 -- fine priority, and by number

@@ -37,23 +37,23 @@ raw_told offset bytes None = unknown bytes
 raw_told offset bytes (Some text) = known (part offset bytes text)
 
 -- some bytes of a subject
-abbrev pub subject_told : World → ℕ → ℕ → Subject → ToldBytes
-subject_told w offset bytes (subjects.Heap raw) = raw_told offset bytes (as_raw (thing_at w raw))
-subject_told w offset bytes (subjects.Obj raw) = raw_told offset bytes (as_raw (thing_at w raw))
-subject_told w offset bytes subject = unknown bytes
+abbrev pub bytes_of_subject : World → ℕ → ℕ → Subject → ToldBytes
+bytes_of_subject w offset bytes (subjects.Heap raw) = raw_told offset bytes (as_raw (thing_at w raw))
+bytes_of_subject w offset bytes (subjects.Obj raw) = raw_told offset bytes (as_raw (thing_at w raw))
+bytes_of_subject w offset bytes subject = unknown bytes
 
 -- some bytes of a source
-abbrev pub source_told : World → ℕ → ℕ → Option ZcoSource → ToldBytes
-source_told w offset bytes None = unknown bytes
-source_told w offset bytes (Some source) = subject_told w offset bytes source.subject
+abbrev pub bytes_of_source : World → ℕ → ℕ → Option ZcoSource → ToldBytes
+bytes_of_source w offset bytes None = unknown bytes
+bytes_of_source w offset bytes (Some source) = bytes_of_subject w offset bytes source.subject
 
 -- the bytes of an extent
-abbrev pub extent_told : World → Extent → ToldBytes
-extent_told w e = source_told w e.offset e.length (source_at w e.source)
+abbrev pub bytes_of_extent : World → Extent → ToldBytes
+bytes_of_extent w e = bytes_of_source w e.offset e.length (source_at w e.source)
 
 -- the bytes of all these extents
 abbrev pub extents_told : World → List Extent → ToldBytes
-extents_told w = flat_map (extent_told w)
+extents_told w = flat_map (bytes_of_extent w)
 
 -- the bytes of all these headers or trailers
 abbrev pub capsules_told : List Capsule → ToldBytes
@@ -75,8 +75,8 @@ Spells (t ∷ told) (b ∷ bytes) = IsTold t b × Spells told bytes
 Spells told bytes = ⊥
 
 -- the world shows these bytes, of which it tells what it can, and else stays
-abbrev pub Gives : World → Outcome → ToldBytes → Type 0
-Gives w o told =
+abbrev pub GivesBytes : World → Outcome → ToldBytes → Type 0
+GivesBytes w o told =
     (o.moves ≡ [])
     × (o.after ≡ record w { shown = o.after.shown })
     × Spells told o.after.shown
@@ -87,7 +87,7 @@ abbrev pub GivesOf : World → Outcome → ℕ → ℕ → (ZcoObject → ToldBy
 GivesOf w o addr count of =
     On w o addr (object_at w addr) (λ z.
     RefusedIf w o (nat_lt longest_read count) (refusals.BadLength count longest_read)
-    (Gives w o (of z)))
+    (GivesBytes w o (of z)))
 
 -- of the bytes on the wire, so many from a place on
 abbrev pub wire_part : World → ℕ → ℕ → ZcoObject → ToldBytes

@@ -4,12 +4,12 @@ use Rattle.sdr_base.specs.declared.refusal.Refusal.TheVariants as refusals
 use Rattle.sdr_base.specs.declared.refusal.Refusal.{Refusal}
 use Rattle.sdr_model.specs.Accounts.{fresh_accounts, ticket_blocks}
 use Rattle.sdr_model.specs.Names.{coded_name}
-use Rattle.sdr_model.specs.Things.{Spot, Things, own_block, name_block, block_among, inner_among, spot_among}
+use Rattle.sdr_model.specs.Things.{Spot, Things, own_block, block_for_name, block_among, inner_among, spot_among}
 use Rattle.sdr_model.specs.contracts.accounts.Accounts as accounts
 use Rattle.sdr_model.specs.contracts.things.Thing as thing
 use Rattle.sdr_model.specs.declared.accounts.Accounts.{Accounts}
 use Rattle.sdr_model.specs.declared.name.Name.{Name}
-use Rattle.sdr_model.specs.declared.things.Block.{Block}
+use Rattle.sdr_model.specs.declared.things.UsedBlock.{UsedBlock}
 use Rattle.sdr_model.specs.declared.things.Thing.TheVariants as things
 use Rattle.sdr_model.specs.declared.things.Thing.{Thing}
 use Rattle.std.specs.Coded.{Coded, code_by, coded×, coded_ℕ, coded_list}
@@ -49,14 +49,14 @@ abbrev pub thing_at : World → ℕ → Option Thing
 thing_at w addr = finite.get w.things addr
 
 -- the block that begins at an address: a thing's own, one inside a thing, a name's or a ticket's
-abbrev pub block_at : World → ℕ → Option Block
+abbrev pub block_at : World → ℕ → Option UsedBlock
 block_at w addr =
     option_or (option_map (own_block addr) (thing_at w addr))
     (option_or (inner_among addr (finite.entries w.things))
-    (option_or (block_among addr (map name_block w.names)) (block_among addr (ticket_blocks w.accounts))))
+    (option_or (block_among addr (map block_for_name w.names)) (block_among addr (ticket_blocks w.accounts))))
 
 -- why an address is refused where this block, or none, begins there: a kind that the call doesn't take
-abbrev pub refusal_for : ℕ → Option Block → Refusal
+abbrev pub refusal_for : ℕ → Option UsedBlock → Refusal
 refusal_for addr None = refusals.BadAddress addr
 refusal_for addr (Some block) = refusals.WrongKind addr (kind_number block.kind)
 

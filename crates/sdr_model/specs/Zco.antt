@@ -57,8 +57,8 @@ names_raw raw (things.Source source) = is_of_raw raw source.subject
 names_raw raw thing = false
 
 -- the address of the source that names a raw object
-abbrev pub source_on : World → ℕ → Option ℕ
-source_on w raw = option_map (λ e. e.0) (find (λ e. names_raw raw e.1) (finite.entries w.things))
+abbrev pub source_naming : World → ℕ → Option ℕ
+source_naming w raw = option_map (λ e. e.0) (find (λ e. names_raw raw e.1) (finite.entries w.things))
 
 -- how many of these extents name a source
 abbrev pub naming : ℕ → List Extent → ℕ

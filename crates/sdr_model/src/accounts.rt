@@ -1,10 +1,10 @@
 // Accounts of space, and the tickets in their queues.
 ghost use Rattle.std.specs.Prelude.{◌≡◌, ◌<◌, ◌==◌, IfOk, IfSome, length, map, position};
-ghost use Rattle.sdr_model.specs.Accounts.{IsInPlace, account_of, unused_account, fresh_accounts, pending_among, pending_in, ticket_block, ticket_blocks, with_account};
+ghost use Rattle.sdr_model.specs.Accounts.{IsInPlace, account_of, unused_account, fresh_accounts, pending_among, pending_in, block_for_ticket, ticket_blocks, with_account};
 ghost use Rattle.sdr_model.specs.Things.{block_among};
 ghost use Rattle.sdr_model.specs.declared.accounts.Account.{Account};
 
-use crate::Block;
+use crate::UsedBlock;
 use sdr_base::{Acct, Addr, Amounts, Items, Kind, NoMemory};
 use std::alloc::Global;
 use std::mem;
@@ -55,10 +55,10 @@ pub struct Accounts {
 }
 
 impl Ticket {
-    fn own_block(&self) -> Block
-        ensures { result ≡ ticket_block self.now }
+    fn own_block(&self) -> UsedBlock
+        ensures { result ≡ block_for_ticket self.now }
     {
-        Block {
+        UsedBlock {
             addr: self.block,
             kind: Kind::Ticket,
             bytes: 96,
@@ -89,8 +89,8 @@ impl Account {
     }
 
     // The block of the ticket at an address.
-    fn block(&self, addr: Addr) -> Option<Block>
-        ensures { result ≡ block_among addr (map ticket_block self.now.tickets) }
+    fn block(&self, addr: Addr) -> Option<UsedBlock>
+        ensures { result ≡ block_among addr (map block_for_ticket self.now.tickets) }
     {
         for ticket in self.tickets.as_slice() {
             if ticket.block == addr {
@@ -123,7 +123,7 @@ impl Accounts {
     }
 
     /// The block of the ticket at an address, in either account.
-    pub fn block(&self, addr: Addr) -> Option<Block>
+    pub fn block(&self, addr: Addr) -> Option<UsedBlock>
         ensures { result ≡ block_among addr (ticket_blocks self.now) }
     {
         match self.inbound.block(addr) {

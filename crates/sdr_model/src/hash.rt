@@ -1,11 +1,11 @@
 // Hashes.
 ghost use Rattle.std.specs.Prelude.{◌≡◌, ◌≤◌, ◌<◌, IfOk, IfSome, OnErr, OnOk, Some, length, map, position, remove, set, []};
-ghost use Rattle.sdr_model.specs.HashChanges.{first_of, with_entry};
+ghost use Rattle.sdr_model.specs.HashChanges.{bucket_start, with_entry};
 ghost use Rattle.sdr_model.specs.HashSteps.{bucket_of, has_key};
 ghost use Rattle.sdr_model.specs.Hashes.{AreByBucket};
 ghost use Rattle.sdr_model.specs.Things.{block_among, entry_block};
 
-use crate::{Block, HashEntry};
+use crate::{UsedBlock, HashEntry};
 use sdr_base::{Addr, Items, Kind, NoMemory};
 use std::alloc::Global;
 use std::marker::Model;
@@ -115,7 +115,7 @@ impl SdrHash {
     }
 
     /// The block of the entry at an address.
-    pub fn block(&self, addr: Addr) -> Option<Block>
+    pub fn block(&self, addr: Addr) -> Option<UsedBlock>
         ensures { result ≡ block_among addr (map entry_block self.now.entries) }
     {
         for entry in self.entries.as_slice() {
@@ -128,7 +128,7 @@ impl SdrHash {
 
     // The place of the first entry that is in no lower bucket than this.
     fn first_of(&self, bucket: u64) -> usize
-        ensures place { result ≡ first_of self.now bucket }
+        ensures place { result ≡ bucket_start self.now bucket }
         ensures within { result ≤ length self.now.entries }
     {
         let buckets = self.buckets;

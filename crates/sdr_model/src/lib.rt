@@ -6,7 +6,7 @@
 //! 3. A world is whole where it is valid, its sources and extents fit each other, and its queues keep their laws.
 //! 4. The same definitions are cited by the machine in memory and by that over a heap.
 //!
-//! Proved: definitions of the world and of one step of a call (`Step`, `ByRow`), of valid and whole worlds. The
+//! Proved: definitions of the world and of one step of a call (`ScriptStep`, `ByRow`), of valid and whole worlds. The
 //! pieces of a transmit, joined, are the bytes that it asks for (`pieces_told-part`, `asked-row`).
 //!
 //! Only tested: each call's answers (`tests/cases`).
@@ -38,8 +38,8 @@ pub use journal::{Entry, Journal, Moves, Said, Saids, What};
 pub use keys::Keys;
 pub use name::Name;
 pub use piece::Piece;
-pub use script::{Arg, Args, Script, Step};
+pub use script::{Arg, Args, Script, ScriptStep};
 pub use table::SdrTable;
-pub use things::{Block, Element, HashEntry, SdrList, Spot, Thing};
+pub use things::{UsedBlock, Element, HashEntry, SdrList, Spot, Thing};
 pub use world::{Parts, World};
 pub use zco::{Capsule, Extent, Part, Subject, ZcoObject, ZcoSource};

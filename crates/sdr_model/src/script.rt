@@ -20,7 +20,7 @@ pub type Args = Items<Arg>;
 
 /// A statement.
 #[derive(Drop)]
-pub struct Step {
+pub struct ScriptStep {
     /// The line, from 1 over all lines of the input.
     pub line: u64,
     /// The daemon that makes it, 1 to 16.
@@ -33,4 +33,4 @@ pub struct Step {
 }
 
 /// The statements in the order of their lines.
-pub type Script = Items<Step>;
+pub type Script = Items<ScriptStep>;

@@ -1,6 +1,6 @@
 // The things of a world.
 ghost use Rattle.std.specs.Prelude.{◌≡◌, ◌<◌, ◌^◌, ◌==◌, IfOk, IfSome, Some, length, map, position};
-ghost use Rattle.sdr_model.specs.Things.{IsWithin, SpotIs, own_block, inner_blocks, block_among, element_block, entry_block, spot_in_thing};
+ghost use Rattle.sdr_model.specs.Things.{IsWithin, SpotIs, own_block, inner_blocks, block_among, block_for_element, entry_block, spot_in_thing};
 
 use crate::{SdrHash, SdrTable, ZcoObject, ZcoSource};
 use sdr_base::{Addr, Bytes, Items, Kind, NoMemory};
@@ -8,7 +8,7 @@ use std::alloc::Global;
 
 /// A block that is in use.
 #[derive(Clone, Copy)]
-pub struct Block {
+pub struct UsedBlock {
     pub addr: Addr,
     pub kind: Kind,
     pub bytes: u64,
@@ -94,12 +94,12 @@ impl SdrList {
     }
 
     // The block of the element at an address.
-    fn block(&self, addr: Addr) -> Option<Block>
-        ensures { result ≡ block_among addr (map element_block self.now.elements) }
+    fn block(&self, addr: Addr) -> Option<UsedBlock>
+        ensures { result ≡ block_among addr (map block_for_element self.now.elements) }
     {
         for element in self.elements.as_slice() {
             if element.block == addr {
-                return Some(Block {
+                return Some(UsedBlock {
                     addr,
                     kind: Kind::Element,
                     bytes: 32,
@@ -122,10 +122,10 @@ impl HashEntry {
     }
 
     /// The entry's own block.
-    pub fn block(&self) -> Block
+    pub fn block(&self) -> UsedBlock
         ensures { result ≡ entry_block self.now }
     {
-        Block {
+        UsedBlock {
             addr: self.block,
             kind: Kind::HashEntry,
             bytes: 16 + count(self.key.as_slice()),
@@ -150,7 +150,7 @@ impl Thing {
     }
 
     /// The thing's own block, where it stands at this address.
-    pub fn own_block(&self, addr: Addr) -> Block
+    pub fn own_block(&self, addr: Addr) -> UsedBlock
         ensures { result ≡ own_block addr self.now }
     {
         let (kind, bytes) = match self {
@@ -162,11 +162,11 @@ impl Thing {
             Thing::Source(source) => return source.block(addr),
             Thing::Object(_) => (Kind::Object, 72),
         };
-        Block { addr, kind, bytes }
+        UsedBlock { addr, kind, bytes }
     }
 
     /// The block at an address inside the thing.
-    pub fn inner_block(&self, addr: Addr) -> Option<Block>
+    pub fn inner_block(&self, addr: Addr) -> Option<UsedBlock>
         ensures { result ≡ block_among addr (inner_blocks self.now) }
     {
         match self {

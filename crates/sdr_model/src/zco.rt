@@ -1,10 +1,10 @@
 // Sources of bytes, and zero-copy objects.
 ghost use Rattle.std.specs.Prelude.{◌≡◌, ◌<◌, ◌^◌, IfOk, length, map};
 ghost use Rattle.sdr_model.specs.Zco.{raw_of, space_of};
-ghost use Rattle.sdr_model.specs.Things.{block_among, capsule_block, extent_block, object_blocks, own_block, path_length};
+ghost use Rattle.sdr_model.specs.Things.{block_among, block_for_capsule, block_for_extent, object_blocks, own_block, path_length};
 ghost use Rattle.sdr_model.specs.declared.things.Thing.TheVariants as things;
 
-use crate::Block;
+use crate::UsedBlock;
 use sdr_base::{Acct, Addr, Bytes, Items, Kind, NoMemory, Space};
 use std::alloc::Global;
 
@@ -137,10 +137,10 @@ impl ZcoSource {
     }
 
     /// The source's own block, where it stands at this address.
-    pub fn block(&self, addr: Addr) -> Block
+    pub fn block(&self, addr: Addr) -> UsedBlock
         ensures { result ≡ own_block addr (things.Source self.now) }
     {
-        Block {
+        UsedBlock {
             addr,
             kind: Kind::Source,
             bytes: 48 + self.subject.path_length(),
@@ -149,10 +149,10 @@ impl ZcoSource {
 }
 
 impl Extent {
-    fn block(&self) -> Block
-        ensures { result ≡ extent_block self.now }
+    fn block(&self) -> UsedBlock
+        ensures { result ≡ block_for_extent self.now }
     {
-        Block {
+        UsedBlock {
             addr: self.block,
             kind: Kind::Extent,
             bytes: 32,
@@ -170,10 +170,10 @@ impl Capsule {
         })
     }
 
-    fn block(&self) -> Block
-        ensures { result ≡ capsule_block self.now }
+    fn block(&self) -> UsedBlock
+        ensures { result ≡ block_for_capsule self.now }
     {
-        Block {
+        UsedBlock {
             addr: self.block,
             kind: Kind::Capsule,
             bytes: 8 + self.text.as_slice().len() as u64,
@@ -182,8 +182,8 @@ impl Capsule {
 }
 
 // The block at an address among those of headers or trailers.
-fn capsule_among(capsules: &[Capsule], addr: Addr) -> Option<Block>
-    ensures { result ≡ block_among addr (map capsule_block capsules.now) }
+fn capsule_among(capsules: &[Capsule], addr: Addr) -> Option<UsedBlock>
+    ensures { result ≡ block_among addr (map block_for_capsule capsules.now) }
 {
     for capsule in capsules {
         if capsule.block == addr {
@@ -194,8 +194,8 @@ fn capsule_among(capsules: &[Capsule], addr: Addr) -> Option<Block>
 }
 
 // The block at an address among those of extents.
-fn extent_among(extents: &[Extent], addr: Addr) -> Option<Block>
-    ensures { result ≡ block_among addr (map extent_block extents.now) }
+fn extent_among(extents: &[Extent], addr: Addr) -> Option<UsedBlock>
+    ensures { result ≡ block_among addr (map block_for_extent extents.now) }
 {
     for extent in extents {
         if extent.block == addr {
@@ -219,7 +219,7 @@ impl ZcoObject {
     }
 
     /// The block at an address among those of headers, extents and trailers.
-    pub fn block(&self, addr: Addr) -> Option<Block>
+    pub fn block(&self, addr: Addr) -> Option<UsedBlock>
         ensures { result ≡ block_among addr (object_blocks self.now) }
     {
         if let Some(block) = capsule_among(self.headers.as_slice(), addr) {

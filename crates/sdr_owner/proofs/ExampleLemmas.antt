@@ -13,16 +13,17 @@ use Rattle.sdr_base.specs.Words.{layout}
 use Rattle.sdr_base.specs.declared.account.Acct.TheVariants as accts
 use Rattle.sdr_owner.proofs.MarksLemmas.{once_push}
 use Rattle.sdr_owner.proofs.RulesLemmas.{none_keeps}
-use Rattle.sdr_owner.specs.Chains.{AreOnce, Chain, ChainsReach, IsChain, IsWrongChain}
+use Rattle.sdr_owner.specs.Chains.{Chain, ChainsReach, IsChain, IsWrongChain}
+use Rattle.sdr_base.specs.Entries.{AreOnce}
 use Rattle.sdr_owner.specs.Examples.{fifth, heap_of, last_entries, looping_entries, looping_list, lost_element, lost_entries, shared_element, shared_entries, unlinked_element, unlinked_entries, wrong_last}
 use Rattle.sdr_owner.specs.Owned.{BreaksRules}
 use Rattle.sdr_owner.specs.Owners.{owners_of, root_owners}
-use Rattle.sdr_owner.specs.Rules.{IsKept, keeps}
+use Rattle.sdr_owner.specs.Rules.{IsKept, keeps_owner_rule}
 use Rattle.sdr_owner.specs.declared.owner.Owner.{Owner}
 use Rattle.sdr_owner.specs.declared.owner.Owner.TheVariants as owners
 use Rattle.sdr_owner.specs.declared.owner.Site.TheVariants as sites
-use Rattle.sdr_owner.specs.declared.rules.Rule.{Rule}
-use Rattle.sdr_owner.specs.declared.rules.Rule.TheVariants as which
+use Rattle.sdr_owner.specs.declared.rules.OwnerRule.{OwnerRule}
+use Rattle.sdr_owner.specs.declared.rules.OwnerRule.TheVariants as which
 
 none_once : AreOnce []
 none_once addr = omega arith
@@ -172,18 +173,18 @@ none_there addr off off' =
     ∙ ap (λ (t : Bool). cond t (Some element_there) None) (ne_eqb 2096 addr (λ e. off' (sym e)))
 
 -- a rule that both blocks keep is kept
-both_keep : (rule : Rule) → keeps lost_element [] rule 2056 ≡ true → keeps lost_element [] rule 2096 ≡ true → IsKept lost_element [] rule
+both_keep : (rule : OwnerRule) → keeps_owner_rule lost_element [] rule 2056 ≡ true → keeps_owner_rule lost_element [] rule 2096 ≡ true → IsKept lost_element [] rule
 both_keep rule list element addr = elim (cases_eq addr 2056) [
-  | inl here ↦ subst (λ (n : ℕ). keeps lost_element [] rule n ≡ true) (sym here) list
+  | inl here ↦ subst (λ (n : ℕ). keeps_owner_rule lost_element [] rule n ≡ true) (sym here) list
   | inr off ↦ elim (cases_eq addr 2096) [
-    | inl here ↦ subst (λ (n : ℕ). keeps lost_element [] rule n ≡ true) (sym here) element
+    | inl here ↦ subst (λ (n : ℕ). keeps_owner_rule lost_element [] rule n ≡ true) (sym here) element
     | inr off' ↦ none_keeps lost_element [] rule addr (none_there addr off off')
   ]
 ]
 
-before_keep : (addr : ℕ) → addr < 2096 → keeps lost_element [] which.IsReached 2056 ≡ true → keeps lost_element [] which.IsReached addr ≡ true
+before_keep : (addr : ℕ) → addr < 2096 → keeps_owner_rule lost_element [] which.IsReached 2056 ≡ true → keeps_owner_rule lost_element [] which.IsReached addr ≡ true
 before_keep addr less list = elim (cases_eq addr 2056) [
-  | inl here ↦ subst (λ (n : ℕ). keeps lost_element [] which.IsReached n ≡ true) (sym here) list
+  | inl here ↦ subst (λ (n : ℕ). keeps_owner_rule lost_element [] which.IsReached n ≡ true) (sym here) list
   | inr off ↦ none_keeps lost_element [] which.IsReached addr (none_there addr off (λ e. omega (arith, e, less)))
 ]
 

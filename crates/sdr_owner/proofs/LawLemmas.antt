@@ -9,10 +9,11 @@ use Rattle.std.proofs.lemmas.List.Elements.{All-head, All-tail}
 use Rattle.sdr_owner.proofs.GoesLemmas.{goes_on, goes_same}
 use Rattle.sdr_owner.proofs.MarksLemmas.{once_front, once_new}
 use Rattle.sdr_owner.proofs.RulesLemmas.{kept_unbroken}
-use Rattle.sdr_owner.specs.Chains.{AreOnce, Chain, ChainsReach, Goes, IsChain, IsWrongChain, IsWrongHere, addrs_of, first_of, has_last, is_among, is_member, is_named}
+use Rattle.sdr_owner.specs.Chains.{Chain, ChainsReach, ChainGoes, IsChain, IsWrongChain, IsWrongHere, addrs_of, first_link, has_last, is_among, is_member, names_owner_at}
+use Rattle.sdr_base.specs.Entries.{AreOnce}
 use Rattle.sdr_owner.specs.Owned.{IsOwned, IsWrongOwner}
 use Rattle.sdr_owner.specs.Owners.{owners_of, told_at}
-use Rattle.sdr_owner.specs.Rules.{AreKept, all_rules}
+use Rattle.sdr_owner.specs.Rules.{AreKept, owner_rules}
 use Rattle.sdr_owner.specs.View.{View}
 use Rattle.sdr_owner.specs.declared.owner.Owner.{Owner}
 use Rattle.sdr_owner.specs.declared.owner.Site.{Site}
@@ -22,18 +23,18 @@ owner_of chain = chain.owner
 
 module _ (heap : View) (owner : Owner) where
   -- a chain that goes on isn't wrong at the link from which it goes on
-  pub goes_wrong : (a : ℕ) (rest reached : List ℕ) (before link last next place : ℕ) → Goes heap owner before link (a ∷ rest) last next →
+  pub goes_wrong : (a : ℕ) (rest reached : List ℕ) (before link last next place : ℕ) → ChainGoes heap owner before link (a ∷ rest) last next →
       AreOnce (reached ++ (a ∷ rest)) → IsWrongHere heap owner reached before link place → ⊥
   goes_wrong a rest reached before link last next place (is, some, member, named, more) once (inl w) =
       let new : is_among reached link ≡ false = ap (is_among reached) is ∙ once_new reached a rest once in
       both_ways (is_member heap owner link && not (is_among reached link)) w.wrong
       (and_from _ _ (ap (is_member heap owner) is ∙ member) (not_from_false (is_among reached link) new))
   goes_wrong a rest reached before link last next place (is, some, member, named, more) once (inr (inl w)) =
-      both_ways (is_named heap owner before link) w.wrong (ap (is_named heap owner before) is ∙ named)
+      both_ways (names_owner_at heap owner before link) w.wrong (ap (names_owner_at heap owner before) is ∙ named)
   goes_wrong a rest reached before link last next place (is, some, member, named, more) once (inr (inr w)) = some (sym is ∙ w.none)
 
   -- nor is one that ends rightly at the link from which it goes on
-  pub goes_right : (rest reached : List ℕ) (before link end place : ℕ) → Goes heap owner before link rest end 0 → has_last heap owner end ≡ true →
+  pub goes_right : (rest reached : List ℕ) (before link end place : ℕ) → ChainGoes heap owner before link rest end 0 → has_last heap owner end ≡ true →
       AreOnce (reached ++ rest) → IsWrongHere heap owner reached before link place → ⊥
   goes_right [] reached before link end place (b, l) ends once (inl w) = w.some l
   goes_right [] reached before link end place (b, l) ends once (inr (inl w)) = w.some l
@@ -48,9 +49,9 @@ module _ (heap : View) where
   -- two right chains of one owner are the same
   chain_same : (c b : Chain) → IsChain heap c → IsChain heap b → c.owner ≡ b.owner → c ≡ b
   chain_same c b right_c right_b same =
-      let goes : Goes heap b.owner 0 (first_of heap b.owner) c.addrs right_c.last 0 =
-      subst (λ (o : Owner). Goes heap o 0 (first_of heap o) c.addrs right_c.last 0) same right_c.goes in
-      let addrs : c.addrs ≡ b.addrs = goes_same heap b.owner 0 (first_of heap b.owner) b.addrs c.addrs right_b.last right_c.last right_b.goes goes in
+      let goes : ChainGoes heap b.owner 0 (first_link heap b.owner) c.addrs right_c.last 0 =
+      subst (λ (o : Owner). ChainGoes heap o 0 (first_link heap o) c.addrs right_c.last 0) same right_c.goes in
+      let addrs : c.addrs ≡ b.addrs = goes_same heap b.owner 0 (first_link heap b.owner) b.addrs c.addrs right_b.last right_c.last right_b.goes goes in
       λ i. record { owner = same i; addrs = addrs i }
 
   -- the chains of all owners begin with those of the first ones, and then comes that of the next
@@ -105,10 +106,10 @@ module _ (heap : View) where
       let a =
       agree done.chains r.chains w.owner w.later done.right r.right
       (r.owners_are ∙ w.whole ∙ ap (λ (l : List Owner). l ++ (w.owner ∷ w.later)) (sym done.owners_are)) in
-      let goes : Goes heap w.owner 0 (first_of heap w.owner) a.chain.addrs a.right.last 0 =
-      subst (λ (o : Owner). Goes heap o 0 (first_of heap o) a.chain.addrs a.right.last 0) a.is a.right.goes in
+      let goes : ChainGoes heap w.owner 0 (first_link heap w.owner) a.chain.addrs a.right.last 0 =
+      subst (λ (o : Owner). ChainGoes heap o 0 (first_link heap o) a.chain.addrs a.right.last 0) a.is a.right.goes in
       let ends : has_last heap w.owner a.right.last ≡ true = subst (λ (o : Owner). has_last heap o a.right.last ≡ true) a.is a.right.ends in
-      let g = goes_on heap w.owner 0 (first_of heap w.owner) w.addrs a.chain.addrs w.before w.link a.right.last w.comes.goes goes in
+      let g = goes_on heap w.owner 0 (first_link heap w.owner) w.addrs a.chain.addrs w.before w.link a.right.last w.comes.goes goes in
       let all : reached ≡ w.reached ++ ((w.addrs ++ g.rest) ++ addrs_of a.rest) =
       sym r.reached_are ∙ ap addrs_of a.whole
       ∙ flat_map-append (λ (c : Chain). c.addrs) done.chains (a.chain ∷ a.rest)
@@ -121,6 +122,6 @@ module _ (heap : View) where
   pub not_wrong : (words place : ℕ) → IsOwned heap words → IsWrongOwner heap words place → ⊥
   not_wrong words place owned (inl w) = chains_not_wrong (owners_of heap words) owned.reached place owned.chains w
   not_wrong words place owned (inr b) =
-      kept_unbroken heap b.reached all_rules place
-      (subst (λ (l : List ℕ). AreKept heap l all_rules) (sym (reached_same (owners_of heap words) owned.reached b.reached owned.chains b.chains)) owned.kept)
+      kept_unbroken heap b.reached owner_rules place
+      (subst (λ (l : List ℕ). AreKept heap l owner_rules) (sym (reached_same (owners_of heap words) owned.reached b.reached owned.chains b.chains)) owned.kept)
       b.broken

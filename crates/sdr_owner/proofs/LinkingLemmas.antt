@@ -5,8 +5,8 @@ use Rattle.std.specs.List.{All}
 use Rattle.std.proofs.lemmas.List.Elements.{All-cons, All-head, All-nil, All-tail}
 use Rattle.sdr_base.specs.Blocks.{Block}
 use Rattle.sdr_base.specs.Linked.{first_of, last_of, linked}
-use Rattle.sdr_owner.specs.Chains.{Goes, next_of}
-use Rattle.sdr_owner.specs.Linking.{AreRows, FitsChain, ReadsBack, StandIn, StandsAt}
+use Rattle.sdr_owner.specs.Chains.{ChainGoes, next_of}
+use Rattle.sdr_owner.specs.Linking.{AreRows, FitsChain, ReadsBack, AllStandAt, StandsAt}
 use Rattle.sdr_owner.specs.Owners.{kind_in, names_owner, next_field}
 use Rattle.sdr_owner.specs.View.{View, is_kind, word_of}
 use Rattle.sdr_owner.specs.declared.owner.Owner.{Owner}
@@ -21,7 +21,7 @@ module _ {X : Type 0} (heap : View) (owner : Owner) (addr : X → ℕ) (block : 
 
   -- the chain goes over the blocks that rows keep
   pub linked_goes : FitsChain owner block → (before : ℕ) (xs : List X) → before < 2 ^ 64 → All Small xs →
-      StandIn heap (linked addr block before 0 xs) → Goes heap owner before (first_of addr 0 xs) (map addr xs) (last_of addr before xs) 0
+      AllStandAt heap (linked addr block before 0 xs) → ChainGoes heap owner before (first_of addr 0 xs) (map addr xs) (last_of addr before xs) 0
   unfolding linked
   linked_goes fits before [] low small stand = (refl, refl)
   linked_goes fits before (x ∷ xs) low small stand =
@@ -35,14 +35,14 @@ module _ {X : Type 0} (heap : View) (owner : Owner) (addr : X → ℕ) (block : 
         here.some,
         ap (is_kind (kind_in owner)) here.is ∙ fits.kind before next x,
         ap (names_owner owner before) here.is ∙ fits.names before next x low,
-        subst (λ (n : ℕ). Goes heap owner (addr x) n (map addr xs) (last_of addr (addr x) xs) 0) (sym link)
+        subst (λ (n : ℕ). ChainGoes heap owner (addr x) n (map addr xs) (last_of addr (addr x) xs) 0) (sym link)
             (linked_goes fits (addr x) xs (All-head Small x xs small) (All-tail Small x xs small)
             (All-tail (StandsAt heap) (addr x, own) (linked addr block (addr x) 0 xs) stand)),
       )
 
   -- what a chain goes over is kept by rows
   pub goes_linked : (read : ℕ → X) → ReadsBack heap owner addr block read → (before link : ℕ) (addrs : List ℕ) (last : ℕ) →
-      Goes heap owner before link addrs last 0 → AreRows heap addr block before link (map read addrs) last
+      ChainGoes heap owner before link addrs last 0 → AreRows heap addr block before link (map read addrs) last
   unfolding linked
   goes_linked read back before link [] last (b, l) = record { stand = All-nil (StandsAt heap); first = l; end = sym b }
   goes_linked read back before link (a ∷ addrs) last (is, some, member, named, more) =

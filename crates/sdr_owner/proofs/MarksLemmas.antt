@@ -6,7 +6,8 @@ use Rattle.std.proofs.lemmas.List.{get_or-set_other, get_or-set_same}
 use Rattle.std.proofs.lemmas.List.Folds.{list_any-append}
 use Rattle.std.proofs.lemmas.List.Sums.{sum_by-set}
 use Rattle.sdr_base.proofs.PoolsLemmas.{count_by-append, count_by-no, count_by-yes}
-use Rattle.sdr_owner.specs.Chains.{AreOnce, is_among}
+use Rattle.sdr_owner.specs.Chains.{is_among}
+use Rattle.sdr_base.specs.Entries.{AreOnce}
 use Rattle.sdr_owner.specs.Marks.{AreMarked, unmarked}
 
 abbrev pub is_addr : ℕ → ℕ → Bool

@@ -4,14 +4,15 @@ use Rattle.std.specs.Prelude.{Some}
 use Rattle.std.proofs.lemmas.Bool.{both_ways, cases_order}
 use Rattle.std.proofs.lemmas.List.{append-nil, append_assoc}
 use Rattle.sdr_owner.proofs.LawLemmas.{chains_not_wrong, goes_wrong, reached_same}
-use Rattle.sdr_owner.specs.Chains.{AreOnce, ChainComes, Goes, IsWrongChain, IsWrongHere, first_of, is_among, is_member, next_of}
+use Rattle.sdr_owner.specs.Chains.{ChainComes, ChainGoes, IsWrongChain, IsWrongHere, first_link, is_among, is_member, next_of}
+use Rattle.sdr_base.specs.Entries.{AreOnce}
 use Rattle.sdr_owner.specs.Owned.{IsWrongOwner}
-use Rattle.sdr_owner.specs.Owners.{owners_of, place_of}
-use Rattle.sdr_owner.specs.Rules.{BreaksFirst, IsBroken, all_rules, keeps}
+use Rattle.sdr_owner.specs.Owners.{owners_of, site_place}
+use Rattle.sdr_owner.specs.Rules.{BreaksFirst, IsBroken, owner_rules, keeps_owner_rule}
 use Rattle.sdr_owner.specs.View.{View}
 use Rattle.sdr_owner.specs.declared.owner.Owner.{Owner}
 use Rattle.sdr_owner.specs.declared.owner.Site.{Site}
-use Rattle.sdr_owner.specs.declared.rules.Rule.{Rule}
+use Rattle.sdr_owner.specs.declared.rules.OwnerRule.{OwnerRule}
 
 -- two ways to cut a list at an element: at one place, or one before the other
 pub data Cuts {A : Type 0} (xs : List A) (x : A) (ys : List A) (y : A) : Type 0 where
@@ -43,24 +44,24 @@ cut_twice {A} (a ∷ xs) x ls (b ∷ ys) y ms e =
 module _ (heap : View) (owner : Owner) where
   -- two ways that a chain goes: one goes on where the other has come to
   data Ways (xs : List ℕ) (b l : ℕ) (ys : List ℕ) (b' l' : ℕ) : Type 0 where
-    goes_on : (rest : List ℕ) → ys ≡ xs ++ rest → Goes heap owner b l rest b' l' → Ways xs b l ys b' l'
-    came_from : (rest : List ℕ) → xs ≡ ys ++ rest → Goes heap owner b' l' rest b l → Ways xs b l ys b' l'
+    goes_on : (rest : List ℕ) → ys ≡ xs ++ rest → ChainGoes heap owner b l rest b' l' → Ways xs b l ys b' l'
+    came_from : (rest : List ℕ) → xs ≡ ys ++ rest → ChainGoes heap owner b' l' rest b l → Ways xs b l ys b' l'
 
   ways_under : (a : ℕ) (xs ys : List ℕ) (b l b' l' : ℕ) → Ways xs b l ys b' l' → Ways (a ∷ xs) b l (a ∷ ys) b' l'
   ways_under a xs ys b l b' l' (goes_on rest e g) = goes_on rest (ap (λ (t : List ℕ). a ∷ t) e) g
   ways_under a xs ys b l b' l' (came_from rest e g) = came_from rest (ap (λ (t : List ℕ). a ∷ t) e) g
 
-  two_ways : (before first : ℕ) (xs ys : List ℕ) (b l b' l' : ℕ) → Goes heap owner before first xs b l →
-      Goes heap owner before first ys b' l' → Ways xs b l ys b' l'
+  two_ways : (before first : ℕ) (xs ys : List ℕ) (b l b' l' : ℕ) → ChainGoes heap owner before first xs b l →
+      ChainGoes heap owner before first ys b' l' → Ways xs b l ys b' l'
   two_ways before first [] ys b l b' l' (at, is) goes =
-      goes_on ys refl (subst (λ (n : ℕ). Goes heap owner b n ys b' l') is (subst (λ (n : ℕ). Goes heap owner n first ys b' l') at goes))
+      goes_on ys refl (subst (λ (n : ℕ). ChainGoes heap owner b n ys b' l') is (subst (λ (n : ℕ). ChainGoes heap owner n first ys b' l') at goes))
   two_ways before first (x ∷ xs) [] b l b' l' goes (at, is) =
       came_from (x ∷ xs) refl
-      (subst (λ (n : ℕ). Goes heap owner b' n (x ∷ xs) b l) is (subst (λ (n : ℕ). Goes heap owner n first (x ∷ xs) b l) at goes))
+      (subst (λ (n : ℕ). ChainGoes heap owner b' n (x ∷ xs) b l) is (subst (λ (n : ℕ). ChainGoes heap owner n first (x ∷ xs) b l) at goes))
   two_ways before first (x ∷ xs) (y ∷ ys) b l b' l' (is, some, member, named, more) (is', some', member', named', more') =
       let same : y ≡ x = sym is' ∙ is in
       let w = two_ways x (next_of heap owner x) xs ys b l b' l' more
-      (subst (λ (n : ℕ). Goes heap owner n (next_of heap owner n) ys b' l') same more') in
+      (subst (λ (n : ℕ). ChainGoes heap owner n (next_of heap owner n) ys b' l') same more') in
       subst (λ (n : ℕ). Ways (x ∷ xs) b l (n ∷ ys) b' l') (sym same) (ways_under x xs ys b l b' l' w)
 
   -- what is wrong at a link is so at one place
@@ -73,7 +74,7 @@ module _ (heap : View) (owner : Owner) where
   wrong_once reached b l p q (inr (inl v)) (inr (inr w)) = absurd (v.some w.none)
   wrong_once reached b l p q (inr (inr v)) (inl w) = absurd (w.some v.none)
   wrong_once reached b l p q (inr (inr v)) (inr (inl w)) = absurd (w.some v.none)
-  wrong_once reached b l p q (inr (inr v)) (inr (inr w)) = v.at ∙ ap place_of (site_of (sym v.has ∙ w.has)) ∙ sym w.at
+  wrong_once reached b l p q (inr (inr v)) (inr (inr w)) = v.at ∙ ap site_place (site_of (sym v.has ∙ w.has)) ∙ sym w.at
     where
       site_of : {s t : Site} → Some s ≡ Some t → s ≡ t
       site_of e = cc
@@ -104,7 +105,7 @@ module _ (heap : View) where
   same_chain xs x reached reached' addrs addrs' b l b' l' p q c c' v w =
       let same : reached' ≡ reached = reached_same heap xs reached reached' c.done c'.done in
       wrong_way heap x reached addrs addrs' b l b' l' p q
-      (two_ways heap x 0 (first_of heap x) addrs addrs' b l b' l' c.goes c'.goes) c.once
+      (two_ways heap x 0 (first_link heap x) addrs addrs' b l b' l' c.goes c'.goes) c.once
       (subst (λ (t : List ℕ). AreOnce (t ++ addrs')) same c'.once) v
       (subst (λ (t : List ℕ). IsWrongHere heap x (t ++ addrs') b' l' q) same w)
 
@@ -144,20 +145,20 @@ module _ (heap : View) where
             wrong = w.wrong;
           }))
 
-  first_once : (reached : List ℕ) (rule : Rule) (p q : ℕ) → BreaksFirst heap reached rule p → BreaksFirst heap reached rule q → p ≡ q
+  first_once : (reached : List ℕ) (rule : OwnerRule) (p q : ℕ) → BreaksFirst heap reached rule p → BreaksFirst heap reached rule q → p ≡ q
   first_once reached rule p q v w = elim (cases_order p q) [
     | inl equal ↦ equal
     | inr other ↦ elim other [
-      | inl less ↦ absurd (both_ways (keeps heap reached rule p) v.wrong (w.before p less))
-      | inr more ↦ absurd (both_ways (keeps heap reached rule q) w.wrong (v.before q more))
+      | inl less ↦ absurd (both_ways (keeps_owner_rule heap reached rule p) v.wrong (w.before p less))
+      | inr more ↦ absurd (both_ways (keeps_owner_rule heap reached rule q) w.wrong (v.before q more))
     ]
   ]
 
-  broken_once : (reached : List ℕ) (rules : List Rule) (p q : ℕ) → IsBroken heap reached rules p → IsBroken heap reached rules q → p ≡ q
+  broken_once : (reached : List ℕ) (rules : List OwnerRule) (p q : ℕ) → IsBroken heap reached rules p → IsBroken heap reached rules q → p ≡ q
   broken_once reached [] p q v w = absurd v
   broken_once reached (rule ∷ rules) p q (inl v) (inl w) = first_once reached rule p q v w
-  broken_once reached (rule ∷ rules) p q (inl v) (inr (k, w)) = absurd (both_ways (keeps heap reached rule p) v.wrong (k p))
-  broken_once reached (rule ∷ rules) p q (inr (k, v)) (inl w) = absurd (both_ways (keeps heap reached rule q) w.wrong (k q))
+  broken_once reached (rule ∷ rules) p q (inl v) (inr (k, w)) = absurd (both_ways (keeps_owner_rule heap reached rule p) v.wrong (k p))
+  broken_once reached (rule ∷ rules) p q (inr (k, v)) (inl w) = absurd (both_ways (keeps_owner_rule heap reached rule q) w.wrong (k q))
   broken_once reached (rule ∷ rules) p q (inr (k, v)) (inr (k', w)) = broken_once reached rules p q v w
 
   pub one_place : (words p q : ℕ) → IsWrongOwner heap words p → IsWrongOwner heap words q → p ≡ q
@@ -165,5 +166,5 @@ module _ (heap : View) where
   one_place words p q (inl v) (inr w) = absurd (chains_not_wrong heap (owners_of heap words) w.reached p w.chains v)
   one_place words p q (inr v) (inl w) = absurd (chains_not_wrong heap (owners_of heap words) v.reached q v.chains w)
   one_place words p q (inr v) (inr w) =
-      broken_once v.reached all_rules p q v.broken
-      (subst (λ (t : List ℕ). IsBroken heap t all_rules q) (reached_same heap (owners_of heap words) v.reached w.reached v.chains w.chains) w.broken)
+      broken_once v.reached owner_rules p q v.broken
+      (subst (λ (t : List ℕ). IsBroken heap t owner_rules q) (reached_same heap (owners_of heap words) v.reached w.reached v.chains w.chains) w.broken)

@@ -9,21 +9,21 @@ use Rattle.sdr_owner.proofs.MarksLemmas.{mark_tells}
 use Rattle.sdr_owner.proofs.RegionLemmas.{is_part, none_between, none_past}
 use Rattle.sdr_owner.specs.Chains.{is_among}
 use Rattle.sdr_owner.specs.Marks.{AreMarked}
-use Rattle.sdr_owner.specs.Rules.{AreKept, IsBroken, IsKept, is_chained, is_source_of, keeps, names_raw, names_source}
+use Rattle.sdr_owner.specs.Rules.{AreKept, IsBroken, IsKept, is_chained, is_source_of, keeps_owner_rule, is_source_of_raw, is_raw_of_source}
 use Rattle.sdr_owner.specs.View.{View, is_kind, view_in, word_of}
-use Rattle.sdr_owner.specs.declared.rules.Rule.{Rule}
-use Rattle.sdr_owner.specs.declared.rules.Rule.TheVariants as which
+use Rattle.sdr_owner.specs.declared.rules.OwnerRule.{OwnerRule}
+use Rattle.sdr_owner.specs.declared.rules.OwnerRule.TheVariants as which
 
 -- where no block is, each rule is kept
-pub none_keeps : (heap : View) (reached : List ℕ) (rule : Rule) (addr : ℕ) → heap.blocks addr ≡ None → keeps heap reached rule addr ≡ true
+pub none_keeps : (heap : View) (reached : List ℕ) (rule : OwnerRule) (addr : ℕ) → heap.blocks addr ≡ None → keeps_owner_rule heap reached rule addr ≡ true
 none_keeps heap reached which.SourceIsThere addr none =
     ap (λ (b : Option Block). not (is_kind kinds.Extent b) || is_kind kinds.Source (heap.blocks (word_of b 0))) none
 none_keeps heap reached which.RawIsThere addr none =
-    ap (λ (b : Option Block). not (names_raw b) || is_kind kinds.Raw (heap.blocks (word_of b 4))) none
+    ap (λ (b : Option Block). not (is_source_of_raw b) || is_kind kinds.Raw (heap.blocks (word_of b 4))) none
 none_keeps heap reached which.SourceNamesRaw addr none =
-    ap (λ (b : Option Block). not (names_source b) || is_source_of heap addr (word_of b 0)) none
+    ap (λ (b : Option Block). not (is_raw_of_source b) || is_source_of heap addr (word_of b 0)) none
 none_keeps heap reached which.RawNamesSource addr none =
-    ap (λ (b : Option Block). not (names_raw b) || word_of (heap.blocks (word_of b 4)) 0 == addr) none
+    ap (λ (b : Option Block). not (is_source_of_raw b) || word_of (heap.blocks (word_of b 4)) 0 == addr) none
 none_keeps heap reached which.IsReached addr none = ap (λ (b : Option Block). not (is_chained b) || is_among reached addr) none
 
 -- whether a block that only stands in chains was reached is told by its mark
@@ -38,27 +38,27 @@ reached_told bytes reached marks addr marked = by_block (block_in bytes addr) re
         ap (λ (t : Bool). not (is_chained (Some block)) || t) (mark_tells reached marks addr marked p.whole)
 
 -- a rule that is kept before a word, and by the block that begins with it, is kept before the next
-pub kept_more : (bytes reached : List ℕ) (rule : Rule) (number : ℕ) →
-    ((other : ℕ) → other < 8 * number → keeps (view_in bytes) reached rule other ≡ true) →
-    keeps (view_in bytes) reached rule (8 * number) ≡ true → (other : ℕ) → other < 8 * (number + 1) → keeps (view_in bytes) reached rule other ≡ true
+pub kept_more : (bytes reached : List ℕ) (rule : OwnerRule) (number : ℕ) →
+    ((other : ℕ) → other < 8 * number → keeps_owner_rule (view_in bytes) reached rule other ≡ true) →
+    keeps_owner_rule (view_in bytes) reached rule (8 * number) ≡ true → (other : ℕ) → other < 8 * (number + 1) → keeps_owner_rule (view_in bytes) reached rule other ≡ true
 kept_more bytes reached rule number before here other less = elim (cases_lt other (8 * number)) [
   | inl below ↦ before other below
   | inr above ↦ elim (cases_eq (8 * number) other) [
-    | inl same ↦ subst (λ (n : ℕ). keeps (view_in bytes) reached rule n ≡ true) same here
+    | inl same ↦ subst (λ (n : ℕ). keeps_owner_rule (view_in bytes) reached rule n ≡ true) same here
     | inr off ↦ none_keeps (view_in bytes) reached rule other (none_between bytes other (λ whole. off (omega (arith, whole, above, less))))
   ]
 ]
 
 -- one that is kept in the whole region is kept everywhere
-pub kept_all : (bytes reached : List ℕ) (rule : Rule) (number : ℕ) → length bytes ≤ 8 * number →
-    ((other : ℕ) → other < 8 * number → keeps (view_in bytes) reached rule other ≡ true) → IsKept (view_in bytes) reached rule
+pub kept_all : (bytes reached : List ℕ) (rule : OwnerRule) (number : ℕ) → length bytes ≤ 8 * number →
+    ((other : ℕ) → other < 8 * number → keeps_owner_rule (view_in bytes) reached rule other ≡ true) → IsKept (view_in bytes) reached rule
 kept_all bytes reached rule number all before other = elim (cases_lt other (8 * number)) [
   | inl below ↦ before other below
   | inr past ↦ none_keeps (view_in bytes) reached rule other (none_past bytes other (omega (arith, past, all)))
 ]
 
 -- rules that are kept aren't broken
-pub kept_unbroken : (heap : View) (reached : List ℕ) (rules : List Rule) (addr : ℕ) → AreKept heap reached rules → IsBroken heap reached rules addr → ⊥
+pub kept_unbroken : (heap : View) (reached : List ℕ) (rules : List OwnerRule) (addr : ℕ) → AreKept heap reached rules → IsBroken heap reached rules addr → ⊥
 kept_unbroken heap reached [] addr kept broken = broken
-kept_unbroken heap reached (rule ∷ rules) addr (k, ks) (inl b) = both_ways (keeps heap reached rule addr) b.wrong (k addr)
+kept_unbroken heap reached (rule ∷ rules) addr (k, ks) (inl b) = both_ways (keeps_owner_rule heap reached rule addr) b.wrong (k addr)
 kept_unbroken heap reached (rule ∷ rules) addr (k, ks) (inr (k', b)) = kept_unbroken heap reached rules addr ks b

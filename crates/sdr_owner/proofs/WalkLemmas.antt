@@ -6,7 +6,8 @@ use Rattle.std.proofs.lemmas.List.Concat.{flat_map-append}
 use Rattle.std.proofs.lemmas.List.Elements.{All-nil, All-push}
 use Rattle.sdr_owner.proofs.GoesLemmas.{goes_then}
 use Rattle.sdr_owner.proofs.MarksLemmas.{mark_tells, marked_push, once_push}
-use Rattle.sdr_owner.specs.Chains.{AreOnce, Chain, EndsElsewhere, Goes, IsChain, IsWrongChain, IsWrongHere, addrs_of, first_of, has_last, holder, is_among, is_member, is_named, next_of}
+use Rattle.sdr_owner.specs.Chains.{Chain, EndsElsewhere, ChainGoes, IsChain, IsWrongChain, IsWrongHere, addrs_of, first_link, has_last, holder, is_among, is_member, names_owner_at, next_of}
+use Rattle.sdr_base.specs.Entries.{AreOnce}
 use Rattle.sdr_owner.specs.Marks.{AreMarked}
 use Rattle.sdr_owner.specs.View.{View}
 use Rattle.sdr_owner.specs.Walking.{HasWalked, IsWalking}
@@ -29,7 +30,7 @@ walk_begins heap marks clear = record {
 
 -- a chain begins with its first link
 pub chain_begins : {heap : View} {owners : List Owner} {marks : List Bool} → HasWalked heap owners marks → (owner : Owner) (link : ℕ) →
-    link ≡ first_of heap owner → IsWalking heap owners (record { owner = owner; before = 0; link = link }) marks
+    link ≡ first_link heap owner → IsWalking heap owners (record { owner = owner; before = 0; link = link }) marks
 chain_begins {heap} {owners} {marks} w owner link first =
     let none = sym (append-nil w.reached) in
     record {
@@ -46,7 +47,7 @@ module _ (heap : View) (owners : List Owner) (step : Step) (marks : List Bool) (
 
   -- where its link leads to a block that may follow, the chain goes on behind it
   pub chain_goes_on : (next : ℕ) → step.link ≢ 0 → is_member heap step.owner step.link ≡ true →
-      is_named heap step.owner step.before step.link ≡ true → step.link % 8 ≡ 0 → step.link / 8 < length marks →
+      names_owner_at heap step.owner step.before step.link ≡ true → step.link % 8 ≡ 0 → step.link / 8 < length marks →
       get_or marks (step.link / 8) false ≡ false → next ≡ next_of heap step.owner step.link →
       IsWalking heap owners (record { owner = step.owner; before = step.link; link = next }) (set marks (step.link / 8) true)
   chain_goes_on next some member named whole inside clear next_is =
@@ -58,8 +59,8 @@ module _ (heap : View) (owners : List Owner) (step : Step) (marks : List Bool) (
         comes = record {
           done = w.comes.done;
           goes =
-              subst (λ (n : ℕ). Goes heap step.owner 0 (first_of heap step.owner) (w.addrs ++ (step.link ∷ [])) step.link n) (sym next_is)
-              (goes_then heap step.owner 0 (first_of heap step.owner) w.addrs step.before step.link w.comes.goes some member named);
+              subst (λ (n : ℕ). ChainGoes heap step.owner 0 (first_link heap step.owner) (w.addrs ++ (step.link ∷ [])) step.link n) (sym next_is)
+              (goes_then heap step.owner 0 (first_link heap step.owner) w.addrs step.before step.link w.comes.goes some member named);
           once = subst AreOnce one (once_push all step.link w.comes.once new);
         };
         marked =
@@ -105,7 +106,7 @@ module _ (heap : View) (owners : List Owner) (step : Step) (marks : List Bool) (
 
   -- a link to a block that names another
   pub leads_to_other : step.link ≢ 0 → is_member heap step.owner step.link ≡ true → step.link % 8 ≡ 0 →
-      get_or marks (step.link / 8) false ≡ false → is_named heap step.owner step.before step.link ≡ false →
+      get_or marks (step.link / 8) false ≡ false → names_owner_at heap step.owner step.before step.link ≡ false →
       IsWrongChain heap (owners ++ (step.owner ∷ [])) step.link
   leads_to_other some member whole clear other =
       let new : is_among all step.link ≡ false = sym (mark_tells all marks step.link w.marked whole) ∙ clear in
@@ -134,7 +135,7 @@ module _ (heap : View) (owners : List Owner) (step : Step) (marks : List Bool) (
           right =
               All-push (IsChain heap) done.chains chain done.right (record {
                 last = step.before;
-                goes = subst (λ (n : ℕ). Goes heap step.owner 0 (first_of heap step.owner) w.addrs step.before n) none w.comes.goes;
+                goes = subst (λ (n : ℕ). ChainGoes heap step.owner 0 (first_link heap step.owner) w.addrs step.before n) none w.comes.goes;
                 ends = ends;
               });
           reached_are = addrs_push done.chains chain ∙ ap (λ (l : List ℕ). l ++ w.addrs) done.reached_are;

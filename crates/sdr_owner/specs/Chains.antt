@@ -2,26 +2,23 @@
 use Rattle.std.specs.Prelude.{◌≡◌, ◌≢◌, ◌≤◌, ◌==◌, ◌&&◌, ◌⊎◌, ℕ, Bool, true, false, not, cond, List, [], ◌∷◌, ◌++◌, map, count_by, Some}
 use Rattle.std.specs.List.{All, flat_map, list_any}
 use Rattle.std.specs.Option.{option_map_or}
-use Rattle.sdr_owner.specs.Owners.{first_site, kind_in, last_site, names_owner, next_field, place_of, told_at}
+use Rattle.sdr_owner.specs.Owners.{first_site, kind_in, last_site, names_owner, next_field, site_place, told_at}
 use Rattle.sdr_owner.specs.View.{View, is_kind, word_of}
 use Rattle.sdr_owner.specs.declared.owner.Owner.{Owner}
 use Rattle.sdr_owner.specs.declared.owner.Site.{Site}
+use Rattle.sdr_base.specs.Entries.{AreOnce}
 
 -- whether an address is among these
 abbrev pub is_among : List ℕ → ℕ → Bool
 is_among addrs addr = list_any (λ other. other == addr) addrs
-
--- no address stands among these twice
-abbrev pub AreOnce : List ℕ → Type 0
-AreOnce addrs = (addr : ℕ) → count_by (λ other. other == addr) addrs ≤ 1
 
 -- whether there is a block of a chain's kind at an address
 abbrev pub is_member : View → Owner → ℕ → Bool
 is_member heap owner addr = is_kind (kind_in owner) (heap.blocks addr)
 
 -- whether the block at an address names its owner and the one before it
-abbrev pub is_named : View → Owner → ℕ → ℕ → Bool
-is_named heap owner before addr = names_owner owner before (heap.blocks addr)
+abbrev pub names_owner_at : View → Owner → ℕ → ℕ → Bool
+names_owner_at heap owner before addr = names_owner owner before (heap.blocks addr)
 
 -- the link in the block of a chain at an address
 abbrev pub next_of : View → Owner → ℕ → ℕ
@@ -29,15 +26,15 @@ next_of heap owner addr = word_of (heap.blocks addr) (next_field owner)
 
 -- A chain goes from a link, which stands behind a block or, behind 0, before all, over the blocks at these addresses up to another
 -- link, behind the last of them: each is of the chain's kind, and names its owner and the one before it.
-abbrev pub Goes : View → Owner → ℕ → ℕ → List ℕ → ℕ → ℕ → Type 0
-Goes heap owner before link [] last next = (before ≡ last) × (link ≡ next)
-Goes heap owner before link (addr ∷ addrs) last next =
-    (link ≡ addr) × (addr ≢ 0) × (is_member heap owner addr ≡ true) × (is_named heap owner before addr ≡ true)
-    × Goes heap owner addr (next_of heap owner addr) addrs last next
+abbrev pub ChainGoes : View → Owner → ℕ → ℕ → List ℕ → ℕ → ℕ → Type 0
+ChainGoes heap owner before link [] last next = (before ≡ last) × (link ≡ next)
+ChainGoes heap owner before link (addr ∷ addrs) last next =
+    (link ≡ addr) × (addr ≢ 0) × (is_member heap owner addr ≡ true) × (names_owner_at heap owner before addr ≡ true)
+    × ChainGoes heap owner addr (next_of heap owner addr) addrs last next
 
 -- the link with which a chain begins
-abbrev pub first_of : View → Owner → ℕ
-first_of heap owner = told_at heap (first_site owner)
+abbrev pub first_link : View → Owner → ℕ
+first_link heap owner = told_at heap (first_site owner)
 
 -- whether the word for the last block of a chain, if it has one, has this address
 abbrev pub has_last : View → Owner → ℕ → Bool
@@ -51,7 +48,7 @@ pub record Chain : Type 0 where
 -- a chain is right: it goes over its blocks and ends, and the word for the last one is right
 pub record IsChain (heap : View) (chain : Chain) : Type 0 where
   pub last : ℕ
-  pub goes : Goes heap chain.owner 0 (first_of heap chain.owner) chain.addrs last 0
+  pub goes : ChainGoes heap chain.owner 0 (first_link heap chain.owner) chain.addrs last 0
   pub ends : has_last heap chain.owner last ≡ true
 
 -- the addresses of all blocks of these chains
@@ -69,12 +66,12 @@ pub record ChainsReach (heap : View) (owners : List Owner) (reached : List ℕ) 
 -- the chains of some owners reach these blocks, and then that of another goes over other blocks up to a link, behind a block
 pub record ChainComes (heap : View) (owners : List Owner) (owner : Owner) (reached addrs : List ℕ) (before link : ℕ) : Type 0 where
   pub done : ChainsReach heap owners reached
-  pub goes : Goes heap owner 0 (first_of heap owner) addrs before link
+  pub goes : ChainGoes heap owner 0 (first_link heap owner) addrs before link
   pub once : AreOnce (reached ++ addrs)
 
 -- where the link behind a block of a chain stands, or behind none the first one
 abbrev pub holder : Owner → ℕ → ℕ
-holder owner before = cond (before == 0) (place_of (first_site owner)) before
+holder owner before = cond (before == 0) (site_place (first_site owner)) before
 
 -- a link leads to no block of the chain's kind, or to one that was reached
 pub record LeadsNowhere (heap : View) (owner : Owner) (reached : List ℕ) (before link place : ℕ) : Type 0 where
@@ -86,7 +83,7 @@ pub record LeadsNowhere (heap : View) (owner : Owner) (reached : List ℕ) (befo
 pub record LeadsToOther (heap : View) (owner : Owner) (reached : List ℕ) (before link place : ℕ) : Type 0 where
   pub some : link ≢ 0
   pub new : (is_member heap owner link && not (is_among reached link)) ≡ true
-  pub wrong : is_named heap owner before link ≡ false
+  pub wrong : names_owner_at heap owner before link ≡ false
   pub at : place ≡ link
 
 -- the chain ends, and the word for the last block has another address
@@ -95,7 +92,7 @@ pub record EndsElsewhere (heap : View) (owner : Owner) (before link place : ℕ)
   pub site : Site
   pub has : last_site owner ≡ Some site
   pub wrong : (told_at heap site == before) ≡ false
-  pub at : place ≡ place_of site
+  pub at : place ≡ site_place site
 
 -- a chain that reached these blocks is wrong where it came to a link behind a block: the place of a link is that of the word in
 -- which it stands, and a block that names another is told by its address

@@ -4,7 +4,7 @@ use Rattle.std.specs.List.{All}
 use Rattle.sdr_base.specs.Blocks.{Block}
 use Rattle.sdr_base.specs.Entries.{Entries}
 use Rattle.sdr_base.specs.Linked.{first_of, last_of, linked}
-use Rattle.sdr_owner.specs.Chains.{Goes, is_member, is_named, next_of}
+use Rattle.sdr_owner.specs.Chains.{ChainGoes, is_member, names_owner_at, next_of}
 use Rattle.sdr_owner.specs.Owners.{first_site, kind_in, names_owner, next_field, told_at}
 use Rattle.sdr_owner.specs.View.{View, is_kind, word_of}
 use Rattle.sdr_owner.specs.declared.owner.Owner.{Owner}
@@ -15,8 +15,8 @@ pub record StandsAt (heap : View) (entry : ℕ × Block) : Type 0 where
   pub is : heap.blocks entry.0 ≡ Some entry.1
 
 -- each of these blocks stands at its address
-abbrev pub StandIn : View → Entries → Type 0
-StandIn heap entries = All (StandsAt heap) entries
+abbrev pub AllStandAt : View → Entries → Type 0
+AllStandAt heap entries = All (StandsAt heap) entries
 
 -- The blocks of a layout fit the chain of an owner: each is of its kind, links to the next one, and names its owner and the one
 -- before it.
@@ -28,12 +28,12 @@ pub record FitsChain {X : Type 0} (owner : Owner) (block : ℕ → ℕ → X →
 -- each block of a chain is that of what is read of it
 pub record ReadsBack {X : Type 0} (heap : View) (owner : Owner) (addr : X → ℕ) (block : ℕ → ℕ → X → Block) (read : ℕ → X) : Type 0 where
   pub at : (a : ℕ) → addr (read a) ≡ a
-  pub is : (before a : ℕ) → is_member heap owner a ≡ true → is_named heap owner before a ≡ true →
+  pub is : (before a : ℕ) → is_member heap owner a ≡ true → names_owner_at heap owner before a ≡ true →
       heap.blocks a ≡ Some (block before (next_of heap owner a) (read a))
 
 -- the chain of an owner, from the address of the first of these rows on, goes over just the blocks of the rows, and ends
 abbrev pub GoesOver : {X : Type 0} → View → Owner → (X → ℕ) → List X → Type 0
-GoesOver heap owner addr rows = Goes heap owner 0 (first_of addr 0 rows) (map addr rows) (last_of addr 0 rows) 0
+GoesOver heap owner addr rows = ChainGoes heap owner 0 (first_of addr 0 rows) (map addr rows) (last_of addr 0 rows) 0
 
 -- the addresses of these rows fit a word
 abbrev pub AreSmall : {X : Type 0} → (X → ℕ) → List X → Type 0
@@ -41,7 +41,7 @@ AreSmall addr rows = All (λ row. addr row < 2 ^ 64) rows
 
 -- what a chain goes over from a link behind a block, up to a last block, is kept by these rows, linked as a layout says
 pub record AreRows {X : Type 0} (heap : View) (addr : X → ℕ) (block : ℕ → ℕ → X → Block) (before link : ℕ) (rows : List X) (last : ℕ) : Type 0 where
-  pub stand : StandIn heap (linked addr block before 0 rows)
+  pub stand : AllStandAt heap (linked addr block before 0 rows)
   pub first : link ≡ first_of addr 0 rows
   pub end : last ≡ last_of addr before rows
 
@@ -50,5 +50,5 @@ pub record AreRows {X : Type 0} (heap : View) (addr : X → ℕ) (block : ℕ �
 abbrev pub ChainsAreRows : {X : Type 0} → Owner → (X → ℕ) → (ℕ → ℕ → X → Block) → Type 0
 ChainsAreRows {X} owner addr block =
     (heap : View) (read : ℕ → X) (addrs : List ℕ) (last : ℕ) → ReadsBack heap owner addr block read →
-    Goes heap owner 0 (told_at heap (first_site owner)) addrs last 0 →
+    ChainGoes heap owner 0 (told_at heap (first_site owner)) addrs last 0 →
     AreRows heap addr block 0 (told_at heap (first_site owner)) (map read addrs) last

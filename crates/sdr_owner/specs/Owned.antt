@@ -4,7 +4,7 @@ use Rattle.std.specs.List.{All}
 use Rattle.sdr_base.specs.declared.line.TheConstants.{WORD}
 use Rattle.sdr_owner.specs.Chains.{ChainsReach, IsWrongChain}
 use Rattle.sdr_owner.specs.Owners.{owners_of}
-use Rattle.sdr_owner.specs.Rules.{AreKept, IsBroken, all_rules}
+use Rattle.sdr_owner.specs.Rules.{AreKept, IsBroken, owner_rules}
 use Rattle.sdr_owner.specs.View.{View, view_in}
 
 -- each of these is a byte
@@ -15,13 +15,13 @@ AreBytes bytes = All (λ byte. byte < 2 ^ 8) bytes
 pub record IsOwned (heap : View) (words : ℕ) : Type 0 where
   pub reached : List ℕ
   pub chains : ChainsReach heap (owners_of heap words) reached
-  pub kept : AreKept heap reached all_rules
+  pub kept : AreKept heap reached owner_rules
 
 -- the chains are right, and then a rule is broken first at this address
 pub record BreaksRules (heap : View) (words addr : ℕ) : Type 0 where
   pub reached : List ℕ
   pub chains : ChainsReach heap (owners_of heap words) reached
-  pub broken : IsBroken heap reached all_rules addr
+  pub broken : IsBroken heap reached owner_rules addr
 
 -- what is wrong first is so at this place: a chain, or else a rule
 abbrev pub IsWrongOwner : View → ℕ → ℕ → Type 0

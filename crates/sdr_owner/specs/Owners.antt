@@ -31,9 +31,9 @@ told_at heap (sites.Control word) = heap.roots word
 told_at heap (sites.Block addr field) = word_of (heap.blocks addr) field
 
 -- where it is told that such a word is wrong: at the control word, or at the block's address
-abbrev pub place_of : Site → ℕ
-place_of (sites.Control word) = WORD * word
-place_of (sites.Block addr field) = addr
+abbrev pub site_place : Site → ℕ
+site_place (sites.Control word) = WORD * word
+site_place (sites.Block addr field) = addr
 
 -- the control word with which those of an account begin
 abbrev pub account_word : Acct → ℕ

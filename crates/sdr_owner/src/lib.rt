@@ -39,4 +39,4 @@ pub use laws::{one_place_is_wrong_first, owned_heaps_are_not_wrong};
 pub use linking::{chained_blocks_read_back, chains_are_linked_rows, linked_rows_make_chains};
 pub use owner::{Owner, Site};
 pub use region::{is_kind, length_of, root, word};
-pub use rules::{Rule, names_raw};
+pub use rules::{OwnerRule, names_raw};

@@ -6,7 +6,7 @@ ghost use Rattle.sdr_base.specs.Lists.{ListElement, addr_of, element_block, elem
 ghost use Rattle.sdr_base.specs.Tickets.{TicketRow, ticket_addr, ticket_block, ticket_entries};
 ghost use Rattle.sdr_base.specs.ZcoObjects.{CapsuleRow, ExtentRow, capsule_addr, capsule_block, capsule_entries, extent_addr, extent_block, extent_entries};
 ghost use Rattle.sdr_base.specs.declared.account.Acct.{Acct};
-ghost use Rattle.sdr_owner.specs.Linking.{AreSmall, ChainsAreRows, GoesOver, ReadsBack, StandIn};
+ghost use Rattle.sdr_owner.specs.Linking.{AreSmall, ChainsAreRows, GoesOver, ReadsBack, AllStandAt};
 ghost use Rattle.sdr_owner.specs.Reading.{IsReadable, capsule_read, element_read, extent_read, item_read, name_read, ticket_read};
 ghost use Rattle.sdr_owner.specs.View.{View};
 
@@ -16,24 +16,24 @@ use crate::owner::Owner;
 /// owner goes over them in order. It does nothing.
 pub fn linked_rows_make_chains()
     ensures names { (heap : View) (rows : List NameRow) → AreSmall name_addr rows →
-        StandIn heap (catalogue_entries rows) → GoesOver heap Owner.Catalogue name_addr rows }
+        AllStandAt heap (catalogue_entries rows) → GoesOver heap Owner.Catalogue name_addr rows }
     ensures tickets { (heap : View) (account : Acct) (rows : List TicketRow) →
-        AreSmall ticket_addr rows → StandIn heap (ticket_entries account rows) →
+        AreSmall ticket_addr rows → AllStandAt heap (ticket_entries account rows) →
         GoesOver heap (Owner.Queue account) ticket_addr rows }
     ensures elements { (heap : View) (list : ℕ) (rows : List ListElement) → list < 2 ^ 64 →
-        AreSmall addr_of rows → StandIn heap (elements_between list 0 0 rows) →
+        AreSmall addr_of rows → AllStandAt heap (elements_between list 0 0 rows) →
         GoesOver heap (Owner.List list) addr_of rows }
     ensures items { (heap : View) (hash front : ℕ) (rows : List HashItem) →
-        AreSmall item_addr rows → StandIn heap (bucket_entries rows) →
+        AreSmall item_addr rows → AllStandAt heap (bucket_entries rows) →
         GoesOver heap (Owner.Bucket hash front) item_addr rows }
     ensures headers { (heap : View) (object : ℕ) (rows : List CapsuleRow) →
-        AreSmall capsule_addr rows → StandIn heap (capsule_entries rows) →
+        AreSmall capsule_addr rows → AllStandAt heap (capsule_entries rows) →
         GoesOver heap (Owner.Headers object) capsule_addr rows }
     ensures extents { (heap : View) (object : ℕ) (rows : List ExtentRow) →
-        AreSmall extent_addr rows → StandIn heap (extent_entries rows) →
+        AreSmall extent_addr rows → AllStandAt heap (extent_entries rows) →
         GoesOver heap (Owner.Extents object) extent_addr rows }
     ensures trailers { (heap : View) (object : ℕ) (rows : List CapsuleRow) →
-        AreSmall capsule_addr rows → StandIn heap (capsule_entries rows) →
+        AreSmall capsule_addr rows → AllStandAt heap (capsule_entries rows) →
         GoesOver heap (Owner.Trailers object) capsule_addr rows }
 {}
 

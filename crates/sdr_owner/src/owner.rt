@@ -3,7 +3,7 @@ ghost use Rattle.std.specs.Prelude.{◌≡◌, ◌≤◌, ◌<◌, ◌^◌, leng
 ghost use Rattle.sdr_base.specs.Cells.{IsRegionSize};
 ghost use Rattle.sdr_base.specs.KeptHeap.{block_in};
 ghost use Rattle.sdr_base.specs.ZcoObjects.{account_number};
-ghost use Rattle.sdr_owner.specs.Owners.{account_word, first_site, kind_in, last_site, names_owner, next_field, place_of, told_at};
+ghost use Rattle.sdr_owner.specs.Owners.{account_word, first_site, kind_in, last_site, names_owner, next_field, site_place, told_at};
 ghost use Rattle.sdr_owner.specs.View.{view_in};
 
 use crate::region::{root, word};
@@ -53,8 +53,8 @@ impl Site {
 
     /// Where it is told that the word is wrong: at the control word, or at the block's address.
     pub fn place(self) -> u64
-        requires placed { place_of self < 2 ^ 64 }
-        ensures { result ≡ place_of self }
+        requires placed { site_place self < 2 ^ 64 }
+        ensures { result ≡ site_place self }
     {
         match self {
             Site::Control(number) => WORD * number,
@@ -88,7 +88,7 @@ impl Owner {
     /// The word with the link to the first block.
     pub fn first(self) -> Site
         ensures is { result ≡ first_site self }
-        ensures placed { place_of result < 2 ^ 64 }
+        ensures placed { site_place result < 2 ^ 64 }
     {
         match self {
             Owner::Catalogue => Site::Control(FIRST_NAME),
@@ -119,7 +119,7 @@ impl Owner {
     /// The word with the address of the last block. A bucket has none.
     pub fn last(self) -> Option<Site>
         ensures is { result ≡ last_site self }
-        ensures placed { IfSome result (λ site. place_of site < 2 ^ 64) }
+        ensures placed { IfSome result (λ site. site_place site < 2 ^ 64) }
     {
         match self {
             Owner::Catalogue => Some(Site::Control(LAST_NAME)),

@@ -5,7 +5,7 @@ ghost use Rattle.sdr_base.specs.KeptHeap.{block_in};
 ghost use Rattle.sdr_base.specs.Sources.{medium_number};
 ghost use Rattle.sdr_base.specs.declared.line.TheConstants.{WORD};
 ghost use Rattle.sdr_owner.specs.Marks.{AreMarked};
-ghost use Rattle.sdr_owner.specs.Rules.{AreKept, BreaksFirst, IsBroken, IsKept, all_rules, is_chained, is_source_of, keeps, names_raw, names_source};
+ghost use Rattle.sdr_owner.specs.Rules.{AreKept, BreaksFirst, IsBroken, IsKept, owner_rules, is_chained, is_source_of, keeps_owner_rule, is_source_of_raw, is_raw_of_source};
 ghost use Rattle.sdr_owner.specs.View.{view_in};
 
 use crate::error::Wrong;
@@ -15,7 +15,7 @@ use sdr_base::{Addr, Kind, Medium, WORD};
 
 /// What each block has to keep, if the rule speaks of its kind.
 #[derive(Clone, Copy)]
-pub enum Rule {
+pub enum OwnerRule {
     /// The source of an extent is there.
     SourceIsThere,
     /// The raw object of a source is there.
@@ -43,7 +43,7 @@ fn medium_number(medium: Medium) -> u64
 /// Whether the block at an address is a source whose bytes are a raw object's.
 pub fn names_raw(heap: &[u8], addr: Addr) -> bool
     requires region { IsRegionSize (length heap.now) }
-    ensures { result ≡ names_raw (block_in heap.now addr) }
+    ensures { result ≡ is_source_of_raw (block_in heap.now addr) }
 {
     let medium = word(heap, addr, source::MEDIUM);
     is_kind(heap, addr, Kind::Source)
@@ -53,7 +53,7 @@ pub fn names_raw(heap: &[u8], addr: Addr) -> bool
 // Whether the block at an address is a raw object that names a source.
 fn names_source(heap: &[u8], addr: Addr) -> bool
     requires region { IsRegionSize (length heap.now) }
-    ensures { result ≡ names_source (block_in heap.now addr) }
+    ensures { result ≡ is_raw_of_source (block_in heap.now addr) }
 {
     is_kind(heap, addr, Kind::Raw) && word(heap, addr, raw::SOURCE) != 0
 }
@@ -87,32 +87,32 @@ fn is_marked(marks: &[bool], addr: Addr) -> bool
 }
 
 // Whether the block at an address keeps a rule.
-fn keeps(heap: &[u8], marks: &[bool], rule: Rule, addr: Addr) -> bool
+fn keeps(heap: &[u8], marks: &[bool], rule: OwnerRule, addr: Addr) -> bool
     requires region { IsRegionSize (length heap.now) }
     ensures { (reached : List ℕ) → AreMarked reached marks.now →
-        result ≡ keeps (view_in heap.now) reached rule addr }
+        result ≡ keeps_owner_rule (view_in heap.now) reached rule addr }
 {
     match rule {
-        Rule::SourceIsThere => {
+        OwnerRule::SourceIsThere => {
             !is_kind(heap, addr, Kind::Extent)
                 || is_kind(heap, word(heap, addr, extent::SOURCE), Kind::Source)
         }
-        Rule::RawIsThere => {
+        OwnerRule::RawIsThere => {
             !names_raw(heap, addr) || is_kind(heap, word(heap, addr, source::SUBJECT), Kind::Raw)
         }
-        Rule::SourceNamesRaw => {
+        OwnerRule::SourceNamesRaw => {
             !names_source(heap, addr) || is_source_of(heap, addr, word(heap, addr, raw::SOURCE))
         }
-        Rule::RawNamesSource => {
+        OwnerRule::RawNamesSource => {
             !names_raw(heap, addr)
                 || word(heap, word(heap, addr, source::SUBJECT), raw::SOURCE) == addr
         }
-        Rule::IsReached => !is_chained(heap, addr) || is_marked(marks, addr),
+        OwnerRule::IsReached => !is_chained(heap, addr) || is_marked(marks, addr),
     }
 }
 
 // Checks that each block keeps a rule. What doesn't first is told by its address.
-fn check_rule(heap: &[u8], marks: &[bool], rule: Rule) -> Result<(), Wrong>
+fn check_rule(heap: &[u8], marks: &[bool], rule: OwnerRule) -> Result<(), Wrong>
     requires region { IsRegionSize (length heap.now) }
     requires long { length marks.now * WORD ≡ length heap.now }
     ensures kept { (reached : List ℕ) → AreMarked reached marks.now →
@@ -136,13 +136,13 @@ pub fn check_rules(heap: &[u8], marks: &[bool]) -> Result<(), Wrong>
     requires region { IsRegionSize (length heap.now) }
     requires long { length marks.now * WORD ≡ length heap.now }
     ensures kept { (reached : List ℕ) → AreMarked reached marks.now →
-        OnOk result (AreKept (view_in heap.now) reached all_rules) }
+        OnOk result (AreKept (view_in heap.now) reached owner_rules) }
     ensures broken { (reached : List ℕ) → AreMarked reached marks.now →
-        IfErr result (λ wrong. IsBroken (view_in heap.now) reached all_rules wrong.place) }
+        IfErr result (λ wrong. IsBroken (view_in heap.now) reached owner_rules wrong.place) }
 {
-    check_rule(heap, marks, Rule::SourceIsThere)?;
-    check_rule(heap, marks, Rule::RawIsThere)?;
-    check_rule(heap, marks, Rule::SourceNamesRaw)?;
-    check_rule(heap, marks, Rule::RawNamesSource)?;
-    check_rule(heap, marks, Rule::IsReached)
+    check_rule(heap, marks, OwnerRule::SourceIsThere)?;
+    check_rule(heap, marks, OwnerRule::RawIsThere)?;
+    check_rule(heap, marks, OwnerRule::SourceNamesRaw)?;
+    check_rule(heap, marks, OwnerRule::RawNamesSource)?;
+    check_rule(heap, marks, OwnerRule::IsReached)
 }

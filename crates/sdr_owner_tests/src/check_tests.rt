@@ -1,12 +1,12 @@
 // The whole audit of a small heap, and the world that it tells.
 use crate::count_tests::BUNDLE;
 use crate::regions::{Word, surveyed, told};
-use sdr_check::{AuditError, Why};
+use sdr_check::{AuditError, Check};
 use sdr_model::{Thing, World};
 use std::alloc::Global;
 
 /// Words that are changed, and the place and the check that are told then.
-type Row = (&'static [Word], u64, Why);
+type Row = (&'static [Word], u64, Check);
 
 // The string hello at 2,056; a list at 2,072 with the element at 2,112; the list's name mail at 2,152; a source of ten bytes of a file
 // at 2,216; and an outbound object at 2,280 with an extent of all of them at 2,360, and with a header of three bytes at 2,400.
@@ -60,13 +60,13 @@ const MAIL: [Word; 44] = [
 ];
 
 const WRONG: [Row; 7] = [
-    (&[(0, 65535)], 0, Why::Control),
-    (&[(2048, 0x0e00_0001_0000_0006)], 2048, Why::Block),
-    (&[(1056, 0xa108_0808_0212_0000)], 1061, Why::Bits),
-    (&[(32, 2056)], 32, Why::Free),
-    (&[(2056, 0x0468_656c_6c6f_0000)], 2056, Why::Content),
-    (&[(2112, 0)], 2112, Why::Owner),
-    (&[(816, 121)], 816, Why::Count),
+    (&[(0, 65535)], 0, Check::Control),
+    (&[(2048, 0x0e00_0001_0000_0006)], 2048, Check::Block),
+    (&[(1056, 0xa108_0808_0212_0000)], 1061, Check::Bits),
+    (&[(32, 2056)], 32, Check::Free),
+    (&[(2056, 0x0468_656c_6c6f_0000)], 2056, Check::Content),
+    (&[(2112, 0)], 2112, Check::Owner),
+    (&[(816, 121)], 816, Check::Count),
 ];
 
 // The first row that is told otherwise.
@@ -91,7 +91,7 @@ fn a_heap_passes_the_whole_audit_and_each_check_tells_its_place(rt: HostRuntime)
     // Two tickets of one number.
     let twice = AuditError::Damaged {
         place: 848,
-        why: Why::Queue,
+        why: Check::Queue,
     };
     assert_eq!(rt;
         surveyed(rt.alloc(), &BUNDLE, &[(2360, 1)]),

@@ -3,7 +3,7 @@ ghost use Rattle.std.specs.Prelude.{◌≤◌};
 
 use sdr_base::{Cells, MemoryCells, Stop, WORD, write_number};
 use sdr_check::{AuditError, check, read_world};
-use sdr_count::{Why, check_copy};
+use sdr_count::{ThingCheck, check_copy};
 use sdr_model::World;
 use sdr_owner::check_owners;
 use std::alloc::Global;
@@ -46,7 +46,7 @@ pub fn audited(alloc: Global, words: &[Word], changes: &[Word]) -> Option<Result
 }
 
 /// The same of owners, counts and queues: what is wrong first, and the check that found it.
-pub fn checked(alloc: Global, words: &[Word], changes: &[Word]) -> Option<Result<(), (u64, Why)>> {
+pub fn checked(alloc: Global, words: &[Word], changes: &[Word]) -> Option<Result<(), (u64, ThingCheck)>> {
     let mut cells = filled(alloc, words, changes)?;
     let size = cells.size();
     let mut heap = vec![in alloc; 0u8; size as usize].ok()?;

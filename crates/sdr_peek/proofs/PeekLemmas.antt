@@ -15,7 +15,7 @@ use Rattle.sdr_log.specs.Calls.{GivesNone, IsFramed}
 use Rattle.sdr_log.proofs.LogLemmas.{put_back_of-closed}
 use Rattle.sdr_log.specs.Frame.{disk_bytes, frame_of, heap_place}
 use Rattle.sdr_log.specs.Log.{first_gate, heap_of, log_of, put_back_in, put_back_of, read_log}
-use Rattle.sdr_log.specs.Logged.{Gives}
+use Rattle.sdr_log.specs.Logged.{GivesHeap}
 use Rattle.sdr_log.specs.declared.frame.Frame.{Frame}
 use Rattle.sdr_peek.specs.Peeking.{IsCopied}
 
@@ -69,7 +69,8 @@ pub none_copied : (f : Frame) (x copy : List ℕ) → IsCopied f x copy → Give
 none_copied f x copy is none = sym is.gives ∙ none is.head
 
 -- the heap that a copy gives is the disk's
-pub heap_copied : (f : Frame) (x copy heap : List ℕ) → IsCopied f x copy → Gives heap copy → put_back_of x ≡ Some heap
+pub heap_copied : (f : Frame) (x copy heap : List ℕ) → IsCopied f x copy → GivesHeap heap copy → put_back_of x
+    ≡ Some heap
 heap_copied f x copy heap is gives = sym is.gives ∙ gives
 
 -- of the bytes that were read into a vector

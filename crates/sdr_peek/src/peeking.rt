@@ -8,7 +8,7 @@ ghost use Rattle.sdr_image.specs.Opening.{HasImageCause, OnNotFormatted};
 ghost use Rattle.sdr_log.specs.Calls.{GivesNone, IsFramed};
 ghost use Rattle.sdr_log.specs.Frame.{IsInLimits, disk_bytes};
 ghost use Rattle.sdr_log.specs.Log.{first_gate, heap_of, put_back_of};
-ghost use Rattle.sdr_log.specs.Logged.{Gives};
+ghost use Rattle.sdr_log.specs.Logged.{GivesHeap};
 ghost use Rattle.sdr_peek.specs.Peeking.{IsCopied};
 
 use crate::Still;
@@ -27,7 +27,7 @@ fn copied<D: Disk>(alloc: Global, disk: &mut D, frame: &Frame) -> Result<MemoryD
     ensures formatted { IfErr result (λ why. OnNotFormatted why ⊥) }
     ensures cause { HasImageCause (D.faults disk.old) (D.faults disk.new) result }
     ensures kept { D.size disk.new ≡ D.size disk.old }
-    ensures reads { Reads D.bytes D.moment D.may_leave disk.old disk.new }
+    ensures reads { Reads D.bytes D.moment D.may_hold_after disk.old disk.new }
 {
     let mut bytes = vec![in alloc; 0; frame.disk_bytes() as usize]?;
     disk.read_at(0, &mut bytes)?;
@@ -41,7 +41,7 @@ fn is_closed<D: Disk>(disk: &mut D) -> Result<bool, DiskFault>
         → IfTold (D.bytes disk.old) (λ x. first_gate x ≡ 0)) }
     ensures cause { HasCause (D.faults disk.old) (D.faults disk.new) result }
     ensures size { D.size disk.new ≡ D.size disk.old }
-    ensures reads { Reads D.bytes D.moment D.may_leave disk.old disk.new }
+    ensures reads { Reads D.bytes D.moment D.may_hold_after disk.old disk.new }
 {
     let mut gate = [0; 1];
     disk.read_at(LINE, &mut gate)?;
@@ -56,7 +56,7 @@ fn heap_region<D: Disk>(alloc: Global, disk: &mut D, frame: &Frame) -> Result<St
     ensures formatted { IfErr result (λ why. OnNotFormatted why ⊥) }
     ensures cause { HasImageCause (D.faults disk.old) (D.faults disk.new) result }
     ensures size { D.size disk.new ≡ D.size disk.old }
-    ensures reads { Reads D.bytes D.moment D.may_leave disk.old disk.new }
+    ensures reads { Reads D.bytes D.moment D.may_hold_after disk.old disk.new }
 {
     let mut bytes = vec![in alloc; 0; (LINE * frame.heap_lines) as usize]?;
     disk.read_at(frame.heap_place(), &mut bytes)?;
@@ -68,7 +68,7 @@ fn heap_region<D: Disk>(alloc: Global, disk: &mut D, frame: &Frame) -> Result<St
 fn put_back_copy(alloc: Global, copy: &mut MemoryDisk, frame: Frame) -> Result<Still, ImageError>
     requires limits { IsInLimits frame }
     requires fits { disk_bytes frame ≤ size_now copy.old }
-    ensures heap { IfOk result (λ s. IfTold (bytes_now copy.old) (Gives s)) }
+    ensures heap { IfOk result (λ s. IfTold (bytes_now copy.old) (GivesHeap s)) }
     ensures none { IfErr result (λ why. OnNotFormatted why
         (IfTold (bytes_now copy.old) (GivesNone frame))) }
     ensures sound { IfErr result (λ why. why ≢ ImageError.DiskFault) }
@@ -95,7 +95,7 @@ pub fn peek<D: Disk>(alloc: Global, disk: &mut D) -> Result<Still, ImageError>
         (IfTold (D.bytes disk.old) (λ x. put_back_of x ≡ None))) }
     ensures cause { HasImageCause (D.faults disk.old) (D.faults disk.new) result }
     ensures size { D.size disk.new ≡ D.size disk.old }
-    ensures reads { Reads D.bytes D.moment D.may_leave disk.old disk.new }
+    ensures reads { Reads D.bytes D.moment D.may_hold_after disk.old disk.new }
 {
     let Some(frame) = read_frame(disk)? else {
         return Err(ImageError::NotFormatted);

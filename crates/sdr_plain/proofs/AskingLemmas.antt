@@ -30,7 +30,7 @@ use Rattle.sdr_model.specs.Reading.{is_reading, reads_media}
 use Rattle.sdr_model.specs.Rows.{ByRow}
 use Rattle.sdr_model.specs.Step.{StopsWith, is_answer}
 use Rattle.sdr_model.specs.Steps.{Outcome, Refuses}
-use Rattle.sdr_model.specs.Wire.{Gives, Spells, ToldBytes, headers_part, source_part, trailers_part, wire_part}
+use Rattle.sdr_model.specs.Wire.{GivesBytes, Spells, ToldBytes, headers_part, source_part, trailers_part, wire_part}
 use Rattle.sdr_model.specs.World.{World, block_at, misnamed, refusal_for}
 use Rattle.sdr_model.specs.Zco.{object_at}
 use Rattle.sdr_model.specs.declared.answer.Answer.{Answer}
@@ -42,9 +42,9 @@ use Rattle.sdr_model.specs.declared.call.Call.TheVariants as calls
 use Rattle.sdr_model.specs.declared.event.Event.{Event}
 use Rattle.sdr_model.specs.declared.event.Event.TheVariants as events
 use Rattle.sdr_model.specs.declared.piece.Piece.{Piece}
-use Rattle.sdr_model.specs.declared.things.Block.{Block}
+use Rattle.sdr_model.specs.declared.things.UsedBlock.{UsedBlock}
 use Rattle.sdr_model.specs.declared.zco.ZcoObject.{ZcoObject}
-use Rattle.sdr_plain.specs.Asking.{Asks, AsksNothing, HasPieces, IsGap, StepsAt, called, made_dry, settled}
+use Rattle.sdr_plain.specs.Asking.{Asks, AsksNothing, HasPieces, IsLapse, StepsAt, called, made_dry, settled}
 use Rattle.sdr_plain.specs.Bare.{Worlds, machine_on}
 
 -- a call that reads media reads
@@ -82,7 +82,8 @@ refuses_quietly reply refusal is nothing = record {
 }
 
 -- a refused address tells nothing of media
-misnamed_quietly : (reply : Reply) (addr : ℕ) (block : Option Block) → reply ≡ replies.Refused (refusal_for addr block)
+misnamed_quietly : (reply : Reply) (addr : ℕ) (block : Option UsedBlock) → reply
+    ≡ replies.Refused (refusal_for addr block)
     → RefusesQuietly reply
 misnamed_quietly reply addr None is = refuses_quietly reply _ is (λ media w call bytes. tt)
 misnamed_quietly reply addr (Some block) is = refuses_quietly reply _ is (λ media w call bytes. tt)
@@ -90,13 +91,14 @@ misnamed_quietly reply addr (Some block) is = refuses_quietly reply _ is (λ med
 -- a call that asks for no bytes of an object is refused, and tells nothing of media
 module _ (w : World) (o : Outcome) (addr count : ℕ) (of : ZcoObject → ToldBytes) where
   long_quietly : (z : ZcoObject) (long : Bool) → nat_lt longest_read count ≡ long → ¬ AsksPage (Some z) count
-      → MatchBool long (Refuses w o (refusals.BadLength count longest_read)) (Gives w o (of z)) → RefusesQuietly o.reply
+      → MatchBool long (Refuses w o (refusals.BadLength count longest_read)) (GivesBytes w o (of z)) →
+          RefusesQuietly o.reply
   long_quietly z true is fails h = refuses_quietly o.reply _ h.2 (λ media w call bytes. tt)
   long_quietly z false is fails h = absurd (fails (ltb-false longest_read count is))
 
   gives_quietly : (z : Option ZcoObject) → ¬ AsksPage z count
       → MatchOption z (Refuses w o (misnamed w addr))
-      (λ z. MatchBool (nat_lt longest_read count) (Refuses w o (refusals.BadLength count longest_read)) (Gives w o (of z)))
+      (λ z. MatchBool (nat_lt longest_read count) (Refuses w o (refusals.BadLength count longest_read)) (GivesBytes w o (of z)))
       → RefusesQuietly o.reply
   gives_quietly None fails h = misnamed_quietly o.reply addr (block_at w addr) h.2
   gives_quietly (Some z) fails h = long_quietly z (nat_lt longest_read count) refl fails h
@@ -113,12 +115,13 @@ row_quietly w o (calls.ReceiveTrailers addr place count) reads fails h =
     gives_quietly w o addr count (trailers_part w place count) (object_at w addr) (λ page. fails (record { reads = refl; there = page })) h
 row_quietly w o call reads fails h = absurd (true≢false (sym reads))
 
-stops_with : (call : Call) (reply : Reply) → IsGap reply → reads_media call ≡ true → StopsWith reply call [] []
+stops_with : (call : Call) (reply : Reply) → IsLapse reply → reads_media call ≡ true → StopsWith reply call [] []
 stops_with call replies.MediaFault gap reads = (refl, reads)
 stops_with call (replies.Refused (refusals.SourceShort have want)) gap reads = (refl, reads, gap)
 stops_with call reply gap reads = absurd gap
 
-misses : (w : World) (call : Call) (reply : Reply) → IsGap reply → asks_media w call ≡ true → MayMissMedia w call reply
+misses : (w : World) (call : Call) (reply : Reply) → IsLapse reply → asks_media w call ≡ true →
+    MayMissMedia w call reply
 misses w call replies.MediaFault gap asks = asks
 misses w call (replies.Refused (refusals.SourceShort have want)) gap asks = asks
 misses w call reply gap asks = absurd gap
@@ -225,7 +228,7 @@ module _ (r : Roll) (w : Worlds) (daemon : ℕ) (call : Call) (pieces : List Pie
       let row = asked-row w.now call bytes has.asks (subst (λ told. Spells told bytes) told_same spells) in
       comes_to_reply line (replies.Bytes (length bytes)) (Some bytes) tt (inl (record { step = row; in_order = tt; counted = omega arith }))
 
-  stops_here : list_any lies_with_media pieces ≡ true → (line : ℕ) (reply : Reply) → IsGap reply → StepsAt m daemon line (events.Say call) (called reply) (settled m daemon None)
+  stops_here : list_any lies_with_media pieces ≡ true → (line : ℕ) (reply : Reply) → IsLapse reply → StepsAt m daemon line (events.Say call) (called reply) (settled m daemon None)
   stops_here outside line reply gap =
       let told = pieces_told (pieces_asked w.now call) in
       comes_to_reply line reply None

@@ -28,12 +28,12 @@ use Rattle.sdr_model.specs.declared.answer.Reply.TheVariants as replies
 use Rattle.sdr_model.specs.declared.call.Call.{Call}
 use Rattle.sdr_model.specs.declared.things.Thing.{Thing}
 use Rattle.sdr_lock.specs.Core.{first_core}
-use Rattle.sdr_lock.specs.Gaps.{Gaps, HasGapCause, no_gaps}
-use Rattle.sdr_lock.specs.Ground.{bare, MayMissMedia, State, Steps, kept, put_back}
-use Rattle.sdr_lock.specs.Standing.{Standing}
-use Rattle.sdr_lock.specs.Serving.{Brings, Calls, Keeps, KeepsGround, PutsBack, Shows, ShowsBytes, shown_in, with_given}
+use Rattle.sdr_lock.specs.Lapses.{Lapses, HasLapseCause, no_lapses}
+use Rattle.sdr_lock.specs.Ground.{bare, MayMissMedia, State, Steps, committed, rolled_back}
+use Rattle.sdr_lock.specs.Standing.{GroundState}
+use Rattle.sdr_lock.specs.Serving.{Brings, Calls, Commits, KeepsGround, RollsBack, Shows, ShowsBytes, shown_in, with_given}
 use Rattle.sdr_lock.specs.declared.has_ground.HasGround.{Ghosts}
-use Rattle.sdr_lock.proofs.GroundLemmas.{gaps_same, one_less}
+use Rattle.sdr_lock.proofs.GroundLemmas.{lapses_same, one_less}
 use Rattle.sdr_plain.proofs.BoundLaws.{bound_kept_dry}
 use Rattle.sdr_plain.specs.Bare.{IsAfter, LastsBare, StandsBare, Worlds, worlds_back, worlds_kept, worlds_shown}
 
@@ -43,7 +43,7 @@ bare_ground = record {
   stands = λ w v. StandsBare w v;
   moment = λ _. 0;
   faults = λ _. 0;
-  gaps = λ _. no_gaps;
+  lapses = λ _. no_lapses;
   told = λ _. None;
   lasts = λ w n. LastsBare w n;
   left = λ _ _ _. ⊥;
@@ -128,8 +128,8 @@ lasts_empty n within = record { calls = 0; back = empty; now = empty; within = w
     }
 
 -- the states before and now are one that was left
-brings_left : {P : Standing → Standing → Type 0} (old new : Worlds) (left : World) (next : Standing → State) → new ≡ record { begun = left; now = left }
-    → ((v : Standing) → StandsBare old v → next v ≡ bare left) → ((v : Standing) → P v (record { before = next v; now = next v; moves = v.moves }))
+brings_left : {P : GroundState → GroundState → Type 0} (old new : Worlds) (left : World) (next : GroundState → State) → new ≡ record { begun = left; now = left }
+    → ((v : GroundState) → StandsBare old v → next v ≡ bare left) → ((v : GroundState) → P v (record { before = next v; now = next v; moves = v.moves }))
     → Brings StandsBare old new P
 brings_left old new left next is here tells = record {
   each = λ v stands. record {
@@ -139,12 +139,12 @@ brings_left old new left next is here tells = record {
   };
 }
 
-pub brings_kept : (old new : Worlds) → new ≡ worlds_kept old → Brings StandsBare old new Keeps
-brings_kept old new is = brings_left old new (at_rest old.now) (λ v. kept v.now) is (λ v stands. ap kept stands.now) (λ v. (refl, refl))
+pub brings_kept : (old new : Worlds) → new ≡ worlds_kept old → Brings StandsBare old new Commits
+brings_kept old new is = brings_left old new (at_rest old.now) (λ v. committed v.now) is (λ v stands. ap committed stands.now) (λ v. (refl, refl))
 
-pub brings_put_back : (old new : Worlds) → new ≡ worlds_back old → Brings StandsBare old new PutsBack
+pub brings_put_back : (old new : Worlds) → new ≡ worlds_back old → Brings StandsBare old new RollsBack
 brings_put_back old new is =
-    brings_left old new (worlds_back old).now (λ v. put_back v.before v.now) is (λ v stands. λ i. put_back (stands.before i) (stands.now i)) (λ v. (refl, refl))
+    brings_left old new (worlds_back old).now (λ v. rolled_back v.before v.now) is (λ v stands. λ i. rolled_back (stands.before i) (stands.now i)) (λ v. (refl, refl))
 
 -- a reply that tells of no stop misses nothing of media, and needs no cause of theirs
 misses_nothing : (w : World) (call : Call) (reply : Reply) → is_stop reply ≡ false → MayMissMedia w call reply
@@ -152,7 +152,7 @@ misses_nothing w call replies.MediaFault whole = absurd (true≢false whole)
 misses_nothing w call (replies.Refused (refusals.SourceShort have want)) whole = absurd (true≢false whole)
 misses_nothing w call reply whole = tt
 
-uncaused : (reply : Reply) (old new : Gaps) → is_stop reply ≡ false → HasGapCause (answers.Reply reply) old new
+uncaused : (reply : Reply) (old new : Lapses) → is_stop reply ≡ false → HasLapseCause (answers.Reply reply) old new
 uncaused replies.MediaFault old new whole = absurd (true≢false whole)
 uncaused (replies.Refused (refusals.SourceShort have want)) old new whole = absurd (true≢false whole)
 uncaused reply old new whole = tt
@@ -161,8 +161,8 @@ uncaused reply old new whole = tt
 dry_is_no_stop : (w w' : World) (call : Call) (moves : List Move) (reply : Reply) → StepsDry w call moves w' reply → is_stop reply ≡ false
 dry_is_no_stop w w' call moves reply step = row_is_no_stop w _ call step.step
 
-pub uncaused_dry : (w w' : World) (call : Call) (moves : List Move) (reply : Reply) (old new : Gaps) → StepsDry w call moves w' reply
-    → HasGapCause (answers.Reply reply) old new
+pub uncaused_dry : (w w' : World) (call : Call) (moves : List Move) (reply : Reply) (old new : Lapses) → StepsDry w call moves w' reply
+    → HasLapseCause (answers.Reply reply) old new
 uncaused_dry w w' call moves reply old new step = uncaused reply old new (dry_is_no_stop w w' call moves reply step)
 
 pub brings_call : (call : Call) (reply : Reply) (inside old new : Worlds) → inside ≡ old → StepsDry inside.now call (dry_moves inside.now call reply) new.now reply
@@ -221,12 +221,12 @@ pub keeps_called : (call : Call) (reply : Reply) (inside old new : Worlds) → i
     → new.begun ≡ inside.begun → KeepsGround bare_ground true old new
 keeps_called call reply inside old new is step begun =
     subst (λ (o : Worlds). KeepsGround bare_ground true o new) is
-    (record { later = omega arith; gaps = gaps_same no_gaps; media = refl; lasts = λ n. lasts_called inside new call reply n step begun })
+    (record { later = omega arith; lapses = lapses_same no_lapses; media = refl; lasts = λ n. lasts_called inside new call reply n step begun })
 
 keeps_so : (spent : Bool) (old left new : Worlds) → new ≡ left → ((n : ℕ) → LastsBare old (if spent then suc n else n) → LastsBare left n)
     → KeepsGround bare_ground spent old new
 keeps_so spent old left new is lasts =
-    record { later = omega arith; gaps = gaps_same no_gaps; media = refl; lasts = λ n as_long. subst (λ w. LastsBare w n) (sym is) (lasts n as_long) }
+    record { later = omega arith; lapses = lapses_same no_lapses; media = refl; lasts = λ n as_long. subst (λ w. LastsBare w n) (sym is) (lasts n as_long) }
 
 pub keeps_kept : (old new : Worlds) → new ≡ worlds_kept old → KeepsGround bare_ground false old new
 keeps_kept old new is = keeps_so false old (worlds_kept old) new is (lasts_kept old)

@@ -30,7 +30,7 @@ use Rattle.sdr_model.specs.Accounts.{account_of, is_same_account, most_amount, p
 use Rattle.sdr_model.specs.Amounts.{amount, amounts_by, are_within, minus, plus}
 use Rattle.sdr_model.specs.Blocks.{addresses_of, blocks_of}
 use Rattle.sdr_model.specs.Charges.{left_in, occupancies, occupancy, rooms}
-use Rattle.sdr_model.specs.Charging.{grant_left, with_used}
+use Rattle.sdr_model.specs.Charging.{grant_left, with_covered}
 use Rattle.sdr_model.specs.Dry.{AreInOrder, StepsDry}
 use Rattle.sdr_model.specs.Queue.{granted, served}
 use Rattle.sdr_model.specs.Steps.{Outcome}
@@ -100,7 +100,7 @@ maximum_small m space within =
 -- of a charge a ticket covers what is left of it, and that goes from what is left of the queue
 used_left : (w : World) (acct : Acct) (number : ℕ) (adds : Space → ℕ) (space : Space) (p : Option Pending)
     → IfSome p (λ p. (pending_in w.accounts acct number ≡ Some p) × (p.ticket.granted ≡ true))
-    → left_in space (tickets_of (with_used w p (amounts_by adds)).accounts acct)
+    → left_in space (tickets_of (with_covered w p (amounts_by adds)).accounts acct)
     + (adds space - (adds space - amount (grant_left p) space))
     ≤ left_in space (tickets_of w.accounts acct)
 used_left w acct number adds space None there = omega (arith, nothing_in space)

@@ -21,10 +21,10 @@ use Rattle.sdr_lock.specs.Agreeing.{AgreesWith}
 use Rattle.sdr_lock.specs.Core.{Core, core_after}
 use Rattle.sdr_lock.specs.Holders.{HoldFirst, hold_none, holders}
 use Rattle.sdr_lock.specs.Leaving.{LeaveInTurn, MakesLeave, holds_number, served_daemon, staying}
-use Rattle.sdr_lock.specs.Gaps.{HasGapCause, no_gaps}
+use Rattle.sdr_lock.specs.Lapses.{HasLapseCause, no_lapses}
 use Rattle.sdr_lock.specs.Machine.{Machine, Made, MachineStep}
 use Rattle.sdr_lock.specs.Roll.{Roll, at_nesting, daemon_of, first_roll, newcomer, served_number, with_daemon}
-use Rattle.sdr_lock.specs.Serving.{Acts, Brings, KeepsGround, Locked, Makes, StoodFor, ShowsBytes, machine_at, made_by, roll_settled}
+use Rattle.sdr_lock.specs.Serving.{Acts, Brings, KeepsGround, Locked, MakesMachineStep, IsInSomeState, ShowsBytes, machine_at, made_by, roll_settled}
 use Rattle.sdr_lock.specs.declared.came.Came.{Came}
 use Rattle.sdr_lock.specs.declared.daemon.Daemon.{Daemon}
 use Rattle.sdr_lock.specs.declared.daemon.Holding.{Holding}
@@ -54,7 +54,7 @@ answered_so keeps inside p new daemon event a same kept acts =
     m : Machine
     m = machine_of inside
 
-    from : StoodFor StandsBare new (Makes bare_ground MachineStep (record { roll = inside.roll; base = inside.worlds }) new daemon event a (standing_bare inside.worlds))
+    from : IsInSomeState StandsBare new (MakesMachineStep bare_ground MachineStep (record { roll = inside.roll; base = inside.worlds }) new daemon event a (standing_bare inside.worlds))
         → Answered inside inside new daemon event a
     from led =
         let step0 : MachineStep m (made_by daemon event a 0 0 0 led.for) (machine_at new.roll led.for) = led.tells.step 0 in
@@ -208,7 +208,7 @@ leaves_none leave daemon a p p' sound none steps =
     leave_none (machine_of p) (made_dry daemon 0 (events.Leaves leave) a steps.moves (machine_of p')) (machine_of p') leave sound none refl steps.step
 
 -- where no count of media rises, no answer tells of a gap
-pub no_gap : (a : Answer) → HasGapCause a no_gaps no_gaps → is_gap a ≡ false
+pub no_gap : (a : Answer) → HasLapseCause a no_lapses no_lapses → is_gap a ≡ false
 no_gap (answers.Reply replies.MediaFault) cause = absurd (omega (arith, cause))
 no_gap (answers.Reply (replies.Refused (refusals.SourceShort have want))) cause = absurd (omega (arith, cause))
 no_gap a cause = refl

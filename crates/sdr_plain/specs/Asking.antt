@@ -25,10 +25,10 @@ use Rattle.sdr_model.specs.declared.event.Event.TheVariants as events
 use Rattle.sdr_model.specs.declared.piece.Piece.{Piece}
 
 -- the reply tells that media failed, or gave fewer bytes than were asked for
-abbrev pub IsGap : Reply → Type 0
-IsGap replies.MediaFault = ⊤
-IsGap (replies.Refused (refusals.SourceShort have want)) = have < want
-IsGap reply = ⊥
+abbrev pub IsLapse : Reply → Type 0
+IsLapse replies.MediaFault = ⊤
+IsLapse (replies.Refused (refusals.SourceShort have want)) = have < want
+IsLapse reply = ⊥
 
 -- the call asks bytes of an object that is there, and these are their pieces
 pub record HasPieces (w : World) (call : Call) (pieces : List Piece) : Type 0 where
@@ -46,8 +46,8 @@ abbrev pub made_dry : ℕ → ℕ → Event → Came → List Move → Machine �
 made_dry daemon line event a moves m' = made_with daemon event a 0 0 line moves m'.now.world.shown
 
 -- the bytes that an event gave, where the machine then is this
-abbrev pub bytes_of : Came → Machine → List ℕ
-bytes_of a m' = if a.called then bytes_given a.answer m'.now.world.shown else []
+abbrev pub bytes_answered : Came → Machine → List ℕ
+bytes_answered a m' = if a.called then bytes_given a.answer m'.now.world.shown else []
 
 -- from m, an event of a daemon, of a statement on a line, may be answered so, and the machine goes on to m'
 pub record StepsAt (m : Machine) (daemon line : ℕ) (event : Event) (a : Came) (m' : Machine) : Type 0 where
@@ -68,7 +68,7 @@ pub record Asks (m : Machine) (daemon : ℕ) (event : Event) (pieces : List Piec
   pub page : length (pieces_told pieces) ≤ longest_read
   pub gives : (line : ℕ) (bytes : List ℕ) → Spells (pieces_told pieces) bytes
       → StepsAt m daemon line event (called (replies.Bytes (length bytes))) (settled m daemon (Some bytes))
-  pub stops : list_any lies_with_media pieces ≡ true → (line : ℕ) (reply : Reply) → IsGap reply → StepsAt m daemon line event (called reply) (settled m daemon None)
+  pub stops : list_any lies_with_media pieces ≡ true → (line : ℕ) (reply : Reply) → IsLapse reply → StepsAt m daemon line event (called reply) (settled m daemon None)
 
 -- whether an answer tells that media failed, or gave fewer bytes than were asked for
 abbrev pub is_gap : Answer → Bool

@@ -7,7 +7,7 @@ use Rattle.sdr_model.specs.World.{World, at_rest}
 use Rattle.sdr_lock.specs.Ground.{bare}
 use Rattle.sdr_lock.specs.Machine.{Machine}
 use Rattle.sdr_lock.specs.Roll.{Roll}
-use Rattle.sdr_lock.specs.Standing.{Standing}
+use Rattle.sdr_lock.specs.Standing.{GroundState}
 
 -- a world in memory: at the begin of the open transaction, and now
 pub record Worlds : Type 0 where
@@ -15,7 +15,7 @@ pub record Worlds : Type 0 where
   pub now : World
 
 -- the worlds stand for themselves, with no heap
-pub record StandsBare (w : Worlds) (v : Standing) : Type 0 where
+pub record StandsBare (w : Worlds) (v : GroundState) : Type 0 where
   pub before : v.before ≡ bare w.begun
   pub now : v.now ≡ bare w.now
 
@@ -48,7 +48,7 @@ pub record LastsBare (w : Worlds) (more : ℕ) : Type 0 where
   pub within : calls + more ≤ most_pieces
 
 -- what the worlds stand for, where the moves of a call are left open
-abbrev pub standing_bare : Worlds → Standing
+abbrev pub standing_bare : Worlds → GroundState
 standing_bare w = record { before = bare w.begun; now = bare w.now; moves = [] }
 
 -- the machine with this roll that stands on the worlds

@@ -11,7 +11,7 @@ use crate::apply;
 use crate::asking::pieces_of;
 use sdr_base::{Bytes, Items, NoMemory};
 use sdr_draft::Undoable;
-use sdr_lock::{Fault, Halt, HasGround, Serves, Shows};
+use sdr_lock::{Fault, Halt, HasGround, Backing, Shows};
 use sdr_model::{Accounts, Call, Piece, Reply};
 use std::alloc::Global;
 use std::marker::Model;
@@ -36,7 +36,7 @@ impl Model for Bare {
 
 impl HasGround for Bare {
     ghost use Rattle.std.specs.Prelude.{None};
-    ghost use Rattle.sdr_lock.specs.Gaps.{no_gaps};
+    ghost use Rattle.sdr_lock.specs.Lapses.{no_lapses};
     ghost use Rattle.sdr_plain.specs.Bare.{LastsBare, StandsBare};
     ghost use Rattle.sdr_model.specs.Few.{most_pieces};
     ghost use Rattle.sdr_lock.proofs.GroundLemmas.{one_less};
@@ -47,7 +47,7 @@ impl HasGround for Bare {
 
     ghost faults = { λ _. 0 };
 
-    ghost gaps = { λ _. no_gaps };
+    ghost lapses = { λ _. no_lapses };
 
     ghost told = { λ _. None };
 
@@ -92,7 +92,7 @@ impl Bare {
     }
 }
 
-impl Serves for Bare {
+impl Backing for Bare {
     fn moment(&self) -> u64 {
         0
     }
@@ -109,8 +109,8 @@ impl Serves for Bare {
         Ok(())
     }
 
-    fn put_back(&mut self) -> Result<(), Fault> {
-        self.world.put_back();
+    fn roll_back(&mut self) -> Result<(), Fault> {
+        self.world.roll_back();
         Ok(())
     }
 

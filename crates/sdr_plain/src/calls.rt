@@ -1,5 +1,5 @@
 // What a call does to a world.
-ghost use Rattle.sdr_calls.specs.Answers.{Answers};
+ghost use Rattle.sdr_calls.specs.Answers.{CallsMemory};
 ghost use Rattle.sdr_draft.specs.Calling.{MayCall};
 
 use sdr_base::{Amounts, NoMemory};
@@ -47,7 +47,7 @@ use std::alloc::Global;
 /// extent. All others take about the logarithm of the world.
 pub fn apply(alloc: Global, world: &mut Undoable, call: &Call) -> Result<Reply, NoMemory>
     requires may { MayCall world.old.now }
-    ensures { Answers call.now world.old world.new result }
+    ensures { CallsMemory call.now world.old world.new result }
 {
     match call {
         Call::Malloc(bytes) => malloc(alloc, world, *bytes),

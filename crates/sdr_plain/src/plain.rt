@@ -3,7 +3,7 @@ ghost use Rattle.std.specs.Prelude.{ℕ, true, false, ◌≡◌, ◌<◌, ◌≤
 ghost use Rattle.sdr_lock.specs.Holders.{hold_none, holders};
 ghost use Rattle.sdr_lock.specs.Leaving as leaving;
 ghost use Rattle.sdr_lock.specs.Serving.{roll_settled};
-ghost use Rattle.sdr_plain.specs.Asking.{Asks, AsksNothing, StepsAt, bytes_of, is_gap, settled};
+ghost use Rattle.sdr_plain.specs.Asking.{Asks, AsksNothing, StepsAt, bytes_answered, is_gap, settled};
 ghost use Rattle.sdr_plain.specs.Leaves.{AllLeaveFrom, HoldersLeaveFrom, LeaveInTurnFrom};
 ghost use Rattle.sdr_plain.specs.Plain.{first_plain, machine_of};
 
@@ -66,7 +66,7 @@ impl Plain {
 
     /// The bytes that the last event gave, which was answered so.
     pub fn given(&self, came: &Came) -> &[u8]
-        ensures { result.now ≡ bytes_of came.now (machine_of self.now) }
+        ensures { result.now ≡ bytes_answered came.now (machine_of self.now) }
     {
         match came.answer {
             Answer::Reply(Reply::Refused(_)) => &[],

@@ -22,12 +22,12 @@ use Rattle.sdr_keys.specs.Members.{members}
 use Rattle.sdr_laws.proofs.DistinctLemmas.{count_by-cons, from_once, not_contained}
 use Rattle.sdr_model.specs.Accounts.{ticket_blocks}
 use Rattle.sdr_model.specs.Blocks.{addresses_of, blocks_of, thing_blocks}
-use Rattle.sdr_model.specs.Things.{name_block}
+use Rattle.sdr_model.specs.Things.{block_for_name}
 use Rattle.sdr_model.specs.Valid.{IsBetween, IsValid, IsValidThing, names_of}
 use Rattle.sdr_model.specs.declared.name.Name.{Name}
-use Rattle.sdr_model.specs.declared.things.Block.{Block}
+use Rattle.sdr_model.specs.declared.things.UsedBlock.{UsedBlock}
 use Rattle.sdr_model.specs.declared.things.Thing.{Thing}
-use Rattle.sdr_owner.specs.Chains.{first_of, is_member}
+use Rattle.sdr_owner.specs.Chains.{first_link, is_member}
 use Rattle.sdr_owner.specs.Reading.{behind_words, name_in}
 use Rattle.sdr_owner.specs.View.{View, is_kind}
 use Rattle.sdr_owner.specs.declared.owner.Owner.TheVariants as owners
@@ -75,7 +75,7 @@ module _ (heap : View) (words : ℕ) (a : IsAudited heap words) where
 
   names_members : All (λ n. is_member heap owners.Catalogue n ≡ true) (members heap words owners.Catalogue)
   names_members =
-      goes_members heap words owners.Catalogue 0 (first_of heap owners.Catalogue) (members heap words owners.Catalogue) (names_chain heap words a).last 0
+      goes_members heap words owners.Catalogue 0 (first_link heap owners.Catalogue) (members heap words owners.Catalogue) (names_chain heap words a).last 0
       (names_chain heap words a).goes
 
   pub names_valid : All (λ name. IsBetween 1 31 (length name)) (names_of (world_told heap words))
@@ -115,16 +115,16 @@ module _ (heap : View) (words : ℕ) (a : IsAudited heap words) where
         let inbound : Entries = queue_entries w.accounts accts.Inbound in
         let outbound : Entries = queue_entries w.accounts accts.Outbound in
         map-append shape things (names ++ (inbound ++ outbound))
-        ∙ ap (λ (l : List Block). map shape things ++ l) (map-append shape names (inbound ++ outbound) ∙ ap (λ (l : List Block). map shape names ++ l) (map-append shape inbound outbound))
+        ∙ ap (λ (l : List UsedBlock). map shape things ++ l) (map-append shape names (inbound ++ outbound) ∙ ap (λ (l : List UsedBlock). map shape names ++ l) (map-append shape inbound outbound))
         ∙ (λ i.
         things_shapes (finite.entries w.things) all_valid i
         ++ (name_shapes w.names (names_short (members heap words owners.Catalogue) names_members) i
         ++ (ticket_shapes accts.Inbound w.accounts.inbound.tickets i ++ ticket_shapes accts.Outbound w.accounts.outbound.tickets i)))
-        ∙ sym (append_assoc (flat_map (λ (e : ℕ × Thing). thing_blocks e.0 e.1) (finite.entries w.things)) (map name_block w.names) (ticket_blocks w.accounts))
+        ∙ sym (append_assoc (flat_map (λ (e : ℕ × Thing). thing_blocks e.0 e.1) (finite.entries w.things)) (map block_for_name w.names) (ticket_blocks w.accounts))
 
     addresses_so : addresses_of (blocks_of (world_told heap words)) ≡ map (λ e. e.0) (entries_of (world_told heap words))
     addresses_so =
-        ap addresses_of (sym shapes_so) ∙ map-map (λ (b : Block). b.addr) shape (entries_of (world_told heap words))
+        ap addresses_of (sym shapes_so) ∙ map-map (λ (b : UsedBlock). b.addr) shape (entries_of (world_told heap words))
 
     counts_so : (q : ℕ) → count_by (nat_eq q) (addresses_of (blocks_of (world_told heap words))) ≡ times q (entries_of (world_told heap words))
     counts_so q = ap (λ (l : List ℕ). count_by (nat_eq q) l) addresses_so ∙ sym (times-addresses q (entries_of (world_told heap words)))

@@ -12,7 +12,8 @@ use Rattle.sdr_keys.proofs.MembersLemmas.{followed-end, followed-next}
 use Rattle.sdr_keys.specs.Places.{places}
 use Rattle.sdr_keys.specs.Members.{followed, members}
 use Rattle.sdr_laws.proofs.DistinctLemmas.{from_once}
-use Rattle.sdr_owner.specs.Chains.{AreOnce, Chain, ChainsReach, Goes, IsChain, addrs_of, first_of, next_of}
+use Rattle.sdr_owner.specs.Chains.{Chain, ChainsReach, ChainGoes, IsChain, addrs_of, first_link, next_of}
+use Rattle.sdr_base.specs.Entries.{AreOnce}
 use Rattle.sdr_base.specs.Blocks.{Block}
 use Rattle.sdr_base.specs.declared.kind.Kind.{Kind}
 use Rattle.sdr_owner.specs.Owners.{kind_in, owned_at, owners_of, root_owners}
@@ -72,7 +73,7 @@ few_places words addrs placed once =
 module _ (heap : View) (words : ℕ) where
   -- a chain goes over the blocks to which its links lead
   pub goes_followed : (owner : Owner) (most before link : ℕ) (addrs : List ℕ) (last : ℕ) → length addrs ≤ most →
-      Goes heap owner before link addrs last 0 → followed heap owner most link ≡ addrs
+      ChainGoes heap owner before link addrs last 0 → followed heap owner most link ≡ addrs
   goes_followed owner most before link [] last few (b, l) = ap (followed heap owner most) l ∙ followed-end heap owner most
   goes_followed owner zero before link (a ∷ addrs) last few goes = absurd (omega (arith, few))
   goes_followed owner (suc most) before link (a ∷ addrs) last few (is, some, member, named, more) =
@@ -94,7 +95,7 @@ module _ (heap : View) (words : ℕ) where
     kind_placed kind addr (Some block) at is = placed addr block at
 
     -- so do those of a chain
-    pub goes_placed : (owner : Owner) (before link : ℕ) (addrs : List ℕ) (last next : ℕ) → Goes heap owner before link addrs last next →
+    pub goes_placed : (owner : Owner) (before link : ℕ) (addrs : List ℕ) (last next : ℕ) → ChainGoes heap owner before link addrs last next →
         All (IsPlace words) addrs
     goes_placed owner before link [] last next goes = All-nil (IsPlace words)
     goes_placed owner before link (a ∷ addrs) last next (is, some, member, named, more) =
@@ -103,8 +104,8 @@ module _ (heap : View) (words : ℕ) where
 
     chain_is : (chain : Chain) → IsChain heap chain → AreOnce chain.addrs → chain ≡ chain_told chain.owner
     chain_is chain c once =
-        let few = few_places words chain.addrs (goes_placed chain.owner 0 (first_of heap chain.owner) chain.addrs c.last 0 c.goes) once in
-        let same = goes_followed chain.owner words 0 (first_of heap chain.owner) chain.addrs c.last few c.goes in
+        let few = few_places words chain.addrs (goes_placed chain.owner 0 (first_link heap chain.owner) chain.addrs c.last 0 c.goes) once in
+        let same = goes_followed chain.owner words 0 (first_link heap chain.owner) chain.addrs c.last few c.goes in
         λ i. record { owner = chain.owner; addrs = sym same i }
 
     chains_are : (chains : List Chain) → All (IsChain heap) chains → AreOnce (addrs_of chains) → chains ≡ map chain_told (map (λ (chain : Chain). chain.owner) chains)

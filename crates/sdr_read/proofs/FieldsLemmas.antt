@@ -11,13 +11,13 @@ use Rattle.sdr_base.specs.declared.account.Acct.{Acct}
 use Rattle.sdr_base.specs.declared.account.Acct.TheVariants as accts
 use Rattle.sdr_base.specs.declared.kind.Kind.{Kind}
 use Rattle.sdr_base.specs.declared.kind.Kind.TheVariants as kinds
-use Rattle.sdr_count.specs.Queues.{ticket_at, tickets}
+use Rattle.sdr_count.specs.Queues.{ticket_in, tickets}
 use Rattle.sdr_keys.specs.Members.{members}
 use Rattle.sdr_model.specs.Fields.{FitsCapsule, FitsElement, FitsEntry, FitsExtent, FitsFields, FitsName, FitsSubject, FitsThing, FitsTicket, IsWord}
 use Rattle.sdr_model.specs.declared.things.Thing.{Thing}
 use Rattle.sdr_model.specs.declared.zco.Subject.{Subject}
 use Rattle.sdr_model.specs.declared.zco.Subject.TheVariants as subjects
-use Rattle.sdr_owner.specs.Chains.{first_of, is_member}
+use Rattle.sdr_owner.specs.Chains.{first_link, is_member}
 use Rattle.sdr_owner.specs.Owned.{AreBytes}
 use Rattle.sdr_owner.specs.Reading.{behind_words, bytes_of}
 use Rattle.sdr_owner.specs.View.{View, is_kind, word_of}
@@ -105,7 +105,7 @@ module _ (heap : View) (words : ℕ) (a : IsAudited heap words) (few : 8 * words
   all_told P told owner chain holds =
       All-map P told (members heap words owner)
       (all_so (λ n. is_member heap owner n ≡ true) (λ n. P (told n)) holds (members heap words owner)
-      (goes_members heap words owner 0 (first_of heap owner) (members heap words owner) chain.last 0 chain.goes))
+      (goes_members heap words owner 0 (first_link heap owner) (members heap words owner) chain.last 0 chain.goes))
 
   element_fits : (addr : ℕ) → is_kind kinds.Element (heap.blocks addr) ≡ true → FitsElement (element_told heap addr)
   element_fits addr is = record { block = at_word kinds.Element addr is; datum = is_word addr 3 }
@@ -190,7 +190,7 @@ module _ (heap : View) (words : ℕ) (a : IsAudited heap words) (few : 8 * words
         object = is_word addr 2;
       }
 
-  ticket_fits : (addr : ℕ) → is_kind kinds.Ticket (heap.blocks addr) ≡ true → FitsTicket (ticket_at heap addr)
+  ticket_fits : (addr : ℕ) → is_kind kinds.Ticket (heap.blocks addr) ≡ true → FitsTicket (ticket_in heap addr)
   ticket_fits addr is =
       let b = own_of heap words a kinds.Ticket addr is in
       let l = is_ticket_so b.own.bytes (layout_of heap words a kinds.Ticket addr b) in
@@ -202,7 +202,7 @@ module _ (heap : View) (words : ℕ) (a : IsAudited heap words) (few : 8 * words
       record { block = at_word kinds.Ticket addr is; coarse = omega (arith, coarse, coarse_told); fine = omega (arith, fine, fine_told) }
 
   tickets_fit : (account : Acct) → All FitsTicket (tickets heap words account)
-  tickets_fit account = all_told FitsTicket (ticket_at heap) (owners.Queue account) (queue_chain heap words a account) ticket_fits
+  tickets_fit account = all_told FitsTicket (ticket_in heap) (owners.Queue account) (queue_chain heap words a account) ticket_fits
 
   -- all numbers of the told world fit
   pub fields_fit : FitsFields (world_told heap words)

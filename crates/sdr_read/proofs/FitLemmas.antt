@@ -9,13 +9,13 @@ use Rattle.sdr_base.specs.declared.kind.Kind.{Kind}
 use Rattle.sdr_base.specs.declared.kind.Kind.TheVariants as kinds
 use Rattle.sdr_count.specs.Counted.{IsCounted}
 use Rattle.sdr_keys.specs.Members.{members}
-use Rattle.sdr_model.specs.Valid.{AreInside, FitTogether, HasBytes, HasSubject, IsUsed, LiesInside}
+use Rattle.sdr_model.specs.Valid.{AreInside, FitTogether, HasBytes, HasSubject, HasExtentIfPassing, LiesInside}
 use Rattle.sdr_model.specs.World.{as_raw, thing_at}
 use Rattle.sdr_model.specs.Zco.{as_source, names_raw, source_at, taken_over}
 use Rattle.sdr_model.specs.declared.things.Thing.{Thing}
 use Rattle.sdr_model.specs.declared.zco.Extent.{Extent}
 use Rattle.sdr_model.specs.declared.zco.ZcoSource.{ZcoSource}
-use Rattle.sdr_owner.specs.Chains.{first_of, is_member}
+use Rattle.sdr_owner.specs.Chains.{first_link, is_member}
 use Rattle.sdr_owner.specs.Reading.{behind_words, bytes_of}
 use Rattle.sdr_owner.specs.Rules as rules
 use Rattle.sdr_owner.specs.View.{View, is_kind, word_of}
@@ -92,7 +92,7 @@ module _ (heap : View) (words : ℕ) (a : IsAudited heap words) where
             subst (LiesInside (extent_told heap n)) (sym (source_at_is heap words a (word_of (heap.blocks n) 0) (source_there heap words a n member)))
             (f.extents n member).inside)
             (members heap words (owners.Extents addr))
-            (goes_members heap words (owners.Extents addr) 0 (first_of heap (owners.Extents addr)) (members heap words (owners.Extents addr)) (extent_chain heap words a addr is).last 0
+            (goes_members heap words (owners.Extents addr) 0 (first_link heap (owners.Extents addr)) (members heap words (owners.Extents addr)) (extent_chain heap words a addr is).last 0
             (extent_chain heap words a addr is).goes))
         by_kind kinds.Extent is = tt
         by_kind kinds.Capsule is = tt
@@ -108,8 +108,8 @@ module _ (heap : View) (words : ℕ) (a : IsAudited heap words) where
         let raw : ℕ = word_of (heap.blocks addr) 4 in
         has_subject (word_of (heap.blocks addr) 0) raw (behind_words (heap.blocks addr) 6) (word_of (heap.blocks addr) 5)
         (λ medium.
-        let names : rules.names_raw (heap.blocks addr) ≡ true = and_from (is_kind kinds.Source (heap.blocks addr)) (word_of (heap.blocks addr) 0 == 3 || word_of (heap.blocks addr) 0 == 4) is medium in
-        let there : is_kind kinds.Raw (heap.blocks raw) ≡ true = unless heap words a (rules.names_raw (heap.blocks addr)) (is_kind kinds.Raw (heap.blocks raw)) (a.owned.kept.1.0 addr) names in
+        let names : rules.is_source_of_raw (heap.blocks addr) ≡ true = and_from (is_kind kinds.Source (heap.blocks addr)) (word_of (heap.blocks addr) 0 == 3 || word_of (heap.blocks addr) 0 == 4) is medium in
+        let there : is_kind kinds.Raw (heap.blocks raw) ≡ true = unless heap words a (rules.is_source_of_raw (heap.blocks addr)) (is_kind kinds.Raw (heap.blocks raw)) (a.owned.kept.1.0 addr) names in
         let long = f.raws addr names in
         let behind = length-behind (heap.blocks raw) in
         subst (HasBytes (word_of (heap.blocks addr) 5)) (sym (raw_at_is raw there)) (omega (arith, long, behind)))
@@ -123,7 +123,7 @@ module _ (heap : View) (words : ℕ) (a : IsAudited heap words) where
         source_named heap words a raw p (sym (ap (λ (o : Option Thing). option_map_or (names_raw raw) o false) (sym is) ∙ raw_same heap words a raw p) ∙ one)
         ∙ sym (source_named heap words a raw q (sym (ap (λ (o : Option Thing). option_map_or (names_raw raw) o false) (sym is') ∙ raw_same heap words a raw q) ∙ other))
 
-    used_so : (addr : ℕ) → is_kind kinds.Source (heap.blocks addr) ≡ true → IsUsed (world_told heap words) addr (source_told (heap.blocks addr))
+    used_so : (addr : ℕ) → is_kind kinds.Source (heap.blocks addr) ≡ true → HasExtentIfPassing (world_told heap words) addr (source_told (heap.blocks addr))
     used_so addr is passing =
         let inbound = inbound_same heap words a c addr is in
         let outbound = outbound_same heap words a c addr is in
@@ -148,5 +148,5 @@ module _ (heap : View) (words : ℕ) (a : IsAudited heap words) where
           (sym (thing_is heap words a p))
           (subst (λ (o : Option Thing). IfSome (thing_told heap words p) (λ s. IfSome o (λ t. names_raw raw s ≡ true → names_raw raw t ≡ true → p ≡ q)))
           (sym (thing_is heap words a q)) (alone_so raw p q (thing_told heap words p) (thing_told heap words q) refl refl));
-      used = each_source (λ addr source. IsUsed (world_told heap words) addr source) used_so;
+      used = each_source (λ addr source. HasExtentIfPassing (world_told heap words) addr source) used_so;
     }

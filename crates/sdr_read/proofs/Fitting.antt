@@ -12,7 +12,7 @@ use Rattle.sdr_model.specs.HashSteps.{bucket_of}
 use Rattle.sdr_model.specs.PartSteps.{part_end}
 use Rattle.sdr_model.specs.Valid.{AreDistinct, keys_of, names_of}
 use Rattle.sdr_model.specs.Zco.{extents_length}
-use Rattle.sdr_owner.specs.Rules.{names_raw}
+use Rattle.sdr_owner.specs.Rules.{is_source_of_raw}
 use Rattle.sdr_owner.specs.View.{View, is_kind, length_of, word_of}
 use Rattle.sdr_owner.specs.declared.owner.Owner.TheVariants as owners
 use Rattle.sdr_read.specs.Told.{bucket_told, hash_told, object_told, world_told}
@@ -46,7 +46,7 @@ pub record AreFitting (heap : View) (words : ℕ) : Type 0 where
   pub hashes : (addr : ℕ) → is_kind kinds.Hash (heap.blocks addr) ≡ true → IsRightHash heap words addr
   pub names : AreDistinct (names_of (world_told heap words))
   pub sources : (addr : ℕ) → is_kind kinds.Source (heap.blocks addr) ≡ true → IsRightSource heap addr
-  pub raws : (addr : ℕ) → names_raw (heap.blocks addr) ≡ true →
+  pub raws : (addr : ℕ) → is_source_of_raw (heap.blocks addr) ≡ true →
       length_of (heap.blocks (word_of (heap.blocks addr) source.SUBJECT)) ≡ 8 + word_of (heap.blocks addr) source.LENGTH
   pub extents : (addr : ℕ) → is_kind kinds.Extent (heap.blocks addr) ≡ true → IsRightExtent heap addr
   pub parts : (addr : ℕ) → is_kind kinds.Object (heap.blocks addr) ≡ true →

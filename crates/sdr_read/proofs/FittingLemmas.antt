@@ -14,14 +14,14 @@ use Rattle.sdr_base.specs.Blocks.{Block}
 use Rattle.sdr_base.specs.declared.kind.Kind.TheVariants as kinds
 use Rattle.sdr_count.specs.Counted.{IsCounted}
 use Rattle.sdr_count.specs.Rules.{extent_length, has_taken, is_flagged}
-use Rattle.sdr_count.specs.declared.rules.Rule.TheVariants as counts
+use Rattle.sdr_count.specs.declared.rules.CountRule.TheVariants as counts
 use Rattle.sdr_keys.proofs.KeyedLemmas.{distinct_from}
 use Rattle.sdr_keys.specs.Entries.{bucket, bucket_count, buckets, entry_count, fits_bucket, keeps_bucket}
 use Rattle.sdr_keys.specs.Members.{members}
 use Rattle.sdr_keys.specs.Texts as keyed
 use Rattle.sdr_keys.specs.Texts.{first_repeated, text_at}
-use Rattle.sdr_keys.specs.declared.rules.Rule.TheVariants as keys
-use Rattle.sdr_keys.specs.declared.texts.Text.TheVariants as texts
+use Rattle.sdr_keys.specs.declared.rules.KeyRule.TheVariants as keys
+use Rattle.sdr_keys.specs.declared.texts.EntryText.TheVariants as texts
 use Rattle.sdr_model.proofs.SumLemmas.{sum_by-map}
 use Rattle.sdr_model.specs.HashSteps.{bucket_of}
 use Rattle.sdr_model.specs.PartSteps.{part_end}
@@ -31,7 +31,7 @@ use Rattle.sdr_model.specs.declared.name.Name.{Name}
 use Rattle.sdr_model.specs.declared.things.HashEntry.{HashEntry}
 use Rattle.sdr_model.specs.declared.zco.Extent.{Extent}
 use Rattle.sdr_owner.specs.Reading.{bytes_of}
-use Rattle.sdr_owner.specs.Rules.{names_raw}
+use Rattle.sdr_owner.specs.Rules.{is_source_of_raw}
 use Rattle.sdr_owner.specs.View.{View, is_kind, length_of, word_of}
 use Rattle.sdr_owner.specs.declared.owner.Owner.TheVariants as owners
 use Rattle.sdr_read.proofs.BucketLemmas.{all_groups}
@@ -43,7 +43,7 @@ use Rattle.sdr_read.proofs.TiesLemmas.{unless}
 use Rattle.sdr_read.specs.Told.{bucket_told, entry_told, extent_told, hash_told, name_told, object_told, world_told}
 
 -- the bytes of a block, as keys and names are read and as things are
-pub same_bytes : (o : Option Block) → keyed.bytes_of o ≡ bytes_of o
+pub same_bytes : (o : Option Block) → bytes_of o ≡ bytes_of o
 same_bytes None = refl
 same_bytes (Some block) = refl
 
@@ -202,19 +202,19 @@ module _ (heap : View) (words : ℕ) (a : IsAudited heap words) (c : IsCounted h
     }
 
   -- a raw object has the length that its source tells, behind a word
-  raw_long : (addr : ℕ) → names_raw (heap.blocks addr) ≡ true →
+  raw_long : (addr : ℕ) → is_source_of_raw (heap.blocks addr) ≡ true →
       length_of (heap.blocks (word_of (heap.blocks addr) 4)) ≡ 8 + word_of (heap.blocks addr) 5
   raw_long addr names =
       let raw : ℕ = word_of (heap.blocks addr) 4 in
       let there : is_kind kinds.Raw (heap.blocks raw) ≡ true =
-      unless heap words a (names_raw (heap.blocks addr)) _ (a.owned.kept.1.0 addr) names in
+      unless heap words a (is_source_of_raw (heap.blocks addr)) _ (a.owned.kept.1.0 addr) names in
       let b = own_of heap words a kinds.Raw raw there in
       let long = ap (λ (o : Option Block). length_of o) b.is in
       let layout = and_parts (nat_le 8 (length b.own.bytes)) _ (layout_of heap words a kinds.Raw raw b) in
       let least = leb-true 8 (length b.own.bytes) layout.0 in
       let told =
       eqb-true (word_of (heap.blocks addr) 5) (length_of (heap.blocks raw) - 8)
-      (unless heap words a (names_raw (heap.blocks addr)) _ (c.kept counts.RawLength addr) names) in
+      (unless heap words a (is_source_of_raw (heap.blocks addr)) _ (c.kept counts.RawLength addr) names) in
       omega (arith, long, least, told)
 
   extent_right : (addr : ℕ) → is_kind kinds.Extent (heap.blocks addr) ≡ true → IsRightExtent heap addr

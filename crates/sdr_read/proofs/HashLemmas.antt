@@ -20,7 +20,7 @@ use Rattle.sdr_model.specs.Limits.{most_buckets}
 use Rattle.sdr_model.specs.declared.things.HashEntry.{HashEntry}
 use Rattle.sdr_owner.proofs.LinkingLemmas.{goes_linked}
 use Rattle.sdr_owner.proofs.ReadingLemmas.{IsOf, items_back, laid, none_behind, words_of}
-use Rattle.sdr_owner.specs.Linking.{AreRows, StandIn, StandsAt}
+use Rattle.sdr_owner.specs.Linking.{AreRows, AllStandAt, StandsAt}
 use Rattle.sdr_owner.specs.Reading.{item_read}
 use Rattle.sdr_owner.specs.View.{View, is_kind, word_of}
 use Rattle.sdr_owner.specs.declared.owner.Owner.TheVariants as owners
@@ -31,12 +31,12 @@ use Rattle.sdr_read.proofs.LinkLemmas.{block_told}
 use Rattle.sdr_read.proofs.OwnLemmas.{IsAudited, layout_of, nonzero, own_of, readable}
 use Rattle.sdr_read.proofs.Fitting.{IsRightHash}
 use Rattle.sdr_read.specs.Told.{bucket_told, entry_told, hash_told}
-use Rattle.sdr_region.specs.Content.{field, has_key}
+use Rattle.sdr_region.specs.Content.{field, is_key_length}
 
 -- what the layout of a hash asks of its first bytes, and of its length
 pub record IsHash (count : ℕ) (first : List ℕ) : Type 0 where
   pub long : 24 ≤ count
-  pub key : has_key (field first 0) ≡ true
+  pub key : is_key_length (field first 0) ≡ true
   pub least : 1 ≤ field first 1
   pub most : field first 1 ≤ most_buckets
   pub whole : count ≡ 24 + 8 * field first 1
@@ -47,7 +47,7 @@ is_hash_so bytes l =
     let p = and_parts _ (length bytes == 24 + 8 * field first 1) l in
     let q = and_parts _ (nat_le (field first 1) most_buckets) p.0 in
     let r = and_parts _ (nat_le 1 (field first 1)) q.0 in
-    let s = and_parts (nat_le 24 (length bytes)) (has_key (field first 0)) r.0 in
+    let s = and_parts (nat_le 24 (length bytes)) (is_key_length (field first 0)) r.0 in
     record {
       long = leb-true 24 (length bytes) s.0;
       key = s.1;
@@ -100,7 +100,7 @@ module _ (heap : View) (words : ℕ) (a : IsAudited heap words) (addr : ℕ) (is
 
   -- their chains stand
   fronts_stand : (from n : ℕ) → from + n ≤ word_of (heap.blocks addr) 1 →
-      StandIn heap (flat_map bucket_entries (map rows (range_with_len from n)))
+      AllStandAt heap (flat_map bucket_entries (map rows (range_with_len from n)))
   fronts_stand from zero few = All-nil (StandsAt heap)
   fronts_stand from (suc n) few =
       All-append (StandsAt heap) (bucket_entries (rows from)) (flat_map bucket_entries (map rows (range_with_len (from + 1) n)))
@@ -130,7 +130,7 @@ module _ (heap : View) (words : ℕ) (a : IsAudited heap words) (addr : ℕ) (is
         ∙ map-map item_row (entry_told heap) (members heap words (owners.Bucket addr (3 + k))))
 
     -- its blocks are those of what is read of it
-    pub hash_stands : StandIn heap (hash_entries addr (hash_row (hash_told heap words addr)))
+    pub hash_stands : AllStandAt heap (hash_entries addr (hash_row (hash_told heap words addr)))
     hash_stands =
         let b = own_hash in
         let w = word_of (heap.blocks addr) in
@@ -149,7 +149,7 @@ module _ (heap : View) (words : ℕ) (a : IsAudited heap words) (addr : ℕ) (is
               layout (w 0 ∷ sym (length-map-range_with_len rows 0 n) i ∷ count_all i ∷ firsts i)
               (none_behind heap (readable heap words a) kinds.Hash addr b (suc (suc (suc n))) long i);
         })) in
-        subst (StandIn heap)
+        subst (AllStandAt heap)
         (λ i. hash_entries addr (record { key_length = w 0; buckets = sym buckets_same i }))
         (All-cons (StandsAt heap) (addr, hash_block row) (flat_map bucket_entries row.buckets)
         (record { some = nonzero heap words a addr b.own b.is; is = own }) (fronts_stand 0 n (omega arith)))

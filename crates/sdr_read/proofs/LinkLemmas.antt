@@ -18,7 +18,7 @@ use Rattle.sdr_base.specs.declared.kind.Kind.TheVariants as kinds
 use Rattle.sdr_keys.specs.Members.{members}
 use Rattle.sdr_owner.proofs.LinkingLemmas.{goes_linked}
 use Rattle.sdr_owner.proofs.ReadingLemmas.{IsOf, elements_back, extents_back, headers_back, laid, none_behind, trailers_back}
-use Rattle.sdr_owner.specs.Linking.{AreRows, StandIn, StandsAt}
+use Rattle.sdr_owner.specs.Linking.{AreRows, AllStandAt, StandsAt}
 use Rattle.sdr_owner.specs.Owners.{owned_by, owners_of}
 use Rattle.sdr_owner.specs.Reading.{capsule_read, element_read, extent_read}
 use Rattle.sdr_owner.specs.View.{View, is_kind, word_of}
@@ -54,7 +54,7 @@ module _ (heap : View) (words : ℕ) (a : IsAudited heap words) where
 
     -- its blocks are those of what is read of it, where it tells its length
     pub list_stands : word_of (heap.blocks addr) 1 ≡ length (members heap words (owners.List addr)) →
-        StandIn heap (list_entries addr (list_row (list_told heap words addr)))
+        AllStandAt heap (list_entries addr (list_row (list_told heap words addr)))
     list_stands counted =
         let b = own_of heap words a kinds.List addr is in
         let long = eqb-true (length b.own.bytes) 32 (layout_of heap words a kinds.List addr b) in
@@ -70,7 +70,7 @@ module _ (heap : View) (words : ℕ) (a : IsAudited heap words) where
           bytes =
               layout (w 0 ∷ count i ∷ element_rows.first i ∷ last i ∷ []) (none_behind heap (readable heap words a) kinds.List addr b 4 long i);
         })) in
-        subst (λ (rows : List ListElement). StandIn heap (list_entries addr (record { user = w 0; elements = rows }))) (sym same)
+        subst (λ (rows : List ListElement). AllStandAt heap (list_entries addr (record { user = w 0; elements = rows }))) (sym same)
         (All-cons (StandsAt heap) (addr, list_block (w 0) (length rows) (first_of addr_of 0 rows) (last_of addr_of 0 rows))
         (linked addr_of (element_block addr) 0 0 rows)
         (record { some = nonzero heap words a addr b.own b.is; is = own }) element_rows.stand)
@@ -130,7 +130,7 @@ module _ (heap : View) (words : ℕ) (a : IsAudited heap words) where
         omega (arith, told, flag)
 
     -- its blocks are those of what is read of it
-    pub object_stands : StandIn heap (object_entries addr (object_row (object_told heap words addr)))
+    pub object_stands : AllStandAt heap (object_entries addr (object_row (object_told heap words addr)))
     object_stands =
         let b = own_object in
         let long = object_long in
@@ -160,7 +160,7 @@ module _ (heap : View) (words : ℕ) (a : IsAudited heap words) where
               ∷ w 8 ∷ [])
               (none_behind heap (readable heap words a) kinds.Object addr b 9 long i);
         })) in
-        subst (StandIn heap)
+        subst (AllStandAt heap)
         (λ i. object_entries addr (record {
           account = account_told (w 0);
           headers = sym (map-map capsule_row (capsule_told heap) (members heap words (owners.Headers addr))) i;

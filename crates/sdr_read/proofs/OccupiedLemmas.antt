@@ -20,7 +20,7 @@ use Rattle.sdr_count.specs.Counted.{IsCounted}
 use Rattle.sdr_keys.specs.Places.{places}
 use Rattle.sdr_keys.specs.Members.{members}
 use Rattle.sdr_count.specs.Occupied as heaps
-use Rattle.sdr_count.specs.Queues.{ticket_at}
+use Rattle.sdr_count.specs.Queues.{ticket_in}
 use Rattle.sdr_model.proofs.SumLemmas.{sum_by-map}
 use Rattle.sdr_model.specs.Accounts.{tickets_of}
 use Rattle.sdr_model.specs.Amounts.{amount, in_space}
@@ -28,13 +28,13 @@ use Rattle.sdr_model.specs.Charges.{bytes_charge, capsule_bytes, capsule_charge,
 use Rattle.sdr_model.specs.Zco as model
 use Rattle.sdr_model.specs.declared.accounts.Ticket.{Ticket}
 use Rattle.sdr_model.specs.declared.things.Thing.{Thing}
-use Rattle.sdr_owner.specs.Chains.{Goes, first_of, is_member, next_of}
+use Rattle.sdr_owner.specs.Chains.{ChainGoes, first_link, is_member, next_of}
 use Rattle.sdr_owner.specs.Reading.{behind_words}
 use Rattle.sdr_owner.specs.Rules.{IsKept}
 use Rattle.sdr_owner.specs.View.{View, is_kind, length_of, word_of}
 use Rattle.sdr_owner.specs.declared.owner.Owner.{Owner}
 use Rattle.sdr_owner.specs.declared.owner.Owner.TheVariants as owners
-use Rattle.sdr_owner.specs.declared.rules.Rule.TheVariants as which
+use Rattle.sdr_owner.specs.declared.rules.OwnerRule.TheVariants as which
 use Rattle.sdr_read.proofs.LinkLemmas.{extent_chain, object_account}
 use Rattle.sdr_read.proofs.OwnLemmas.{IsAudited, own_of}
 use Rattle.sdr_read.proofs.RowLemmas.{sum_row}
@@ -68,7 +68,7 @@ length-behind (Some block) = length-drop 8 block.bytes
 
 module _ (heap : View) (words : ℕ) where
   -- the blocks of a chain are of its kind
-  pub goes_members : (owner : Owner) (before link : ℕ) (addrs : List ℕ) (last next : ℕ) → Goes heap owner before link addrs last next →
+  pub goes_members : (owner : Owner) (before link : ℕ) (addrs : List ℕ) (last next : ℕ) → ChainGoes heap owner before link addrs last next →
       All (λ addr. is_member heap owner addr ≡ true) addrs
   goes_members owner before link [] last next goes = All-nil (λ addr. is_member heap owner addr ≡ true)
   goes_members owner before link (a ∷ addrs) last next (is, some, member, named, more) =
@@ -99,7 +99,7 @@ module _ (heap : View) (words : ℕ) (a : IsAudited heap words) where
           ∙ ap (λ (k : Kind). model.as_source (thing_of_kind k heap words addr)) b.kind_is
 
   -- the space of its bytes
-  pub space_same : (addr : ℕ) → is_kind kinds.Source (heap.blocks addr) ≡ true → space_in (model.source_at (world_told heap words) addr) ≡ heaps.space_of (heap.blocks addr)
+  pub space_same : (addr : ℕ) → is_kind kinds.Source (heap.blocks addr) ≡ true → space_in (model.source_at (world_told heap words) addr) ≡ heaps.medium_space (heap.blocks addr)
   space_same addr is =
       let b = own_of heap words a kinds.Source addr is in
       let told = source_word heap words a addr b 0 (omega arith) in
@@ -109,18 +109,18 @@ module _ (heap : View) (words : ℕ) (a : IsAudited heap words) where
       ∙ space_is (word_of (heap.blocks addr) 0) (word_of (heap.blocks addr) 4) (behind_words (heap.blocks addr) 6) (omega (arith, told, least)) (omega (arith, told, most))
 
   extents_same : (space : Space) (addr : ℕ) → is_kind kinds.Object (heap.blocks addr) ≡ true →
-      sum_by (extent_charge (world_told heap words) space) (object_told heap words addr).extents ≡ sum_by (heaps.extent_charge heap space) (members heap words (owners.Extents addr))
+      sum_by (extent_charge (world_told heap words) space) (object_told heap words addr).extents ≡ sum_by (heaps.extent_charge_at heap space) (members heap words (owners.Extents addr))
   extents_same space addr is =
       let ms : List ℕ = members heap words (owners.Extents addr) in
       let chain = extent_chain heap words a addr is in
       sum_by-map (extent_charge (world_told heap words) space) (extent_told heap) ms
-      ∙ sum_alike (λ (n : ℕ). extent_charge (world_told heap words) space (extent_told heap n)) (heaps.extent_charge heap space) ms
-      (all_so (λ n. is_member heap (owners.Extents addr) n ≡ true) (λ n. extent_charge (world_told heap words) space (extent_told heap n) ≡ heaps.extent_charge heap space n)
+      ∙ sum_alike (λ (n : ℕ). extent_charge (world_told heap words) space (extent_told heap n)) (heaps.extent_charge_at heap space) ms
+      (all_so (λ n. is_member heap (owners.Extents addr) n ≡ true) (λ n. extent_charge (world_told heap words) space (extent_told heap n) ≡ heaps.extent_charge_at heap space n)
       (λ n member. ap (λ (of : Space). bytes_charge of (word_of (heap.blocks n) 2) space) (space_same (word_of (heap.blocks n) 0) (source_there n member))) ms
-      (goes_members heap words (owners.Extents addr) 0 (first_of heap (owners.Extents addr)) ms chain.last 0 chain.goes))
+      (goes_members heap words (owners.Extents addr) 0 (first_link heap (owners.Extents addr)) ms chain.last 0 chain.goes))
 
   capsules_same : (space : Space) (owner : Owner) →
-      sum_by (capsule_charge space) (map (capsule_told heap) (members heap words owner)) ≡ sum_by (heaps.capsule_charge heap space) (members heap words owner)
+      sum_by (capsule_charge space) (map (capsule_told heap) (members heap words owner)) ≡ sum_by (heaps.capsule_charge_at heap space) (members heap words owner)
   capsules_same space owner =
       sum_by-map (capsule_charge space) (capsule_told heap) (members heap words owner)
       ∙ (λ i. sum_by (λ (n : ℕ). in_space spaces.Heap (capsule_bytes (length-behind (heap.blocks n) i)) space) (members heap words owner))
@@ -130,12 +130,12 @@ module _ (heap : View) (words : ℕ) (a : IsAudited heap words) where
       option_map_or (thing_charge (world_told heap words) account space) (thing_told heap words addr) 0 ≡ heaps.charge_at heap words account space addr
   charge_same account space addr =
       thing_cases heap words (λ (o : Option Thing). option_map_or (thing_charge (world_told heap words) account space) o 0 ≡ heaps.charge_at heap words account space addr) addr
-      (λ at. sym (ap (λ (t : Bool). cond (t && word_of (heap.blocks addr) 0 == account_number account) (heaps.object_charge heap words space addr) 0) (ap (is_kind kinds.Object) at)))
+      (λ at. sym (ap (λ (t : Bool). cond (t && word_of (heap.blocks addr) 0 == account_number account) (heaps.object_charge_at heap words space addr) 0) (ap (is_kind kinds.Object) at)))
       by_kind
     where
       other : (kind : Kind) → is_kind kind (heap.blocks addr) ≡ true → (kind_number kind == 10) ≡ false → 0 ≡ heaps.charge_at heap words account space addr
       other kind is off =
-          sym (ap (λ (t : Bool). cond (t && word_of (heap.blocks addr) 0 == account_number account) (heaps.object_charge heap words space addr) 0)
+          sym (ap (λ (t : Bool). cond (t && word_of (heap.blocks addr) 0 == account_number account) (heaps.object_charge_at heap words space addr) 0)
           (kind_apart kind kinds.Object (heap.blocks addr) is off))
 
       by_kind : (kind : Kind) → is_kind kind (heap.blocks addr) ≡ true →
@@ -152,12 +152,12 @@ module _ (heap : View) (words : ℕ) (a : IsAudited heap words) where
       by_kind kinds.Object is =
           (λ i. cond (account_same account (word_of (heap.blocks addr) 0) (object_account heap words a addr is) i)
           (in_space spaces.Heap object_bytes space + extents_same space addr is i + capsules_same space (owners.Headers addr) i + capsules_same space (owners.Trailers addr) i) 0)
-          ∙ ap (λ (t : Bool). cond (t && word_of (heap.blocks addr) 0 == account_number account) (heaps.object_charge heap words space addr) 0) (sym is)
+          ∙ ap (λ (t : Bool). cond (t && word_of (heap.blocks addr) 0 == account_number account) (heaps.object_charge_at heap words space addr) 0) (sym is)
       by_kind kinds.Extent is = other kinds.Extent is refl
       by_kind kinds.Capsule is = other kinds.Capsule is refl
       by_kind kinds.Ticket is = other kinds.Ticket is refl
 
-  left_same : (space : Space) (addr : ℕ) → amount (ticket_at heap addr).left space ≡ heaps.left_at heap space addr
+  left_same : (space : Space) (addr : ℕ) → amount (ticket_in heap addr).left space ≡ heaps.left_at heap space addr
   left_same spaces.File addr = refl
   left_same spaces.Bulk addr = refl
   left_same spaces.Heap addr = refl
@@ -165,14 +165,14 @@ module _ (heap : View) (words : ℕ) (a : IsAudited heap words) where
   tickets_left : (account : Acct) (space : Space) → left_in space (tickets_of (world_told heap words).accounts account) ≡ sum_by (heaps.left_at heap space) (members heap words (owners.Queue account))
   tickets_left accts.Inbound space = left_all (members heap words (owners.Queue accts.Inbound)) space
     where
-      left_all : (ms : List ℕ) (space : Space) → left_in space (map (ticket_at heap) ms) ≡ sum_by (heaps.left_at heap space) ms
-      left_all ms space = sum_by-map (λ (t : Ticket). amount t.left space) (ticket_at heap) ms ∙ (λ i. sum_by (λ (n : ℕ). left_same space n i) ms)
+      left_all : (ms : List ℕ) (space : Space) → left_in space (map (ticket_in heap) ms) ≡ sum_by (heaps.left_at heap space) ms
+      left_all ms space = sum_by-map (λ (t : Ticket). amount t.left space) (ticket_in heap) ms ∙ (λ i. sum_by (λ (n : ℕ). left_same space n i) ms)
   tickets_left accts.Outbound space =
-      sum_by-map (λ (t : Ticket). amount t.left space) (ticket_at heap) (members heap words (owners.Queue accts.Outbound))
+      sum_by-map (λ (t : Ticket). amount t.left space) (ticket_in heap) (members heap words (owners.Queue accts.Outbound))
       ∙ (λ i. sum_by (λ (n : ℕ). left_same space n i) (members heap words (owners.Queue accts.Outbound)))
 
   -- what is occupied of a space in an account
-  pub occupancy_same : (account : Acct) (space : Space) → occupancy (world_told heap words) account space ≡ heaps.occupancy heap words account space
+  pub occupancy_same : (account : Acct) (space : Space) → occupancy (world_told heap words) account space ≡ heaps.occupancy_in heap words account space
   occupancy_same account space =
       let things : sum_by (λ (e : ℕ × Thing). thing_charge (world_told heap words) account space e.1) (finite.entries (world_told heap words).things) ≡ sum_by (heaps.charge_at heap words account space) (places words) =
       ap (sum_by (λ (e : ℕ × Thing). thing_charge (world_told heap words) account space e.1)) (things_are heap words a)

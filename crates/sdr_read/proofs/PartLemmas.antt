@@ -29,7 +29,7 @@ use Rattle.sdr_base.specs.declared.kind.Kind.{Kind}
 use Rattle.sdr_base.specs.declared.kind.Kind.TheVariants as kinds
 use Rattle.sdr_count.specs.Counted.{IsCounted}
 use Rattle.sdr_keys.specs.Members.{members}
-use Rattle.sdr_count.specs.Queues.{ticket_at}
+use Rattle.sdr_count.specs.Queues.{ticket_in}
 use Rattle.sdr_laws.proofs.DistinctLemmas.{count_by-cons}
 use Rattle.sdr_model.specs.Accounts.{tickets_of}
 use Rattle.sdr_model.specs.TicketRows.{ticket_row}
@@ -37,7 +37,7 @@ use Rattle.sdr_model.specs.declared.things.Thing.{Thing}
 use Rattle.sdr_owner.proofs.LinkingLemmas.{goes_linked}
 use Rattle.sdr_owner.proofs.ReadingLemmas.{names_back, tickets_back}
 use Rattle.sdr_owner.specs.Chains as chains
-use Rattle.sdr_owner.specs.Linking.{AreRows, StandIn, StandsAt}
+use Rattle.sdr_owner.specs.Linking.{AreRows, AllStandAt, StandsAt}
 use Rattle.sdr_owner.specs.Owners.{owned_at, owned_by, root_owners}
 use Rattle.sdr_owner.specs.Reading.{bytes_of, item_read, name_read, ticket_read}
 use Rattle.sdr_owner.specs.View.{View, is_kind, word_of}
@@ -88,7 +88,7 @@ module _ (heap : View) (words : ℕ) (a : IsAudited heap words) where
       ∙ ap (λ (k : Kind). flat_map (members heap words) (owned_by addr k (length b.own.bytes))) b.kind_is
 
   -- a block stands alone
-  one_stands : (addr : ℕ) (block : Block) → heap.blocks addr ≡ Some block → StandIn heap ((addr, block) ∷ [])
+  one_stands : (addr : ℕ) (block : Block) → heap.blocks addr ≡ Some block → AllStandAt heap ((addr, block) ∷ [])
   one_stands addr block is =
       All-cons (StandsAt heap) (addr, block) [] (record { some = nonzero heap words a addr block is; is = is }) (All-nil (StandsAt heap))
 
@@ -119,24 +119,24 @@ module _ (heap : View) (words : ℕ) (a : IsAudited heap words) where
 
   -- so is that of a queue that of the account's tickets
   queue_rows : (account : Acct) →
-      AreRows heap ticket_addr (ticket_block account) 0 (chains.first_of heap (owners.Queue account))
-      (map ticket_row (map (ticket_at heap) (members heap words (owners.Queue account)))) (queue_chain account).last
+      AreRows heap ticket_addr (ticket_block account) 0 (chains.first_link heap (owners.Queue account))
+      (map ticket_row (map (ticket_in heap) (members heap words (owners.Queue account)))) (queue_chain account).last
   queue_rows account =
-      subst (λ rows. AreRows heap ticket_addr (ticket_block account) 0 (chains.first_of heap (owners.Queue account)) rows (queue_chain account).last)
-      (sym (map-map ticket_row (ticket_at heap) (members heap words (owners.Queue account))))
+      subst (λ rows. AreRows heap ticket_addr (ticket_block account) 0 (chains.first_link heap (owners.Queue account)) rows (queue_chain account).last)
+      (sym (map-map ticket_row (ticket_in heap) (members heap words (owners.Queue account))))
       (goes_linked heap (owners.Queue account) ticket_addr (ticket_block account) (ticket_read heap) (tickets_back heap (readable heap words a) account) 0
-      (chains.first_of heap (owners.Queue account)) (members heap words (owners.Queue account)) (queue_chain account).last (queue_chain account).goes)
+      (chains.first_link heap (owners.Queue account)) (members heap words (owners.Queue account)) (queue_chain account).last (queue_chain account).goes)
 
   pub tickets_rows : (account : Acct) →
-      AreRows heap ticket_addr (ticket_block account) 0 (chains.first_of heap (owners.Queue account))
+      AreRows heap ticket_addr (ticket_block account) 0 (chains.first_link heap (owners.Queue account))
       (map ticket_row (tickets_of (world_told heap words).accounts account)) (queue_chain account).last
   tickets_rows accts.Inbound = queue_rows accts.Inbound
   tickets_rows accts.Outbound = queue_rows accts.Outbound
 
-  pub names_stand : StandIn heap (catalogue_entries (map name_row (world_told heap words).names))
+  pub names_stand : AllStandAt heap (catalogue_entries (map name_row (world_told heap words).names))
   names_stand = names_rows.stand
 
-  pub queues_stand : (account : Acct) → StandIn heap (queue_entries (world_told heap words).accounts account)
+  pub queues_stand : (account : Acct) → AllStandAt heap (queue_entries (world_told heap words).accounts account)
   queues_stand account = (tickets_rows account).stand
 
   pub times-names : (q : ℕ) → times q (catalogue_entries (map name_row (world_told heap words).names)) ≡ count_by (λ other. other == q) (members heap words owners.Catalogue)
@@ -145,11 +145,11 @@ module _ (heap : View) (words : ℕ) (a : IsAudited heap words) where
       ∙ ap (λ (l : List ℕ). count_by (λ other. other == q) l) (addrs_back (name_told heap) name_row name_addr (λ n. refl) (members heap words owners.Catalogue))
 
   times-queue : (q : ℕ) (account : Acct) →
-      times q (ticket_entries account (map ticket_row (map (ticket_at heap) (members heap words (owners.Queue account)))))
+      times q (ticket_entries account (map ticket_row (map (ticket_in heap) (members heap words (owners.Queue account)))))
       ≡ count_by (λ other. other == q) (members heap words (owners.Queue account))
   times-queue q account =
-      times-linked ticket_addr (ticket_block account) q 0 0 (map ticket_row (map (ticket_at heap) (members heap words (owners.Queue account))))
-      ∙ ap (λ (l : List ℕ). count_by (λ other. other == q) l) (addrs_back (ticket_at heap) ticket_row ticket_addr (λ n. refl) (members heap words (owners.Queue account)))
+      times-linked ticket_addr (ticket_block account) q 0 0 (map ticket_row (map (ticket_in heap) (members heap words (owners.Queue account))))
+      ∙ ap (λ (l : List ℕ). count_by (λ other. other == q) l) (addrs_back (ticket_in heap) ticket_row ticket_addr (λ n. refl) (members heap words (owners.Queue account)))
 
   pub times-queues : (q : ℕ) (account : Acct) →
       times q (queue_entries (world_told heap words).accounts account) ≡ count_by (λ other. other == q) (members heap words (owners.Queue account))
@@ -158,13 +158,13 @@ module _ (heap : View) (words : ℕ) (a : IsAudited heap words) where
 
   module _ (f : AreFitting heap words) (counted : IsCounted heap words) where
     -- the blocks of each thing stand
-    pub thing_stands : (addr : ℕ) → IfSome (thing_told heap words addr) (λ thing. StandIn heap (thing_entries (ties_of (world_told heap words)) addr thing))
+    pub thing_stands : (addr : ℕ) → IfSome (thing_told heap words addr) (λ thing. AllStandAt heap (thing_entries (ties_of (world_told heap words)) addr thing))
     thing_stands addr =
-        thing_cases heap words (λ (o : Option Thing). IfSome o (λ thing. StandIn heap (thing_entries (ties_of (world_told heap words)) addr thing))) addr
+        thing_cases heap words (λ (o : Option Thing). IfSome o (λ thing. AllStandAt heap (thing_entries (ties_of (world_told heap words)) addr thing))) addr
         (λ at. tt) by_kind
       where
         by_kind : (kind : Kind) → is_kind kind (heap.blocks addr) ≡ true →
-            IfSome (thing_of_kind kind heap words addr) (λ thing. StandIn heap (thing_entries (ties_of (world_told heap words)) addr thing))
+            IfSome (thing_of_kind kind heap words addr) (λ thing. AllStandAt heap (thing_entries (ties_of (world_told heap words)) addr thing))
         by_kind kinds.Raw is =
             let bytes : List ℕ = drop 8 (bytes_of (heap.blocks addr)) in
             one_stands addr (raw_block ((ties_of (world_told heap words)).named_by addr) bytes)

@@ -15,14 +15,14 @@ use Rattle.sdr_base.specs.declared.kind.Space.TheVariants as spaces
 use Rattle.sdr_count.specs.Counted.{IsCounted}
 use Rattle.sdr_keys.specs.Members.{members}
 use Rattle.sdr_count.specs.Queues as queues
-use Rattle.sdr_count.specs.Queues.{AreLawful, IsLawful, amounts_in, is_left_rightly, room, ticket_at, tickets}
+use Rattle.sdr_count.specs.Queues.{AreLawful, IsLawful, amounts_in, is_left_rightly, room, ticket_in, tickets}
 use Rattle.sdr_model.specs.Accounts.{most_amount}
 use Rattle.sdr_model.specs.Amounts.{amounts_by, are_within, is_nothing, minus, no_amounts}
 use Rattle.sdr_model.specs.Charges.{rooms}
 use Rattle.sdr_model.specs.Queue.{front_waiting}
 use Rattle.sdr_model.specs.Valid.{IsBarred, IsValidAccount, IsValidTicket, KeepQueues}
 use Rattle.sdr_model.specs.declared.accounts.Ticket.{Ticket}
-use Rattle.sdr_owner.specs.Chains.{first_of, is_member}
+use Rattle.sdr_owner.specs.Chains.{first_link, is_member}
 use Rattle.sdr_owner.specs.View.{View, is_kind, view_in, word_of}
 use Rattle.sdr_owner.specs.declared.owner.Owner.TheVariants as owners
 use Rattle.sdr_read.proofs.LayoutLemmas.{HasLayout, word_told}
@@ -81,7 +81,7 @@ waiting_so t right waits =
 
 module _ (heap : View) (words : ℕ) (a : IsAudited heap words) where
   -- what the ticket at an address asks is at most the greatest amount
-  asked_few : (addr : ℕ) → is_kind kinds.Ticket (heap.blocks addr) ≡ true → are_within (ticket_at heap addr).asked (amounts_by (λ space. most_amount)) ≡ true
+  asked_few : (addr : ℕ) → is_kind kinds.Ticket (heap.blocks addr) ≡ true → are_within (ticket_in heap addr).asked (amounts_by (λ space. most_amount)) ≡ true
   asked_few addr is =
       let b = own_of heap words a kinds.Ticket addr is in
       let l = is_ticket_so b.own.bytes (layout_of heap words a kinds.Ticket addr b) in
@@ -98,15 +98,15 @@ module _ (heap : View) (words : ℕ) (a : IsAudited heap words) where
   -- the blocks in a queue are tickets
   pub ticket_members : (account : Acct) → All (λ n. is_member heap (owners.Queue account) n ≡ true) (members heap words (owners.Queue account))
   ticket_members account =
-      goes_members heap words (owners.Queue account) 0 (first_of heap (owners.Queue account)) (members heap words (owners.Queue account)) (queue_chain heap words a account).last 0
+      goes_members heap words (owners.Queue account) 0 (first_link heap (owners.Queue account)) (members heap words (owners.Queue account)) (queue_chain heap words a account).last 0
       (queue_chain heap words a account).goes
 
   -- the tickets of an account are valid
   tickets_valid : (account : Acct) → IsLawful heap words account → All IsValidTicket (tickets heap words account)
   tickets_valid account lawful =
       let asked : All (λ t. are_within t.asked (amounts_by (λ space. most_amount)) ≡ true) (tickets heap words account) =
-      All-map (λ (t : Ticket). are_within t.asked (amounts_by (λ space. most_amount)) ≡ true) (ticket_at heap) (members heap words (owners.Queue account))
-      (all_so (λ n. is_member heap (owners.Queue account) n ≡ true) (λ n. are_within (ticket_at heap n).asked (amounts_by (λ space. most_amount)) ≡ true)
+      All-map (λ (t : Ticket). are_within t.asked (amounts_by (λ space. most_amount)) ≡ true) (ticket_in heap) (members heap words (owners.Queue account))
+      (all_so (λ n. is_member heap (owners.Queue account) n ≡ true) (λ n. are_within (ticket_in heap n).asked (amounts_by (λ space. most_amount)) ≡ true)
       (λ n member. asked_few n member) (members heap words (owners.Queue account)) (ticket_members account)) in
       λ k d less. record {
         asked = asked k d less;
@@ -155,7 +155,7 @@ module _ (bytes : List ℕ) (right : ControlIsRight bytes) (a : IsAudited (view_
         distinct = subst (IsDistinct nat_eq) (sym parts) lawful.outbound.distinct;
         below =
             subst (All (λ n. n < root_in bytes 108)) (sym parts)
-            (All-append (λ n. n < root_in bytes 108) (queues.numbers_of inbound) (queues.numbers_of outbound) lawful.inbound.queue.below lawful.outbound.queue.below);
+            (All-append (λ n. n < root_in bytes 108) (queues.ticket_numbers inbound) (queues.ticket_numbers outbound) lawful.inbound.queue.below lawful.outbound.queue.below);
         next = leb-true (root_in bytes 108) most_amount (and_parts (nat_le 1 (root_in bytes 108)) (nat_le (root_in bytes 108) most_amount) next_at).1;
       }
 

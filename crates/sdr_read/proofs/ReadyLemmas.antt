@@ -7,7 +7,7 @@ use Rattle.sdr_base.specs.KeptHeap.{block_in}
 use Rattle.sdr_base.specs.declared.account.Acct.{Acct}
 use Rattle.sdr_base.specs.declared.account.Acct.TheVariants as accts
 use Rattle.sdr_base.specs.declared.kind.Kind.TheVariants as kinds
-use Rattle.sdr_count.specs.Queues.{ticket_at}
+use Rattle.sdr_count.specs.Queues.{ticket_in}
 use Rattle.sdr_keys.specs.Members.{members}
 use Rattle.sdr_model.specs.Fields.{FitsFields, FitsName, FitsTicket}
 use Rattle.sdr_model.specs.Valid.{IsValidThing}
@@ -58,10 +58,10 @@ module _ (bytes : List ℕ) (c : IsCounted bytes) where
   pub tickets_short : (account : Acct) → AreShort (view_in bytes) (length bytes / 8) account
   tickets_short account =
       let addrs = members (view_in bytes) (length bytes / 8) (owners.Queue account) in
-      all_so (λ n. FitsTicket (ticket_at (view_in bytes) n)) (IsShort (view_in bytes))
+      all_so (λ n. FitsTicket (ticket_in (view_in bytes) n)) (IsShort (view_in bytes))
       (λ n fits. record { coarse = fits.coarse; fine = fits.fine }) addrs
-      (all_made FitsTicket (ticket_at (view_in bytes)) addrs (by_account account))
+      (all_made FitsTicket (ticket_in (view_in bytes)) addrs (by_account account))
     where
-      by_account : (of : Acct) → All FitsTicket (map (ticket_at (view_in bytes)) (members (view_in bytes) (length bytes / 8) (owners.Queue of)))
+      by_account : (of : Acct) → All FitsTicket (map (ticket_in (view_in bytes)) (members (view_in bytes) (length bytes / 8) (owners.Queue of)))
       by_account accts.Inbound = fields.inbound
       by_account accts.Outbound = fields.outbound

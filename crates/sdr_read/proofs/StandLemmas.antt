@@ -14,7 +14,7 @@ use Rattle.sdr_base.proofs.PoolsLemmas.{count_by-append, count_by-no}
 use Rattle.sdr_base.proofs.StandingLemmas.{at-nowhere, times-append}
 use Rattle.sdr_base.specs.Blocks.{Block}
 use Rattle.sdr_base.specs.Catalogue.{catalogue_entries}
-use Rattle.sdr_base.specs.Entries.{Entries, Stands, at, times}
+use Rattle.sdr_base.specs.Entries.{Entries, BlocksAre, at, times}
 use Rattle.sdr_base.specs.Kinds.{kind_number}
 use Rattle.sdr_base.specs.declared.account.Acct.TheVariants as accts
 use Rattle.sdr_base.specs.declared.kind.Kind.{Kind}
@@ -24,15 +24,15 @@ use Rattle.sdr_keys.specs.Members.{members}
 use Rattle.sdr_model.specs.declared.things.Thing.{Thing}
 use Rattle.sdr_owner.proofs.MarksLemmas.{counted}
 use Rattle.sdr_owner.proofs.ReadingLemmas.{same_kind}
-use Rattle.sdr_owner.specs.Chains.{Goes, first_of, is_among, next_of}
-use Rattle.sdr_owner.specs.Linking.{StandIn, StandsAt}
+use Rattle.sdr_owner.specs.Chains.{ChainGoes, first_link, is_among, next_of}
+use Rattle.sdr_owner.specs.Linking.{AllStandAt, StandsAt}
 use Rattle.sdr_owner.specs.Owners.{kind_in, owned_at, owners_of}
 use Rattle.sdr_owner.specs.Rules as rules
 use Rattle.sdr_owner.specs.Rules.{IsKept}
 use Rattle.sdr_owner.specs.View.{View, is_kind}
 use Rattle.sdr_owner.specs.declared.owner.Owner.{Owner}
 use Rattle.sdr_owner.specs.declared.owner.Owner.TheVariants as owners
-use Rattle.sdr_owner.specs.declared.rules.Rule.TheVariants as which
+use Rattle.sdr_owner.specs.declared.rules.OwnerRule.TheVariants as which
 use Rattle.sdr_read.proofs.ChainLemmas.{IsTold, reached_followed}
 use Rattle.sdr_read.proofs.LinkLemmas.{all_told}
 use Rattle.sdr_read.proofs.OwnLemmas.{IsAudited}
@@ -43,7 +43,7 @@ use Rattle.sdr_read.proofs.Fitting.{AreFitting}
 use Rattle.sdr_read.specs.Told.{thing_by, thing_of_kind, thing_told, world_told}
 
 -- blocks that stand are found where they are listed
-at_listed : (heap : View) (q : ℕ) (es : Entries) → StandIn heap es → 1 ≤ times q es → heap.blocks q ≡ at es q
+at_listed : (heap : View) (q : ℕ) (es : Entries) → AllStandAt heap es → 1 ≤ times q es → heap.blocks q ≡ at es q
 unfolding at times
 at_listed heap q [] stand some = absurd (let e : 1 ≤ 0 = some in omega (arith, e))
 at_listed heap q (e ∷ es) stand some =
@@ -60,7 +60,7 @@ at_listed heap q (e ∷ es) stand some =
     ]
 
 -- none of them stands at 0
-pub none_at_null : (heap : View) (es : Entries) → StandIn heap es → times 0 es ≡ 0
+pub none_at_null : (heap : View) (es : Entries) → AllStandAt heap es → times 0 es ≡ 0
 unfolding times
 none_at_null heap [] stand = refl
 none_at_null heap (e ∷ es) stand =
@@ -70,8 +70,8 @@ none_at_null heap (e ∷ es) stand =
     omega (arith, less, rest)
 
 -- blocks that stand, each listed once, and none besides, are just those in use
-stands_by : (heap : View) (es : Entries) → StandIn heap es → ((q : ℕ) → times q es ≤ 1) →
-    ((q : ℕ) (block : Block) → heap.blocks q ≡ Some block → 1 ≤ times q es) → Stands heap.blocks es
+stands_by : (heap : View) (es : Entries) → AllStandAt heap es → ((q : ℕ) → times q es ≤ 1) →
+    ((q : ℕ) (block : Block) → heap.blocks q ≡ Some block → 1 ≤ times q es) → BlocksAre heap.blocks es
 stands_by heap es stand once all = record {
   same = λ q. same q (cases_eq (times q es) 0);
   once = once;
@@ -118,7 +118,7 @@ module _ (heap : View) (words : ℕ) where
   abbrev NoThing : ℕ → Type 0
   NoThing addr = thing_told heap words addr ≡ None
 
-  goes_none : (owner : Owner) (before link : ℕ) (addrs : List ℕ) (last next : ℕ) → Goes heap owner before link addrs last next → All NoThing addrs
+  goes_none : (owner : Owner) (before link : ℕ) (addrs : List ℕ) (last next : ℕ) → ChainGoes heap owner before link addrs last next → All NoThing addrs
   goes_none owner before link [] last next goes = All-nil NoThing
   goes_none owner before link (a ∷ addrs) last next (is, some, member, named, more) =
       All-cons NoThing a addrs (member_none owner a (heap.blocks a) member) (goes_none owner a (next_of heap owner a) addrs last next more)
@@ -128,7 +128,7 @@ module _ (heap : View) (words : ℕ) where
   chains_none (owner ∷ os) told =
       let chain = All-head (IsTold heap words) owner os told in
       All-append NoThing (members heap words owner) (flat_map (members heap words) os)
-      (goes_none owner 0 (first_of heap owner) (members heap words owner) chain.last 0 chain.goes)
+      (goes_none owner 0 (first_link heap owner) (members heap words owner) chain.last 0 chain.goes)
       (chains_none os (All-tail (IsTold heap words) owner os told))
 
   -- what owners of owners reach
@@ -172,14 +172,14 @@ module _ (heap : View) (words : ℕ) (a : IsAudited heap words) where
 
   module _ (f : AreFitting heap words) (c : IsCounted heap words) where
     -- all blocks of the world stand
-    pub entries_stand : StandIn heap (entries_of (world_told heap words))
+    pub entries_stand : AllStandAt heap (entries_of (world_told heap words))
     entries_stand =
         All-append (StandsAt heap) (flat_map (λ (e : ℕ × Thing). thing_entries (ties_of (world_told heap words)) e.0 e.1) (finite.entries (world_told heap words).things))
         (other_entries (world_told heap words))
-        (subst (λ (es : List (ℕ × Thing)). StandIn heap (flat_map (λ (e : ℕ × Thing). thing_entries (ties_of (world_told heap words)) e.0 e.1) es)) (sym things_are')
+        (subst (λ (es : List (ℕ × Thing)). AllStandAt heap (flat_map (λ (e : ℕ × Thing). thing_entries (ties_of (world_told heap words)) e.0 e.1) es)) (sym things_are')
         (each (row (thing_told heap words) 0 words)
-        (all_row (thing_told heap words) (λ (e : ℕ × Thing). StandIn heap (thing_entries (ties_of (world_told heap words)) e.0 e.1))
-        (λ q x is. subst (λ (o : Option Thing). IfSome o (λ thing. StandIn heap (thing_entries (ties_of (world_told heap words)) q thing))) is (thing_stands heap words a f c q)) 0 words)))
+        (all_row (thing_told heap words) (λ (e : ℕ × Thing). AllStandAt heap (thing_entries (ties_of (world_told heap words)) e.0 e.1))
+        (λ q x is. subst (λ (o : Option Thing). IfSome o (λ thing. AllStandAt heap (thing_entries (ties_of (world_told heap words)) q thing))) is (thing_stands heap words a f c q)) 0 words)))
         (All-append (StandsAt heap) (catalogue_entries (map name_row (world_told heap words).names))
         (queue_entries (world_told heap words).accounts accts.Inbound ++ queue_entries (world_told heap words).accounts accts.Outbound)
         (names_stand heap words a)
@@ -189,14 +189,14 @@ module _ (heap : View) (words : ℕ) (a : IsAudited heap words) where
         things_are' : finite.entries (world_told heap words).things ≡ row (thing_told heap words) 0 words
         things_are' = things_are heap words a
 
-        each : (es : List (ℕ × Thing)) → All (λ (e : ℕ × Thing). StandIn heap (thing_entries (ties_of (world_told heap words)) e.0 e.1)) es →
-            StandIn heap (flat_map (λ (e : ℕ × Thing). thing_entries (ties_of (world_told heap words)) e.0 e.1) es)
+        each : (es : List (ℕ × Thing)) → All (λ (e : ℕ × Thing). AllStandAt heap (thing_entries (ties_of (world_told heap words)) e.0 e.1)) es →
+            AllStandAt heap (flat_map (λ (e : ℕ × Thing). thing_entries (ties_of (world_told heap words)) e.0 e.1) es)
         each [] all = All-nil (StandsAt heap)
         each (e ∷ es) all =
             All-append (StandsAt heap) (thing_entries (ties_of (world_told heap words)) e.0 e.1)
             (flat_map (λ (e : ℕ × Thing). thing_entries (ties_of (world_told heap words)) e.0 e.1) es)
-            (All-head (λ (e : ℕ × Thing). StandIn heap (thing_entries (ties_of (world_told heap words)) e.0 e.1)) e es all)
-            (each es (All-tail (λ (e : ℕ × Thing). StandIn heap (thing_entries (ties_of (world_told heap words)) e.0 e.1)) e es all))
+            (All-head (λ (e : ℕ × Thing). AllStandAt heap (thing_entries (ties_of (world_told heap words)) e.0 e.1)) e es all)
+            (each es (All-tail (λ (e : ℕ × Thing). AllStandAt heap (thing_entries (ties_of (world_told heap words)) e.0 e.1)) e es all))
 
     -- each is a thing's own or one that chains reach
     times-all : (q : ℕ) → times q (entries_of (world_told heap words)) ≡ own (thing_told heap words) q (row (thing_told heap words) 0 words) + count_by (λ other. other == q) a.owned.reached
@@ -279,5 +279,5 @@ module _ (heap : View) (words : ℕ) (a : IsAudited heap words) where
             omega (arith, t, one)
 
     -- the blocks in use are just those of the world
-    pub blocks_stand : Stands heap.blocks (entries_of (world_told heap words))
+    pub blocks_stand : BlocksAre heap.blocks (entries_of (world_told heap words))
     blocks_stand = stands_by heap (entries_of (world_told heap words)) entries_stand once all_listed

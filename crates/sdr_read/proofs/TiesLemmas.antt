@@ -22,7 +22,7 @@ use Rattle.sdr_keys.specs.Members.{members}
 use Rattle.sdr_model.proofs.SumLemmas.{sum_by-map}
 use Rattle.sdr_model.specs.Accounts.{is_same_account}
 use Rattle.sdr_model.specs.World.{thing_at}
-use Rattle.sdr_model.specs.Zco.{count_of, is_of_raw, names_raw, source_on, uses_in}
+use Rattle.sdr_model.specs.Zco.{count_of, is_of_raw, names_raw, source_naming, uses_in}
 use Rattle.sdr_model.specs.declared.things.Thing.{Thing}
 use Rattle.sdr_model.specs.declared.zco.Extent.{Extent}
 use Rattle.sdr_owner.specs.Reading.{behind_words}
@@ -30,7 +30,7 @@ use Rattle.sdr_owner.specs.Rules as rules
 use Rattle.sdr_owner.specs.Rules.{IsKept, is_source_of}
 use Rattle.sdr_owner.specs.View.{View, is_kind, word_of}
 use Rattle.sdr_owner.specs.declared.owner.Owner.TheVariants as owners
-use Rattle.sdr_owner.specs.declared.rules.Rule.TheVariants as which
+use Rattle.sdr_owner.specs.declared.rules.OwnerRule.TheVariants as which
 use Rattle.sdr_read.proofs.ChainLemmas.{IsPlace}
 use Rattle.sdr_read.proofs.LinkLemmas.{object_account}
 use Rattle.sdr_read.proofs.OwnLemmas.{IsAudited, own_of}
@@ -121,13 +121,14 @@ module _ (heap : View) (words : ℕ) (a : IsAudited heap words) where
   uses_same from account addr =
       thing_cases heap words (λ (o : Option Thing). option_map_or (uses_in from account) o 0 ≡ counts.uses_at heap words account from addr) addr
       (λ at. sym (ap (λ (t : Bool). cond (t && word_of (heap.blocks addr) 0 == account_number account)
-      (count_by (counts.names heap from) (members heap words (owners.Extents addr))) 0) (ap (is_kind kinds.Object) at)))
+      (count_by (counts.extent_names heap from) (members heap words (owners.Extents addr))) 0)
+          (ap (is_kind kinds.Object) at)))
       by_kind
     where
       other : (kind : Kind) → is_kind kind (heap.blocks addr) ≡ true → (kind_number kind == 10) ≡ false → 0 ≡ counts.uses_at heap words account from addr
       other kind is off =
           sym (ap (λ (t : Bool). cond (t && word_of (heap.blocks addr) 0 == account_number account)
-          (count_by (counts.names heap from) (members heap words (owners.Extents addr))) 0) (kind_apart kind kinds.Object (heap.blocks addr) is off))
+          (count_by (counts.extent_names heap from) (members heap words (owners.Extents addr))) 0) (kind_apart kind kinds.Object (heap.blocks addr) is off))
 
       by_kind : (kind : Kind) → is_kind kind (heap.blocks addr) ≡ true →
           option_map_or (uses_in from account) (thing_of_kind kind heap words addr) 0 ≡ counts.uses_at heap words account from addr
@@ -144,13 +145,13 @@ module _ (heap : View) (words : ℕ) (a : IsAudited heap words) where
           let ms : List ℕ = members heap words (owners.Extents addr) in
           (λ i. cond (account_same account (word_of (heap.blocks addr) 0) (object_account heap words a addr is) i)
           (sum_by-map (λ (e : Extent). cond (e.source == from) 1 0) (extent_told heap) ms i) 0)
-          ∙ ap (λ (t : Bool). cond (t && word_of (heap.blocks addr) 0 == account_number account) (count_by (counts.names heap from) ms) 0) (sym is)
+          ∙ ap (λ (t : Bool). cond (t && word_of (heap.blocks addr) 0 == account_number account) (count_by (counts.extent_names heap from) ms) 0) (sym is)
       by_kind kinds.Extent is = other kinds.Extent is refl
       by_kind kinds.Capsule is = other kinds.Capsule is refl
       by_kind kinds.Ticket is = other kinds.Ticket is refl
 
   -- how many extents of an account's objects name a source, in the world and in the heap
-  pub count_same : (from : ℕ) (account : Acct) → count_of (world_told heap words) from account ≡ counts.count_of heap words account from
+  pub count_same : (from : ℕ) (account : Acct) → count_of (world_told heap words) from account ≡ counts.named_count heap words account from
   count_same from account =
       ap (sum_by (λ (e : ℕ × Thing). uses_in from account e.1)) things_are
       ∙ sum_row (thing_told heap words) (λ (e : ℕ × Thing). uses_in from account e.1) (counts.uses_at heap words account from)
@@ -207,13 +208,13 @@ module _ (heap : View) (words : ℕ) (a : IsAudited heap words) where
   -- a raw object names the source of it
   pub source_named : (raw addr : ℕ) → is_source_of heap raw addr ≡ true → addr ≡ word_of (heap.blocks raw) 0
   source_named raw addr is =
-      let p = and_parts (rules.names_raw (heap.blocks addr)) (word_of (heap.blocks addr) 4 == raw) is in
+      let p = and_parts (rules.is_source_of_raw (heap.blocks addr)) (word_of (heap.blocks addr) 4 == raw) is in
       let subject = eqb-true (word_of (heap.blocks addr) 4) raw p.1 in
-      let named = unless (rules.names_raw (heap.blocks addr)) _ (named_back addr) p.0 in
+      let named = unless (rules.is_source_of_raw (heap.blocks addr)) _ (named_back addr) p.0 in
       sym (ap (λ (q : ℕ). word_of (heap.blocks q) 0) (sym subject) ∙ eqb-true (word_of (heap.blocks (word_of (heap.blocks addr) 4)) 0) addr named)
 
   -- the source on a raw object in the world is that which its block names
-  pub named_same : (raw : ℕ) → is_kind kinds.Raw (heap.blocks raw) ≡ true → or_null (source_on (world_told heap words) raw) ≡ word_of (heap.blocks raw) 0
+  pub named_same : (raw : ℕ) → is_kind kinds.Raw (heap.blocks raw) ≡ true → or_null (source_naming (world_told heap words) raw) ≡ word_of (heap.blocks raw) 0
   named_same raw is =
       let at : ℕ = word_of (heap.blocks raw) 0 in
       ap (λ (es : List (ℕ × Thing)). or_null (option_map (λ (e : ℕ × Thing). e.0) (find (λ (e : ℕ × Thing). names_raw raw e.1) es))) things_are
@@ -227,9 +228,9 @@ module _ (heap : View) (words : ℕ) (a : IsAudited heap words) where
       there : word_of (heap.blocks raw) 0 ≢ 0 → list_any (λ (e : ℕ × Thing). names_raw raw e.1) (row (thing_told heap words) 0 words) ≡ false → ⊥
       there some none =
           let at : ℕ = word_of (heap.blocks raw) 0 in
-          let names : rules.names_source (heap.blocks raw) ≡ true =
+          let names : rules.is_raw_of_source (heap.blocks raw) ≡ true =
           and_from (is_kind kinds.Raw (heap.blocks raw)) (not (at == 0)) is (ap not (ne_eqb at 0 some)) in
-          let source : is_source_of heap raw at ≡ true = unless (rules.names_source (heap.blocks raw)) _ (names_back raw) names in
+          let source : is_source_of heap raw at ≡ true = unless (rules.is_raw_of_source (heap.blocks raw)) _ (names_back raw) names in
           by_thing (thing_told heap words at) refl (raw_same raw at ∙ source) none
         where
           by_thing : (o : Option Thing) → thing_told heap words (word_of (heap.blocks raw) 0) ≡ o → option_map_or (names_raw raw) (thing_told heap words (word_of (heap.blocks raw) 0)) false ≡ true →
@@ -253,9 +254,9 @@ module _ (heap : View) (words : ℕ) (a : IsAudited heap words) where
     pub inbound_same : (addr : ℕ) → is_kind kinds.Source (heap.blocks addr) ≡ true → count_of (world_told heap words) addr accts.Inbound ≡ word_of (heap.blocks addr) 2
     inbound_same addr is =
         count_same addr accts.Inbound
-        ∙ sym (eqb-true (word_of (heap.blocks addr) 2) (counts.count_of heap words accts.Inbound addr) (and_parts (counts.tells_count heap words accts.Inbound addr) _ (told_counts addr is)).0)
+        ∙ sym (eqb-true (word_of (heap.blocks addr) 2) (counts.named_count heap words accts.Inbound addr) (and_parts (counts.tells_count heap words accts.Inbound addr) _ (told_counts addr is)).0)
 
     pub outbound_same : (addr : ℕ) → is_kind kinds.Source (heap.blocks addr) ≡ true → count_of (world_told heap words) addr accts.Outbound ≡ word_of (heap.blocks addr) 3
     outbound_same addr is =
         count_same addr accts.Outbound
-        ∙ sym (eqb-true (word_of (heap.blocks addr) 3) (counts.count_of heap words accts.Outbound addr) (and_parts (counts.tells_count heap words accts.Inbound addr) _ (told_counts addr is)).1)
+        ∙ sym (eqb-true (word_of (heap.blocks addr) 3) (counts.named_count heap words accts.Outbound addr) (and_parts (counts.tells_count heap words accts.Inbound addr) _ (told_counts addr is)).1)

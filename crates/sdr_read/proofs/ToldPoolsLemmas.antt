@@ -14,7 +14,7 @@ use Rattle.sdr_base.specs.Pools.{Pools, is_free_of}
 use Rattle.sdr_base.specs.Stored.{leader_words}
 use Rattle.sdr_large.proofs.FollowsLemmas.{at_once, follows-whole, within}
 use Rattle.sdr_large.proofs.ListsLemmas.{order_of-le}
-use Rattle.sdr_owner.specs.Chains.{AreOnce}
+use Rattle.sdr_base.specs.Entries.{AreOnce}
 use Rattle.sdr_read.proofs.ChainLemmas.{IsPlace, few_places}
 use Rattle.sdr_read.proofs.ToldWalkLemmas.{IsEntryTold, chain_linked, large_between, links_linked, small_between}
 use Rattle.sdr_read.specs.ToldPools.{entry_at, large_list_told, large_told, linked_from, pools_of, small_list_told, small_told}

@@ -4,7 +4,7 @@ use Rattle.std.specs.List.{All}
 use Rattle.std.proofs.lemmas.Bool.{eq-eqb, le-leb, lt-leb, ne_eqb}
 use Rattle.std.proofs.lemmas.List.Elements.{All-head, All-tail}
 use Rattle.sdr_base.specs.KeptLarge.{Links}
-use Rattle.sdr_base.specs.KeptPools.{Chain}
+use Rattle.sdr_base.specs.KeptPools.{ChainFrom}
 use Rattle.sdr_base.specs.LargePool.{extent_of}
 use Rattle.sdr_base.specs.Pools.{PoolBlock}
 use Rattle.sdr_base.specs.Stored.{leader_words, number_at}
@@ -75,9 +75,9 @@ module _ (bytes : List ℕ) (before : ℕ) where
       (ne_eqb (number_at place bytes) 0 (λ e. some (sym is ∙ e))))
 
 -- the list of a chain is what its links lead to
-pub chain_linked : (bytes addrs : List ℕ) (place most : ℕ) → Chain bytes place addrs → All (λ addr. addr ≢ 0) addrs → length addrs ≤ most →
+pub chain_linked : (bytes addrs : List ℕ) (place most : ℕ) → ChainFrom bytes place addrs → All (λ addr. addr ≢ 0) addrs → length addrs ≤ most →
     addrs ≡ linked_from bytes 0 most place
-unfolding Chain
+unfolding ChainFrom
 chain_linked bytes [] place most none all few = linked-end bytes 0 most place none
 chain_linked bytes (a ∷ addrs) place zero chain all few = absurd (omega (arith, few))
 chain_linked bytes (a ∷ addrs) place (suc most) (is, more) all few =

@@ -17,7 +17,7 @@ use Rattle.sdr_model.specs.declared.things.HashEntry.{HashEntry}
 use Rattle.sdr_model.specs.declared.zco.Subject.{Subject}
 use Rattle.sdr_model.specs.declared.zco.Subject.TheVariants as subjects
 use Rattle.sdr_model.specs.declared.things.Thing.{Thing}
-use Rattle.sdr_owner.specs.Chains.{first_of, is_member}
+use Rattle.sdr_owner.specs.Chains.{first_link, is_member}
 use Rattle.sdr_owner.specs.Reading.{behind_words, bytes_of}
 use Rattle.sdr_owner.specs.View.{View, is_kind, word_of}
 use Rattle.sdr_owner.specs.declared.owner.Owner.{Owner}
@@ -125,7 +125,8 @@ module _ (heap : View) (words : ℕ) (a : IsAudited heap words) where
         capsules owner chain capsule =
             All-map IsValidCapsule (capsule_told heap) (members heap words owner)
             (all_so (λ n. is_member heap owner n ≡ true) (λ n. IsValidCapsule (capsule_told heap n)) (λ n member. capsule_valid n (capsule n member)) (members heap words owner)
-            (goes_members heap words owner 0 (first_of heap owner) (members heap words owner) chain.last 0 chain.goes))
+            (goes_members heap words owner 0 (first_link heap owner) (members heap words owner) chain.last 0
+                chain.goes))
 
         by_kind : (kind : Kind) → is_kind kind (heap.blocks addr) ≡ true → IfSome (thing_of_kind kind heap words addr) IsValidThing
         by_kind kinds.Raw is =
@@ -185,7 +186,7 @@ module _ (heap : View) (words : ℕ) (a : IsAudited heap words) where
               All-map (λ e. 1 ≤ e.length) (extent_told heap) (members heap words (owners.Extents addr))
               (all_so (λ n. is_member heap (owners.Extents addr) n ≡ true) (λ n. 1 ≤ (extent_told heap n).length) (λ n member. (f.extents n member).some)
               (members heap words (owners.Extents addr))
-              (goes_members heap words (owners.Extents addr) 0 (first_of heap (owners.Extents addr)) (members heap words (owners.Extents addr)) (extent_chain heap words a addr is).last 0
+              (goes_members heap words (owners.Extents addr) 0 (first_link heap (owners.Extents addr)) (members heap words (owners.Extents addr)) (extent_chain heap words a addr is).last 0
               (extent_chain heap words a addr is).goes));
           part = f.parts addr is;
         }

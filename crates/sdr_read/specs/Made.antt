@@ -11,13 +11,13 @@ use Rattle.sdr_model.specs.declared.things.HashEntry.{HashEntry}
 use Rattle.sdr_model.specs.declared.things.Thing.{Thing}
 use Rattle.sdr_owner.specs.View.{View}
 use Rattle.sdr_owner.specs.declared.owner.Owner.TheVariants as owners
-use Rattle.sdr_count.specs.Queues.{ticket_at}
+use Rattle.sdr_count.specs.Queues.{ticket_in}
 use Rattle.sdr_read.specs.Told.{bucket_told, hash_told, name_told}
 
 -- the priorities of the ticket at an address are bytes
 pub record IsShort (heap : View) (addr : ℕ) : Type 0 where
-  pub coarse : (ticket_at heap addr).coarse < 2 ^ 8
-  pub fine : (ticket_at heap addr).fine < 2 ^ 8
+  pub coarse : (ticket_in heap addr).coarse < 2 ^ 8
+  pub fine : (ticket_in heap addr).fine < 2 ^ 8
 
 -- those of all tickets of an account are
 abbrev pub AreShort : View → ℕ → Acct → Type 0

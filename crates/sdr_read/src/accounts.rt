@@ -4,7 +4,7 @@ ghost use Rattle.sdr_base.specs.Cells.{IsRegionSize};
 ghost use Rattle.sdr_base.specs.declared.account.Acct.{Acct};
 ghost use Rattle.sdr_base.specs.declared.control.TheConstants.{FILE_MAXIMUM};
 ghost use Rattle.sdr_base.specs.declared.line.TheConstants.{WORD};
-ghost use Rattle.sdr_count.specs.Queues.{amounts_at, amounts_in, ticket_at};
+ghost use Rattle.sdr_count.specs.Queues.{amounts_at, amounts_in, ticket_in};
 ghost use Rattle.sdr_owner.specs.View.{view_in};
 ghost use Rattle.sdr_read.specs.Made.{AreShort, IsShort};
 ghost use Rattle.sdr_read.specs.Told.{account_in, accounts_told};
@@ -34,7 +34,7 @@ fn amounts_at(heap: &[u8], addr: Addr, field: u64) -> Amounts
 fn ticket_at(heap: &[u8], addr: Addr) -> Ticket
     requires region { IsRegionSize (length heap.now) }
     requires short { IsShort (view_in heap.now) addr }
-    ensures { result ≡ ticket_at (view_in heap.now) addr }
+    ensures { result ≡ ticket_in (view_in heap.now) addr }
 {
     Ticket {
         block: addr,
@@ -51,7 +51,7 @@ fn ticket_at(heap: &[u8], addr: Addr) -> Ticket
 fn tickets_at(alloc: Global, heap: &[u8], addrs: &[Addr]) -> Result<Items<Ticket>, NoMemory>
     requires region { IsRegionSize (length heap.now) }
     requires short { All (IsShort (view_in heap.now)) addrs.now }
-    ensures { IfOk result (λ row. row ≡ map (ticket_at (view_in heap.now)) addrs.now) }
+    ensures { IfOk result (λ row. row ≡ map (ticket_in (view_in heap.now)) addrs.now) }
 {
     let mut row = Items::new(alloc);
     for addr in addrs {

@@ -9,9 +9,8 @@ ghost use Rattle.sdr_read.specs.Told.{world_of};
 ghost use Rattle.sdr_read.specs.ToldPools.{pools_of};
 ghost use Rattle.sdr_region.specs.Region.{IsSoundRegion};
 
-/// A law: a heap region that passes the steps of the audit before that of queues stands for the world that its blocks and control
-/// words tell, with the pools that these tell: the blocks in use are just that world's, each with the bytes of what it keeps, and so
-/// are the control words. It does nothing.
+/// A law: a region that passes the audit up to counts stands for `world_of` its bytes, with the pools `pools_of`. It does
+/// nothing.
 pub fn counted_heaps_stand_for_worlds()
     ensures { (bytes : List ℕ) → IsCounted bytes →
         StandsFor bytes (world_of bytes) (pools_of bytes) }

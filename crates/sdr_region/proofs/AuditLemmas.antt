@@ -8,11 +8,11 @@ use Rattle.sdr_base.specs.Transaction.{HasReason, IfRefused, Transaction, Touche
 use Rattle.sdr_base.specs.declared.stop.Stop.{Stop}
 use Rattle.sdr_base.specs.declared.stop.Stop.TheVariants as stops
 use Rattle.sdr_region.specs.Auditing.{Audits, HasAuditReason, HasStop}
-use Rattle.sdr_region.specs.declared.error.AuditError.{AuditError}
-use Rattle.sdr_region.specs.declared.error.AuditError.TheVariants as errors
+use Rattle.sdr_region.specs.declared.error.StructureError.{StructureError}
+use Rattle.sdr_region.specs.declared.error.StructureError.TheVariants as errors
 
 -- a step after one that answered has its own reason
-reason_after : {T U : Type 0} (a b c : Transaction) (v : U) (r : Result T AuditError) → HasAuditReason {T = U} a b (Ok v) → HasAuditReason b c r → HasAuditReason a c r
+reason_after : {T U : Type 0} (a b c : Transaction) (v : U) (r : Result T StructureError) → HasAuditReason {T = U} a b (Ok v) → HasAuditReason b c r → HasAuditReason a c r
 reason_after a b c v (Ok value) f s = reason_then f s
 reason_after a b c v (Err (errors.Damaged place why)) f s = reason_then f s
 reason_after a b c v (Err errors.DiskFault) f s = reason_then f s
@@ -20,7 +20,7 @@ reason_after a b c v (Err errors.Failed) f s = reason_then f s
 
 -- a step after one that answered
 pub audits_then : {S T U : Type 0} {bytes : S → List ℕ} {transaction : S → Transaction} {keeps : S → S → Type 0}
-    (trans : (a b c : S) → keeps a b → keeps b c → keeps a c) {a b c : S} {v : U} {r : Result T AuditError} →
+    (trans : (a b c : S) → keeps a b → keeps b c → keeps a c) {a b c : S} {v : U} {r : Result T StructureError} →
     Audits bytes transaction keeps a b (Ok v) → Audits bytes transaction keeps b c r → Audits bytes transaction keeps a c r
 audits_then {S} {T} {U} {bytes} {transaction} {keeps} trans {a} {b} {c} {v} {r} f s = record {
   bytes = s.bytes ∙ f.bytes;
@@ -31,18 +31,18 @@ audits_then {S} {T} {U} {bytes} {transaction} {keeps} trans {a} {b} {c} {v} {r} 
 }
 
 -- the same error of another step
-pub audits_error : {S T U : Type 0} {bytes : S → List ℕ} {transaction : S → Transaction} {keeps : S → S → Type 0} {a b : S} {e : AuditError}
-    {r : Result U AuditError} → IsErrAnd r (λ x. x ≡ e) → Audits {T = T} bytes transaction keeps a b (Err e) → Audits bytes transaction keeps a b r
+pub audits_error : {S T U : Type 0} {bytes : S → List ℕ} {transaction : S → Transaction} {keeps : S → S → Type 0} {a b : S} {e : StructureError}
+    {r : Result U StructureError} → IsErrAnd r (λ x. x ≡ e) → Audits {T = T} bytes transaction keeps a b (Err e) → Audits bytes transaction keeps a b r
 audits_error {r = Ok value} is s = absurd is
 audits_error {S} {T} {U} {bytes} {transaction} {keeps} {a} {b} {e} {r = Err x} is s = record {
   bytes = s.bytes;
   touched = s.touched;
   room = s.room;
-  cause = subst (λ (y : AuditError). HasAuditReason {T = U} (transaction a) (transaction b) (Err y)) (sym is) (reason_of e s.cause);
+  cause = subst (λ (y : StructureError). HasAuditReason {T = U} (transaction a) (transaction b) (Err y)) (sym is) (reason_of e s.cause);
   quiet = s.quiet;
 }
   where
-    reason_of : (y : AuditError) → HasAuditReason {T = T} (transaction a) (transaction b) (Err y) → HasAuditReason {T = U} (transaction a) (transaction b) (Err y)
+    reason_of : (y : StructureError) → HasAuditReason {T = T} (transaction a) (transaction b) (Err y) → HasAuditReason {T = U} (transaction a) (transaction b) (Err y)
     reason_of (errors.Damaged place why) c = c
     reason_of errors.DiskFault c = c
     reason_of errors.Failed c = c
@@ -81,12 +81,12 @@ reads_audit same room cause quiet = record {
 }
 
 -- what holds of an error holds of the same error of another step
-pub error_same : {T : Type 0} (P : AuditError → Type 0) {e : AuditError} (r : Result T AuditError) → IsErrAnd r (λ x. x ≡ e) → P e → IfErr r P
+pub error_same : {T : Type 0} (P : StructureError → Type 0) {e : StructureError} (r : Result T StructureError) → IsErrAnd r (λ x. x ≡ e) → P e → IfErr r P
 error_same P (Ok value) is holds = absurd is
 error_same P (Err x) is holds = subst P (sym is) holds
 
 -- a reading that stopped, as a step that stopped
-pub reads_stop : {S T U : Type 0} {bytes : S → List ℕ} {transaction : S → Transaction} {keeps : S → S → Type 0} {a b : S} {stop : Stop} {r : Result U AuditError} →
+pub reads_stop : {S T U : Type 0} {bytes : S → List ℕ} {transaction : S → Transaction} {keeps : S → S → Type 0} {a b : S} {stop : Stop} {r : Result U StructureError} →
     bytes b ≡ bytes a → TouchesNone {T = T} (transaction a) (transaction b) (Err stop) → HasReason {T = T} (transaction a) (transaction b) (Err stop) → keeps a b →
     IsErrAnd r (λ x. HasStop x stop) → Audits {T = U} bytes transaction keeps a b r
 reads_stop {r = Ok value} same room cause quiet is = absurd is
@@ -101,9 +101,9 @@ reads_stop {S} {T} {U} {bytes} {transaction} {keeps} {a} {b} {stop} {r = Err x} 
     cause_of : (s : Stop) → IfRefused {T = T} (Err s) (λ _. ⊥) → HasReason {T = T} (transaction a) (transaction b) (Err s) → HasStop x s →
         HasAuditReason {T = U} (transaction a) (transaction b) (Err x)
     cause_of stops.DiskFault answered c s =
-        subst (λ (y : AuditError). HasAuditReason {T = U} (transaction a) (transaction b) (Err y)) (sym s) (record { later = c.later; explained = c.explained })
+        subst (λ (y : StructureError). HasAuditReason {T = U} (transaction a) (transaction b) (Err y)) (sym s) (record { later = c.later; explained = c.explained })
     cause_of stops.Failed answered c s =
-        subst (λ (y : AuditError). HasAuditReason {T = U} (transaction a) (transaction b) (Err y)) (sym s) (record { later = c.later; explained = c.explained })
+        subst (λ (y : StructureError). HasAuditReason {T = U} (transaction a) (transaction b) (Err y)) (sym s) (record { later = c.later; explained = c.explained })
     cause_of stops.MediaFault answered c s = absurd c.explained
     cause_of (stops.Refused refusal) answered c s = absurd answered
 

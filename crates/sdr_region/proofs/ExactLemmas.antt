@@ -11,10 +11,10 @@ use Rattle.sdr_region.proofs.SpacedLemmas.{none_some}
 use Rattle.sdr_region.specs.Content.{AllFilled, FirstUnfilled, is_filled}
 use Rattle.sdr_region.specs.Control.{control_word}
 use Rattle.sdr_region.specs.Free.{AllReached, FirstLost}
-use Rattle.sdr_region.specs.Region.{IsSound, IsSoundRegion, IsWrongFirst}
+use Rattle.sdr_region.specs.Region.{IsSound, IsSoundRegion, RegionIsWrongFirst}
 use Rattle.sdr_region.specs.Walk.{BlocksFollow, LargeFollow, SmallFollow, is_large_at, is_small_at, wrong_block}
-use Rattle.sdr_region.specs.declared.error.Why.{Why}
-use Rattle.sdr_region.specs.declared.error.Why.TheVariants as whys
+use Rattle.sdr_region.specs.declared.error.StructureCheck.{StructureCheck}
+use Rattle.sdr_region.specs.declared.error.StructureCheck.TheVariants as whys
 
 -- where small blocks go on to the end, the next one is right
 small_onward : (bytes : List ℕ) (before blocks : List PoolBlock) (from place : ℕ) → SmallFollow bytes from before place →
@@ -61,7 +61,8 @@ same_blocks bytes P small large small' large' f f' holds =
     subst (λ (l : List PoolBlock). P small' l) (large_same bytes large large' (control_word bytes HIGH) (length bytes) f.above f'.above)
     (subst (λ (s : List PoolBlock). P s large) (small_same bytes small small' (control_word bytes START) (control_word bytes LOW) f.below f'.below) holds)
 
-pub sound_or_wrong : (bytes : List ℕ) → IsSoundRegion bytes → (why : Why) (place : ℕ) → IsWrongFirst bytes why place → ⊥
+pub sound_or_wrong : (bytes : List ℕ) → IsSoundRegion bytes → (why : StructureCheck) (place : ℕ) →
+    RegionIsWrongFirst bytes why place → ⊥
 sound_or_wrong bytes r whys.Control place w = both_ways _ w.wrong (r.sound.control w.word w.below)
 sound_or_wrong bytes r whys.Block place w = elim w.wrong [
   | inl small ↦

@@ -9,8 +9,9 @@ use Rattle.sdr_region.proofs.GoesLemmas.{follows_listed, goes_on, goes_then}
 use Rattle.sdr_region.proofs.ListedLemmas.{free_inside, is_addr, listed_at, marked_counts, marked_more, with_listed, with_listed-here, with_listed-other}
 use Rattle.sdr_region.proofs.ListsLemmas.{list_right, right_over}
 use Rattle.sdr_region.specs.Control.{ControlIsRight}
-use Rattle.sdr_region.specs.Free.{AreOnce, IsListIn, IsWrongList}
-use Rattle.sdr_region.specs.Listed.{AreMarked, Goes, GoesOver, ListWalked, ListsWalked, frame_in, is_listed, is_marked, may_follow}
+use Rattle.sdr_region.specs.Free.{IsListIn, IsWrongList}
+use Rattle.sdr_base.specs.Entries.{AreOnce}
+use Rattle.sdr_region.specs.Listed.{AreMarked, ListGoes, GoesOver, ListWalked, ListsWalked, frame_in, is_listed, is_marked, may_follow}
 use Rattle.sdr_region.specs.Walk.{AreBlocks}
 use Rattle.sdr_region.specs.Walked.{AllFound}
 use Rattle.sdr_region.specs.declared.free.Link.{Link}
@@ -69,7 +70,7 @@ list_goes_on {bytes} {told} {reached} {link} {addr} w follows unmarked is =
           (sym (with_listed-other w.lists link.word link.addr other (λ e. omega (arith, e, less)))) (w.done other other_is less);
       place = link.addr - frame_in link.word + 8;
       here =
-          subst (λ (l : List ℕ). Goes bytes told link.word (8 * link.word) 0 l (link.addr - frame_in link.word + 8) link.addr)
+          subst (λ (l : List ℕ). ListGoes bytes told link.word (8 * link.word) 0 l (link.addr - frame_in link.word + 8) link.addr)
           (sym (with_listed-here w.lists link.word link.addr))
           (goes_then bytes told link.word (8 * link.word) 0 (w.lists link.word) w.place link.before link.addr w.here w.tells follows);
       tells = sym is;
@@ -87,7 +88,7 @@ module _ (bytes : List ℕ) (told : List Spot) (reached : List Bool) (link : Lin
     (found : AllFound bytes told) (w : ListWalked bytes told reached link) (some : link.addr ≢ 0)
     (bad : IsBadLink bytes told reached link) (small large : List PoolBlock) (are : AreBlocks bytes small large) where
   -- a list that goes on over such a link isn't right
-  goes_bad : (rest : List ℕ) (end last' : ℕ) → Goes bytes told link.word w.place link.before rest end last' → number_at end bytes ≡ 0 →
+  goes_bad : (rest : List ℕ) (end last' : ℕ) → ListGoes bytes told link.word w.place link.before rest end last' → number_at end bytes ≡ 0 →
       AreOnce (w.lists link.word ++ rest) → ⊥
   goes_bad [] end last' (at, is_last) none once = some (sym w.tells ∙ ap (λ (n : ℕ). number_at n bytes) at ∙ none)
   goes_bad (a ∷ rest) end last' (at, ok, more) none once =

@@ -5,10 +5,10 @@ use Rattle.std.specs.List.{All}
 use Rattle.std.proofs.lemmas.Bool.{and_from, and_parts, cases_lt, eq-eqb, eqb-true, le-leb, lt-leb}
 use Rattle.std.proofs.lemmas.List.Elements.{All-cons, All-head, All-nil, All-tail}
 use Rattle.sdr_base.specs.KeptLarge.{Links}
-use Rattle.sdr_base.specs.KeptPools.{Chain}
+use Rattle.sdr_base.specs.KeptPools.{ChainFrom}
 use Rattle.sdr_base.specs.Stored.{leader_words, number_at}
 use Rattle.sdr_region.proofs.ListedLemmas.{listed_at}
-use Rattle.sdr_region.specs.Listed.{Goes, GoesOver, frame_in, has_previous, is_listed, is_small_list, may_follow}
+use Rattle.sdr_region.specs.Listed.{ListGoes, GoesOver, frame_in, has_previous, is_listed, is_small_list, may_follow}
 use Rattle.sdr_region.specs.declared.spot.Spot.{Spot}
 
 pub frame_small : (word : ℕ) → is_small_list word ≡ true → frame_in word ≡ 8
@@ -36,8 +36,8 @@ module _ (bytes : List ℕ) (told : List Spot) (word : ℕ) where
       omega (arith, frame, some, none)
 
   -- it goes on to the block to which its last link leads
-  pub goes_then : (place before : ℕ) (addrs : List ℕ) (to last addr : ℕ) → Goes bytes told word place before addrs to last → number_at to bytes ≡ addr →
-      may_follow bytes told word last addr ≡ true → Goes bytes told word place before (addrs ++ (addr ∷ [])) (addr - frame_in word + 8) addr
+  pub goes_then : (place before : ℕ) (addrs : List ℕ) (to last addr : ℕ) → ListGoes bytes told word place before addrs to last → number_at to bytes ≡ addr →
+      may_follow bytes told word last addr ≡ true → ListGoes bytes told word place before (addrs ++ (addr ∷ [])) (addr - frame_in word + 8) addr
   goes_then place before [] to last addr (at, is_last) tells follows = (
     ap (λ (n : ℕ). number_at n bytes) at ∙ tells,
     ap (λ (n : ℕ). may_follow bytes told word n addr) is_last ∙ follows,
@@ -50,22 +50,23 @@ module _ (bytes : List ℕ) (told : List Spot) (word : ℕ) where
   pub record GoesOn (done addrs : List ℕ) (to last end last' : ℕ) : Type 0 where
     pub rest : List ℕ
     pub whole : addrs ≡ done ++ rest
-    pub goes : Goes bytes told word to last rest end last'
+    pub goes : ListGoes bytes told word to last rest end last'
 
   -- two ways that a list goes begin alike
-  pub goes_on : (place before : ℕ) (done addrs : List ℕ) (to last end last' : ℕ) → Goes bytes told word place before done to last →
-      Goes bytes told word place before addrs end last' → number_at end bytes ≡ 0 → GoesOn done addrs to last end last'
+  pub goes_on : (place before : ℕ) (done addrs : List ℕ) (to last end last' : ℕ) → ListGoes bytes told word place before done to last →
+      ListGoes bytes told word place before addrs end last' → number_at end bytes ≡ 0 → GoesOn done addrs to last end
+          last'
   goes_on place before [] addrs to last end last' (at, is_last) goes none = record {
     rest = addrs;
     whole = refl;
-    goes = (let P = λ (p b : ℕ). Goes bytes told word p b addrs end last' in subst (λ (b : ℕ). P to b) is_last (subst (λ (p : ℕ). P p before) at goes));
+    goes = (let P = λ (p b : ℕ). ListGoes bytes told word p b addrs end last' in subst (λ (b : ℕ). P to b) is_last (subst (λ (p : ℕ). P p before) at goes));
   }
   goes_on place before (d ∷ done) [] to last end last' (is, ok, more) (at, is_last) none =
       absurd (follows_some before d ok (sym is ∙ ap (λ (n : ℕ). number_at n bytes) at ∙ none))
   goes_on place before (d ∷ done) (a ∷ addrs) to last end last' (is, ok, more) (is', ok', more') none =
       let same : a ≡ d = sym is' ∙ is in
       let g = goes_on (d - frame_in word + 8) d done addrs to last end last' more
-      (subst (λ (n : ℕ). Goes bytes told word (n - frame_in word + 8) n addrs end last') same more') none in
+      (subst (λ (n : ℕ). ListGoes bytes told word (n - frame_in word + 8) n addrs end last') same more') none in
       record { rest = g.rest; whole = (λ i. same i ∷ g.whole i); goes = g.goes }
 
   -- two whole lists from one link are the same
@@ -78,12 +79,13 @@ module _ (bytes : List ℕ) (told : List Spot) (word : ℕ) where
       append_none [] = refl
       append_none (a ∷ l) = ap (λ (m : List ℕ). a ∷ m) (append_none l)
 
-      nothing : (rest : List ℕ) → Goes bytes told word x.to x.last rest y.to y.last → xs ++ rest ≡ xs
+      nothing : (rest : List ℕ) → ListGoes bytes told word x.to x.last rest y.to y.last → xs ++ rest ≡ xs
       nothing [] goes = append_none xs
       nothing (a ∷ rest) (is, ok, more) = absurd (follows_some x.last a ok (sym is ∙ x.end))
 
   -- each of its blocks is a free one of the list
-  pub goes_all : (place before : ℕ) (addrs : List ℕ) (to last : ℕ) → Goes bytes told word place before addrs to last →
+  pub goes_all : (place before : ℕ) (addrs : List ℕ) (to last : ℕ) → ListGoes bytes told word place before addrs to
+      last →
       All (λ addr. is_listed bytes told word addr ≡ true) addrs
   goes_all place before [] to last goes = All-nil (λ addr. is_listed bytes told word addr ≡ true)
   goes_all place before (a ∷ addrs) to last (is, ok, more) =
@@ -105,24 +107,24 @@ module _ (bytes : List ℕ) (told : List Spot) (word : ℕ) where
       ap (λ (f : ℕ). a - f + 8) frame ∙ (let low' : 16 ≤ a = subst (λ (f : ℕ). f ≤ a) frame low in omega (arith, low'))
 
   -- a list of small blocks is a chain
-  pub chain_of : (place before : ℕ) (addrs : List ℕ) (to last : ℕ) → is_small_list word ≡ true → Goes bytes told word place before addrs to last →
-      number_at to bytes ≡ 0 → Chain bytes place addrs
-  unfolding Chain
+  pub chain_of : (place before : ℕ) (addrs : List ℕ) (to last : ℕ) → is_small_list word ≡ true → ListGoes bytes told word place before addrs to last →
+      number_at to bytes ≡ 0 → ChainFrom bytes place addrs
+  unfolding ChainFrom
   chain_of place before [] to last small (at, is_last) end = ap (λ (n : ℕ). number_at n bytes) at ∙ end
   chain_of place before (a ∷ addrs) to last small (is, ok, more) end = (
     is,
-    subst (λ (n : ℕ). Chain bytes n addrs) (small_next a small (follows_listed before a ok))
+    subst (λ (n : ℕ). ChainFrom bytes n addrs) (small_next a small (follows_listed before a ok))
         (chain_of (a - frame_in word + 8) a addrs to last small more end),
   )
 
-  pub goes_chain : (place before : ℕ) (addrs : List ℕ) → is_small_list word ≡ true → Chain bytes place addrs →
+  pub goes_chain : (place before : ℕ) (addrs : List ℕ) → is_small_list word ≡ true → ChainFrom bytes place addrs →
       All (λ addr. is_listed bytes told word addr ≡ true) addrs → GoesOver bytes told word place before addrs
-  unfolding Chain
+  unfolding ChainFrom
   goes_chain place before [] small chain all = record { to = place; last = before; goes = (refl, refl); end = chain }
   goes_chain place before (a ∷ addrs) small (is, more) all =
       let P = λ (addr : ℕ). is_listed bytes told word addr ≡ true in
       let listed : is_listed bytes told word a ≡ true = All-head P a addrs all in
-      let g = goes_chain (a - frame_in word + 8) a addrs small (subst (λ (n : ℕ). Chain bytes n addrs) (sym (small_next a small listed)) more) (All-tail P a addrs all) in
+      let g = goes_chain (a - frame_in word + 8) a addrs small (subst (λ (n : ℕ). ChainFrom bytes n addrs) (sym (small_next a small listed)) more) (All-tail P a addrs all) in
       record {
         to = g.to;
         last = g.last;
@@ -135,7 +137,7 @@ module _ (bytes : List ℕ) (told : List Spot) (word : ℕ) where
   sized addr = (addr, leader_words (addr - 16) bytes)
 
   -- a list of large blocks is linked both ways
-  pub links_of : (place before : ℕ) (addrs : List ℕ) (to last : ℕ) → is_small_list word ≡ false → Goes bytes told word place before addrs to last →
+  pub links_of : (place before : ℕ) (addrs : List ℕ) (to last : ℕ) → is_small_list word ≡ false → ListGoes bytes told word place before addrs to last →
       number_at to bytes ≡ 0 → Links bytes place before (map sized addrs)
   unfolding Links
   links_of place before [] to last large (at, is_last) end = ap (λ (n : ℕ). number_at n bytes) at ∙ end

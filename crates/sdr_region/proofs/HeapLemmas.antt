@@ -18,7 +18,7 @@ use Rattle.sdr_base.specs.declared.control.TheConstants.{LOW}
 use Rattle.sdr_base.specs.declared.kind.Kind.{Kind}
 use Rattle.sdr_base.specs.declared.kind.Kind.TheVariants as kinds
 use Rattle.sdr_region.specs.Control.{control_word}
-use Rattle.sdr_region.specs.Walk.{AreBlocks, BlocksFollow, LargeFollow, SmallFollow, first_wrong, free_edge, has_ends, is_empty, large_at, large_holds, length_of, small_holds, touching_after}
+use Rattle.sdr_region.specs.Walk.{AreBlocks, BlocksFollow, LargeFollow, SmallFollow, first_wrong, free_edge, has_ends, is_empty, large_at, large_holds, block_length, small_holds, touching_after}
 
 -- the number of a kind is one of 1 to 13
 number_few : (kind : Kind) → (1 ≤ kind_number kind) × (kind_number kind ≤ 13)
@@ -241,15 +241,15 @@ module _ (bytes : List ℕ) (P : Pools) (keeps : KeepsHeap bytes P) where
       f = All-head SmallFacts x blocks all
 
       need : ℕ
-      need = words_for (length_of bytes 8 x)
+      need = words_for (block_length bytes 8 x)
 
       by : (t : Bool) → x.used ≡ t → small_holds bytes x ≡ true
       by true e =
           let l = (f.label e (λ z. omega (arith, z, at))).length in
-          and_from _ _ (le-leb _ _ (omega (arith, l))) (ap (λ (t : Bool). not t || words_for (length_of bytes 8 x) == x.words) e ∙ eq-eqb _ _ l)
+          and_from _ _ (le-leb _ _ (omega (arith, l))) (ap (λ (t : Bool). not t || words_for (block_length bytes 8 x) == x.words) e ∙ eq-eqb _ _ l)
       by false e =
-          let l : words_for (length_of bytes 8 x) ≡ 1 = ap words_for (f.free_length e) in
-          and_from _ _ (le-leb _ _ (omega (arith, l, least))) (ap (λ (t : Bool). not t || words_for (length_of bytes 8 x) == x.words) e)
+          let l : words_for (block_length bytes 8 x) ≡ 1 = ap words_for (f.free_length e) in
+          and_from _ _ (le-leb _ _ (omega (arith, l, least))) (ap (λ (t : Bool). not t || words_for (block_length bytes 8 x) == x.words) e)
 
   large_hold : (from to : ℕ) (blocks : List PoolBlock) → FollowsLarge from blocks to → All LargeFacts blocks → All (λ block. large_holds bytes block ≡ true) blocks
   large_hold from to [] at all = All-nil (λ block. large_holds bytes block ≡ true)
@@ -262,21 +262,21 @@ module _ (bytes : List ℕ) (P : Pools) (keeps : KeepsHeap bytes P) where
 
       by : (t : Bool) → x.used ≡ t → large_holds bytes x ≡ true
       by true e = le-leb _ _ (f.label e (λ z. omega (arith, z, at))).length
-      by false e = let l : words_for (length_of bytes 16 x) ≡ 1 = ap words_for (f.free e).length in le-leb _ _ (omega (arith, l, least))
+      by false e = let l : words_for (block_length bytes 16 x) ≡ 1 = ap words_for (f.free e).length in le-leb _ _ (omega (arith, l, least))
 
   small_emptied : (x : PoolBlock) → SmallFacts x → is_empty bytes 8 x ≡ true
   small_emptied x f = by x.used refl
     where
       by : (t : Bool) → x.used ≡ t → is_empty bytes 8 x ≡ true
-      by true e = ap (λ (t : Bool). t || length_of bytes 8 x == 0) e
-      by false e = ap (λ (t : Bool). t || length_of bytes 8 x == 0) e ∙ eq-eqb _ _ (f.free_length e)
+      by true e = ap (λ (t : Bool). t || block_length bytes 8 x == 0) e
+      by false e = ap (λ (t : Bool). t || block_length bytes 8 x == 0) e ∙ eq-eqb _ _ (f.free_length e)
 
   large_emptied : (x : PoolBlock) → LargeFacts x → is_empty bytes 16 x ≡ true
   large_emptied x f = by x.used refl
     where
       by : (t : Bool) → x.used ≡ t → is_empty bytes 16 x ≡ true
-      by true e = ap (λ (t : Bool). t || length_of bytes 16 x == 0) e
-      by false e = ap (λ (t : Bool). t || length_of bytes 16 x == 0) e ∙ eq-eqb _ _ (f.free e).length
+      by true e = ap (λ (t : Bool). t || block_length bytes 16 x == 0) e
+      by false e = ap (λ (t : Bool). t || block_length bytes 16 x == 0) e ∙ eq-eqb _ _ (f.free e).length
 
   -- where no free block is counted at an address, the one there is in use
   none_free : (before blocks : List PoolBlock) (x : PoolBlock) (addr : ℕ) → P.large ≡ before ++ x ∷ blocks → x.addr ≡ addr → count_by (is_free_at addr) P.large ≡ 0 → x.used ≡ true

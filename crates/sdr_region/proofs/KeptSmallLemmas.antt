@@ -6,7 +6,7 @@ use Rattle.std.proofs.lemmas.Bool.{and_parts, cases_Bool, cases_lt, eqb-true, le
 use Rattle.std.proofs.lemmas.List.Elements.{All-contains, All-head, All-tail}
 use Rattle.sdr_base.proofs.PoolsLemmas.{at-once, free-le-of, is_of-true, of-le-at}
 use Rattle.sdr_base.specs.Cells.{IsRegionSize}
-use Rattle.sdr_base.specs.KeptPools.{Chain, KeepsSmall}
+use Rattle.sdr_base.specs.KeptPools.{ChainFrom, KeepsSmall}
 use Rattle.sdr_base.specs.Pools.{Follows, PoolBlock, is_free_of, is_of}
 use Rattle.sdr_base.specs.Stored.{leader_kind, leader_length, leader_words}
 use Rattle.sdr_base.specs.declared.control.TheConstants.{HIGH, LOW, START}
@@ -51,14 +51,14 @@ begun_holds P frame (x ∷ blocks) place block all is = elim (cases_Bool (x.addr
 ]
 
 -- two chains from one place over blocks are the same
-chain_same : (bytes : List ℕ) (place : ℕ) (xs ys : List ℕ) → Chain bytes place xs → Chain bytes place ys → All (λ addr. addr ≢ 0) xs → All (λ addr. addr ≢ 0) ys → xs ≡ ys
-unfolding Chain
+chain_same : (bytes : List ℕ) (place : ℕ) (xs ys : List ℕ) → ChainFrom bytes place xs → ChainFrom bytes place ys → All (λ addr. addr ≢ 0) xs → All (λ addr. addr ≢ 0) ys → xs ≡ ys
+unfolding ChainFrom
 chain_same bytes place [] [] x y some some' = refl
 chain_same bytes place [] (b ∷ ys) x (is, more) some some' = absurd (All-head (λ (addr : ℕ). addr ≢ 0) b ys some' (sym is ∙ x))
 chain_same bytes place (a ∷ xs) [] (is, more) y some some' = absurd (All-head (λ (addr : ℕ). addr ≢ 0) a xs some (sym is ∙ y))
 chain_same bytes place (a ∷ xs) (b ∷ ys) (is, more) (is', more') some some' =
     let same : a ≡ b = sym is ∙ is' in
-    (λ i. same i ∷ chain_same bytes a xs ys more (subst (λ (n : ℕ). Chain bytes n ys) (sym same) more') (All-tail (λ (addr : ℕ). addr ≢ 0) a xs some)
+    (λ i. same i ∷ chain_same bytes a xs ys more (subst (λ (n : ℕ). ChainFrom bytes n ys) (sym same) more') (All-tail (λ (addr : ℕ). addr ≢ 0) a xs some)
     (All-tail (λ (addr : ℕ). addr ≢ 0) b ys some') i)
 
 -- whether small blocks may have so many words
@@ -194,6 +194,6 @@ module _ (bytes : List ℕ) (small large : List PoolBlock) (region : IsRegionSiz
       back : (addr addr' place : ℕ) → addr' ≡ addr → addr' ≡ place + 8 → addr - 8 ≡ place
       back addr addr' place same at = omega (arith, same, at)
 
-      chained : (words : ℕ) (may : MayHave words ⊎ (MayHave words → ⊥)) → MayHave words → Chain bytes (8 * (3 + words)) (list_or words may)
+      chained : (words : ℕ) (may : MayHave words ⊎ (MayHave words → ⊥)) → MayHave words → ChainFrom bytes (8 * (3 + words)) (list_or words may)
       chained words (inl may) m = (list words may).chain
       chained words (inr not_so) m = absurd (not_so m)

@@ -12,7 +12,8 @@ use Rattle.sdr_region.proofs.GoesLemmas.{chain_of, goes_all, goes_chain, goes_li
 use Rattle.sdr_region.proofs.ListedLemmas.{is_addr}
 use Rattle.sdr_region.proofs.ToldLemmas.{large_counts, large_listed, listed_large, small_counts, small_listed}
 use Rattle.sdr_region.specs.Control.{ControlIsRight}
-use Rattle.sdr_region.specs.Free.{AreOnce, IsLargeList, IsListIn, IsListWord, IsSmallList}
+use Rattle.sdr_region.specs.Free.{IsLargeList, IsListIn, IsListWord, IsSmallList}
+use Rattle.sdr_base.specs.Entries.{AreOnce}
 use Rattle.sdr_region.specs.Listed.{GoesOver, is_listed, is_small_list}
 use Rattle.sdr_region.specs.Walk.{AreBlocks}
 use Rattle.sdr_region.specs.Walked.{AllFound}

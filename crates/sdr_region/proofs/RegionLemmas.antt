@@ -7,12 +7,12 @@ use Rattle.sdr_region.specs.Bits.{BitsAreRight}
 use Rattle.sdr_region.specs.Content.{IsWrongContent}
 use Rattle.sdr_region.specs.Control.{ControlIsRight}
 use Rattle.sdr_region.specs.Free.{AreListed, IsWrongFree}
-use Rattle.sdr_region.specs.Region.{IsWrongFirst, TellsFirst}
+use Rattle.sdr_region.specs.Region.{RegionIsWrongFirst, TellsFirst}
 use Rattle.sdr_region.specs.Walk.{AreBlocks}
 use Rattle.sdr_region.specs.Walked.{AllFound}
-use Rattle.sdr_region.specs.declared.error.AuditError.{AuditError}
-use Rattle.sdr_region.specs.declared.error.AuditError.TheVariants as errors
-use Rattle.sdr_region.specs.declared.error.Why.TheVariants as whys
+use Rattle.sdr_region.specs.declared.error.StructureError.{StructureError}
+use Rattle.sdr_region.specs.declared.error.StructureError.TheVariants as errors
+use Rattle.sdr_region.specs.declared.error.StructureCheck.TheVariants as whys
 use Rattle.sdr_region.specs.declared.spot.Spot.{Spot}
 
 -- what holds of bytes and the blocks in them, whatever these are
@@ -20,10 +20,10 @@ abbrev pub OfBlocks : (List ℕ → List PoolBlock → List PoolBlock → Type 0
 OfBlocks P bytes = (small large : List PoolBlock) → AreBlocks bytes small large → P bytes small large
 
 -- what was found wrong with the lists, after the checks before
-pub free_tells : (bytes : List ℕ) (told : List Spot) → ControlIsRight bytes → AllFound bytes told → OfBlocks BitsAreRight bytes → (error : AuditError) →
+pub free_tells : (bytes : List ℕ) (told : List Spot) → ControlIsRight bytes → AllFound bytes told → OfBlocks BitsAreRight bytes → (error : StructureError) →
     DamagedBy whys.Free (λ at. (small large : List PoolBlock) → AreBlocks bytes small large → IsWrongFree bytes small large at) error → TellsFirst bytes error
 free_tells bytes told control found bits (errors.Damaged place why) (is, wrong) =
-    subst (λ w. IsWrongFirst bytes w place) (sym is) (record {
+    subst (λ w. RegionIsWrongFirst bytes w place) (sym is) (record {
       control = control;
       small = found.small;
       large = found.large;
@@ -37,12 +37,12 @@ free_tells bytes told control found bits errors.Failed damaged = tt
 module _ (bytes : List ℕ) (told : List Spot) (control : ControlIsRight bytes) (found : AllFound bytes told) (bits : OfBlocks BitsAreRight bytes)
     (free : OfBlocks AreListed bytes) where
   -- what was found wrong with a block's content, after the checks before
-  pub content_tells : (result : Result (Unit {0}) AuditError) →
+  pub content_tells : (result : Result (Unit {0}) StructureError) →
       IfErr result (DamagedBy whys.Content (λ at. (small large : List PoolBlock) → AreBlocks bytes small large → IsWrongContent bytes small large at)) →
       IfErr result (TellsFirst bytes)
   content_tells (Ok value) damaged = tt
   content_tells (Err (errors.Damaged place why)) (is, wrong) =
-      subst (λ w. IsWrongFirst bytes w place) (sym is) (record {
+      subst (λ w. RegionIsWrongFirst bytes w place) (sym is) (record {
         control = control;
         small = found.small;
         large = found.large;

@@ -6,12 +6,12 @@ use Rattle.sdr_base.specs.declared.stop.Stop.{Stop}
 use Rattle.sdr_base.specs.declared.stop.Stop.TheVariants as stops
 use Rattle.sdr_region.specs.Control.{control_word}
 use Rattle.sdr_region.specs.declared.control.Edges.{Edges}
-use Rattle.sdr_region.specs.declared.error.AuditError.{AuditError}
-use Rattle.sdr_region.specs.declared.error.AuditError.TheVariants as errors
-use Rattle.sdr_region.specs.declared.error.Why.{Why}
+use Rattle.sdr_region.specs.declared.error.StructureError.{StructureError}
+use Rattle.sdr_region.specs.declared.error.StructureError.TheVariants as errors
+use Rattle.sdr_region.specs.declared.error.StructureCheck.{StructureCheck}
 
 -- the error tells why the cells stopped
-abbrev pub HasStop : AuditError → Stop → Type 0
+abbrev pub HasStop : StructureError → Stop → Type 0
 HasStop error stops.DiskFault = error ≡ errors.DiskFault
 HasStop error stop = error ≡ errors.Failed
 
@@ -25,7 +25,7 @@ edges_of bytes = record {
 }
 
 -- why an audit stopped, as cells tell it: what is damaged is no fault
-abbrev pub HasAuditReason : {T : Type 0} → Transaction → Transaction → Result T AuditError → Type 0
+abbrev pub HasAuditReason : {T : Type 0} → Transaction → Transaction → Result T StructureError → Type 0
 HasAuditReason old new (Ok value) = HasReason {T = Unit {0}} old new (Ok tt)
 HasAuditReason old new (Err (errors.Damaged place why)) = HasReason {T = Unit {0}} old new (Ok tt)
 HasAuditReason old new (Err errors.DiskFault) = HasReason {T = Unit {0}} old new (Err stops.DiskFault)
@@ -33,7 +33,7 @@ HasAuditReason old new (Err errors.Failed) = HasReason {T = Unit {0}} old new (E
 
 -- A step of an audit reads alone: the bytes stay, no line is touched, and a fault has its cause.
 pub record Audits {S T : Type 0} (bytes_of : S → List ℕ) (transaction : S → Transaction) (keeps : S → S → Type 0) (old new : S)
-    (result : Result T AuditError) : Type 0 where
+    (result : Result T StructureError) : Type 0 where
   pub bytes : bytes_of new ≡ bytes_of old
   pub touched : (transaction new).touched ≡ (transaction old).touched
   pub room : (transaction new).room ≡ (transaction old).room
@@ -41,6 +41,6 @@ pub record Audits {S T : Type 0} (bytes_of : S → List ℕ) (transaction : S �
   pub quiet : keeps old new
 
 -- what was found damaged, was found so at this place by this check
-abbrev pub DamagedBy : Why → (ℕ → Type 0) → AuditError → Type 0
+abbrev pub DamagedBy : StructureCheck → (ℕ → Type 0) → StructureError → Type 0
 DamagedBy check IsWrong (errors.Damaged place why) = (why ≡ check) × IsWrong place
 DamagedBy check IsWrong error = ⊤

@@ -23,8 +23,8 @@ abbrev pub is_flag : ℕ → Bool
 is_flag value = nat_le value 1
 
 -- whether a block has a key of a hash behind so many bytes
-abbrev pub has_key : ℕ → Bool
-has_key count = nat_le 1 count && nat_le count longest_key
+abbrev pub is_key_length : ℕ → Bool
+is_key_length count = nat_le 1 count && nat_le count longest_key
 
 -- how many bytes of a block tell whether its content is right
 abbrev pub told_bytes : ℕ
@@ -47,12 +47,12 @@ is_table count first =
 -- a hash: the bytes of a key, buckets, entries, and the first entry of each bucket
 abbrev pub is_hash : ℕ → List ℕ → Bool
 is_hash count first =
-    nat_le 24 count && has_key (field first 0) && nat_le 1 (field first 1) && nat_le (field first 1) most_buckets
+    nat_le 24 count && is_key_length (field first 0) && nat_le 1 (field first 1) && nat_le (field first 1) most_buckets
     && count == 24 + 8 * field first 1
 
 -- an entry of the catalogue: the next one, type, object, and the name in 32 bytes: its length, the name, and zeros
-abbrev pub is_name : ℕ → List ℕ → Bool
-is_name count first =
+abbrev pub is_name_entry : ℕ → List ℕ → Bool
+is_name_entry count first =
     count == 56 && nat_lt (field first 1) (2 ^ 32) && not (is_no_name (get_or first 24 0))
     && list_all (λ byte. byte == 0) (drop (25 + get_or first 24 0) first)
 
@@ -80,8 +80,8 @@ has_layout kinds.List count first = count == 32
 has_layout kinds.Element count first = count == 32
 has_layout kinds.Table count first = is_table count first
 has_layout kinds.Hash count first = is_hash count first
-has_layout kinds.HashEntry count first = nat_le 16 count && has_key (count - 16)
-has_layout kinds.Name count first = is_name count first
+has_layout kinds.HashEntry count first = nat_le 16 count && is_key_length (count - 16)
+has_layout kinds.Name count first = is_name_entry count first
 has_layout kinds.Source count first = is_source count first
 has_layout kinds.Object count first = count == 72 && is_flag (field first 0)
 has_layout kinds.Extent count first = count == 32

@@ -2,21 +2,18 @@
 use Rattle.std.specs.Prelude.{◌≡◌, ◌≤◌, ◌<◌, ◌==◌, ◌+◌, ◌-◌, ◌*◌, ◌⊎◌, ℕ, false, cond, nat_le, List, ◌∷◌, ◌++◌, Contains, map, count_by}
 use Rattle.std.specs.List.{All}
 use Rattle.sdr_base.specs.KeptLarge.{Links, large_place}
-use Rattle.sdr_base.specs.KeptPools.{Chain, list_place}
+use Rattle.sdr_base.specs.KeptPools.{ChainFrom, list_place}
 use Rattle.sdr_base.specs.LargePool.{order_of}
 use Rattle.sdr_base.specs.Pools.{PoolBlock, is_free_of}
 use Rattle.sdr_base.specs.declared.control.TheConstants.{LARGE_LISTS, MOST_ORDER, MOST_SMALL, SMALL_LISTS}
 use Rattle.sdr_base.specs.declared.line.TheConstants.{WORD}
-
--- no address stands among these twice
-abbrev pub AreOnce : List ℕ → Type 0
-AreOnce addrs = (addr : ℕ) → count_by (λ other. other == addr) addrs ≤ 1
+use Rattle.sdr_base.specs.Entries.{AreOnce}
 
 -- The list of free small blocks of so many words is right: it ends, and reaches free small blocks of so many words alone, each
 -- once.
 pub record IsSmallList (bytes : List ℕ) (small : List PoolBlock) (words : ℕ) : Type 0 where
   pub addrs : List ℕ
-  pub chain : Chain bytes (list_place words) addrs
+  pub chain : ChainFrom bytes (list_place words) addrs
   pub free : All (λ addr. 0 < count_by (is_free_of words addr) small) addrs
   pub once : AreOnce addrs
 

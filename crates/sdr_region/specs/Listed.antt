@@ -52,17 +52,17 @@ may_follow bytes told word before addr = is_listed bytes told word addr && has_p
 
 -- A list goes from the link at a place, which stands in one block, over the blocks at these addresses, up to the link at another
 -- place, which stands in the last of them.
-abbrev pub Goes : List ℕ → List Spot → ℕ → ℕ → ℕ → List ℕ → ℕ → ℕ → Type 0
-Goes bytes told word place before [] to last = (place ≡ to) × (before ≡ last)
-Goes bytes told word place before (addr ∷ addrs) to last =
+abbrev pub ListGoes : List ℕ → List Spot → ℕ → ℕ → ℕ → List ℕ → ℕ → ℕ → Type 0
+ListGoes bytes told word place before [] to last = (place ≡ to) × (before ≡ last)
+ListGoes bytes told word place before (addr ∷ addrs) to last =
     (number_at place bytes ≡ addr) × (may_follow bytes told word before addr ≡ true)
-    × Goes bytes told word (addr - frame_in word + WORD) addr addrs to last
+    × ListGoes bytes told word (addr - frame_in word + WORD) addr addrs to last
 
 -- from that link on the list goes over the blocks at these addresses, and ends
 pub record GoesOver (bytes : List ℕ) (told : List Spot) (word place before : ℕ) (addrs : List ℕ) : Type 0 where
   pub to : ℕ
   pub last : ℕ
-  pub goes : Goes bytes told word place before addrs to last
+  pub goes : ListGoes bytes told word place before addrs to last
   pub end : number_at to bytes ≡ 0
 
 -- whether the word is marked with which the block at an address begins
@@ -89,7 +89,7 @@ pub record ListWalked (bytes : List ℕ) (told : List Spot) (reached : List Bool
   pub lists : ℕ → List ℕ
   pub done : (other : ℕ) → IsListWord other → other < link.word → GoesOver bytes told other (WORD * other) 0 (lists other)
   pub place : ℕ
-  pub here : Goes bytes told link.word (WORD * link.word) 0 (lists link.word) place link.before
+  pub here : ListGoes bytes told link.word (WORD * link.word) 0 (lists link.word) place link.before
   pub tells : number_at place bytes ≡ link.addr
   pub rest : (other : ℕ) → link.word < other → lists other ≡ []
   pub marks : AreMarked bytes told lists reached

@@ -8,10 +8,10 @@ use Rattle.sdr_region.specs.Content.{ContentIsRight, IsWrongContent, has_layout,
 use Rattle.sdr_region.specs.Control.{ControlIsRight, IsWrongControl}
 use Rattle.sdr_region.specs.Free.{AreListed, IsWrongFree}
 use Rattle.sdr_region.specs.Walk.{AreBlocks, IsWrongBlock}
-use Rattle.sdr_region.specs.declared.error.AuditError.{AuditError}
-use Rattle.sdr_region.specs.declared.error.AuditError.TheVariants as errors
-use Rattle.sdr_region.specs.declared.error.Why.{Why}
-use Rattle.sdr_region.specs.declared.error.Why.TheVariants as whys
+use Rattle.sdr_region.specs.declared.error.StructureError.{StructureError}
+use Rattle.sdr_region.specs.declared.error.StructureError.TheVariants as errors
+use Rattle.sdr_region.specs.declared.error.StructureCheck.{StructureCheck}
+use Rattle.sdr_region.specs.declared.error.StructureCheck.TheVariants as whys
 
 -- a region with these blocks passes each check
 pub record IsSound (bytes : List ℕ) (small large : List PoolBlock) : Type 0 where
@@ -60,16 +60,16 @@ pub record ContentIsFirst (bytes : List ℕ) (place : ℕ) : Type 0 where
   pub wrong : IsWrongContent bytes small large place
 
 -- by this check a region is wrong first, at this place
-abbrev pub IsWrongFirst : List ℕ → Why → ℕ → Type 0
-IsWrongFirst bytes whys.Control place = IsWrongControl bytes place
-IsWrongFirst bytes whys.Block place = BlockIsFirst bytes place
-IsWrongFirst bytes whys.Bits place = BitsAreFirst bytes place
-IsWrongFirst bytes whys.Free place = FreeIsFirst bytes place
-IsWrongFirst bytes whys.Content place = ContentIsFirst bytes place
+abbrev pub RegionIsWrongFirst : List ℕ → StructureCheck → ℕ → Type 0
+RegionIsWrongFirst bytes whys.Control place = IsWrongControl bytes place
+RegionIsWrongFirst bytes whys.Block place = BlockIsFirst bytes place
+RegionIsWrongFirst bytes whys.Bits place = BitsAreFirst bytes place
+RegionIsWrongFirst bytes whys.Free place = FreeIsFirst bytes place
+RegionIsWrongFirst bytes whys.Content place = ContentIsFirst bytes place
 
 -- what was found damaged is what is wrong first
-abbrev pub TellsFirst : List ℕ → AuditError → Type 0
-TellsFirst bytes (errors.Damaged place why) = IsWrongFirst bytes why place
+abbrev pub TellsFirst : List ℕ → StructureError → Type 0
+TellsFirst bytes (errors.Damaged place why) = RegionIsWrongFirst bytes why place
 TellsFirst bytes error = ⊤
 
 -- each block in use has what its kind's layout asks

@@ -15,16 +15,17 @@ abbrev pub last_kind : ℕ
 last_kind = 13
 
 -- whether the leader at a place is that of a block in use
-abbrev pub is_used_at : List ℕ → ℕ → Bool
-is_used_at bytes place = not (leader_kind place bytes == 0)
+abbrev pub is_used_leader : List ℕ → ℕ → Bool
+is_used_leader bytes place = not (leader_kind place bytes == 0)
 
 -- the small block whose leader stands at a place
 abbrev pub small_at : List ℕ → ℕ → PoolBlock
-small_at bytes place = record { addr = place + WORD; words = leader_words place bytes; used = is_used_at bytes place }
+small_at bytes place = record { addr = place + WORD; words = leader_words place bytes;
+    used = is_used_leader bytes place }
 
 -- the large block whose leader stands at a place
 abbrev pub large_at : List ℕ → ℕ → PoolBlock
-large_at bytes place = record { addr = place + 2 * WORD; words = leader_words place bytes; used = is_used_at bytes place }
+large_at bytes place = record { addr = place + 2 * WORD; words = leader_words place bytes; used = is_used_leader bytes place }
 
 -- whether a small block may begin at a place: its kind has a number, it has 1 to 64 words, and it ends where the small blocks
 -- end or before
@@ -87,22 +88,22 @@ pub record LargeBreaks (bytes : List ℕ) (place : ℕ) : Type 0 where
   pub wrong : is_large_at bytes place ≡ false
 
 -- the length in a block's leader, which stands so far before its address
-abbrev pub length_of : List ℕ → ℕ → PoolBlock → ℕ
-length_of bytes frame block = leader_length (block.addr - frame) bytes
+abbrev pub block_length : List ℕ → ℕ → PoolBlock → ℕ
+block_length bytes frame block = leader_length (block.addr - frame) bytes
 
 -- whether the words of a small block are those that its length needs, or more where it is free
 abbrev pub small_holds : List ℕ → PoolBlock → Bool
 small_holds bytes block =
-    let need = words_for (length_of bytes WORD block) in
+    let need = words_for (block_length bytes WORD block) in
     nat_le need block.words && (not block.used || need == block.words)
 
 -- whether a large block has the words that its length needs
 abbrev pub large_holds : List ℕ → PoolBlock → Bool
-large_holds bytes block = nat_le (words_for (length_of bytes (2 * WORD) block)) block.words
+large_holds bytes block = nat_le (words_for (block_length bytes (2 * WORD) block)) block.words
 
 -- whether a free block has length 0
 abbrev pub is_empty : List ℕ → ℕ → PoolBlock → Bool
-is_empty bytes frame block = block.used || length_of bytes frame block == 0
+is_empty bytes frame block = block.used || block_length bytes frame block == 0
 
 -- the place of the first of these blocks, which begin so far before their addresses, that isn't right
 abbrev pub first_wrong : (PoolBlock → Bool) → ℕ → List PoolBlock → Option ℕ

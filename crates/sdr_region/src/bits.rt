@@ -11,7 +11,7 @@ ghost use Rattle.sdr_region.specs.Walk.{AreBlocks};
 ghost use Rattle.sdr_region.specs.Walked.{IsSurveyed};
 
 use crate::control::Edges;
-use crate::error::{AuditError, Why};
+use crate::error::{StructureError, StructureCheck};
 use crate::spot::{Spot, is_used};
 use sdr_base::{Cells, LINE, START_BITS};
 
@@ -74,13 +74,13 @@ fn check_line<C: Cells>(
     edges: &Edges,
     spots: &[Spot],
     place: u64,
-) -> Result<(), AuditError>
+) -> Result<(), StructureError>
     requires surveyed { IsSurveyed (C.bytes c.old) edges.now spots.now }
     requires from { START_BITS ≤ place }
     requires inside { place + LINE ≤ edges.now.start }
     requires before { BitsBefore (C.bytes c.old) place }
     ensures before { OnOk result (BitsBefore (C.bytes c.old) (place + LINE)) }
-    ensures damaged { IfErr result (DamagedBy Why.Bits (λ at. (small large : List PoolBlock) →
+    ensures damaged { IfErr result (DamagedBy StructureCheck.Bits (λ at. (small large : List PoolBlock) →
         AreBlocks (C.bytes c.old) small large → IsWrongBits (C.bytes c.old) small large at)) }
     ensures audits { Audits C.bytes C.transaction C.quiet c.old c.new result }
 {
@@ -88,9 +88,9 @@ fn check_line<C: Cells>(
     c.read(place, &mut line)?;
     match first_wrong(&line, spots, place - START_BITS) {
         None => Ok(()),
-        Some(i) => Err(AuditError::Damaged {
+        Some(i) => Err(StructureError::Damaged {
             place: place + i as u64,
-            why: Why::Bits,
+            why: StructureCheck::Bits,
         }),
     }
 }
@@ -98,12 +98,12 @@ fn check_line<C: Cells>(
 /// Checks the start bits of the blocks that were found: the bit of a word is 1 exactly where a block in use begins with it, and
 /// behind the last word's are zeros up to the first block. What is wrong first is told by its byte. It reads each line once, and
 /// takes no memory.
-pub fn check_bits<C: Cells>(c: &mut C, edges: &Edges, spots: &[Spot]) -> Result<(), AuditError>
+pub fn check_bits<C: Cells>(c: &mut C, edges: &Edges, spots: &[Spot]) -> Result<(), StructureError>
     requires surveyed { IsSurveyed (C.bytes c.old) edges.now spots.now }
     requires sound { (C.transaction c.old).failed ≡ false }
     ensures right { OnOk result ((small large : List PoolBlock) →
         AreBlocks (C.bytes c.old) small large → BitsAreRight (C.bytes c.old) small large) }
-    ensures damaged { IfErr result (DamagedBy Why.Bits (λ at. (small large : List PoolBlock) →
+    ensures damaged { IfErr result (DamagedBy StructureCheck.Bits (λ at. (small large : List PoolBlock) →
         AreBlocks (C.bytes c.old) small large → IsWrongBits (C.bytes c.old) small large at)) }
     ensures audits { Audits C.bytes C.transaction C.quiet c.old c.new result }
 {

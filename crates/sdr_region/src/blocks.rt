@@ -13,7 +13,7 @@ ghost use Rattle.sdr_region.specs.Walk.{IsWrongBlock, LargeBreaks, SmallBreaks, 
 ghost use Rattle.sdr_region.specs.Walked.{IsSurveyed, LargeWalked, SmallWalked};
 
 use crate::control::Edges;
-use crate::error::{AuditError, Why};
+use crate::error::{StructureError, StructureCheck};
 use crate::findings::Findings;
 use crate::label::{Label, read_label};
 use crate::spot::Spot;
@@ -44,7 +44,7 @@ fn find_small<C: Cells>(
     place: u64,
     found: &mut Findings,
     spots: &mut [Spot],
-) -> Result<u64, AuditError>
+) -> Result<u64, StructureError>
     requires region { IsRegionSize (length (C.bytes c.old)) }
     requires right { ControlIsRight (C.bytes c.old) }
     requires edges { edges.now ≡ edges_of (C.bytes c.old) }
@@ -53,15 +53,15 @@ fn find_small<C: Cells>(
     requires more { place < edges.now.low }
     ensures walked { IfOk result (λ next. SmallWalked (C.bytes c.old) next found.new spots.new) }
     ensures onward { IfOk result (λ next. place < next) }
-    ensures damaged { IfErr result (DamagedBy Why.Block (SmallBreaks (C.bytes c.old))) }
+    ensures damaged { IfErr result (DamagedBy StructureCheck.Block (SmallBreaks (C.bytes c.old))) }
     ensures audits { Audits C.bytes C.transaction C.quiet c.old c.new result }
     ensures length { length spots.new ≡ length spots.old }
 {
     let label = read_label(c, place)?;
     if !is_small(&label, place, edges.low) {
-        return Err(AuditError::Damaged {
+        return Err(StructureError::Damaged {
             place,
-            why: Why::Block,
+            why: StructureCheck::Block,
         });
     }
     found.note_small(&label, place);
@@ -75,7 +75,7 @@ fn walk_small<C: Cells>(
     edges: &Edges,
     found: &mut Findings,
     spots: &mut [Spot],
-) -> Result<(), AuditError>
+) -> Result<(), StructureError>
     requires region { IsRegionSize (length (C.bytes c.old)) }
     requires right { ControlIsRight (C.bytes c.old) }
     requires edges { edges.now ≡ edges_of (C.bytes c.old) }
@@ -85,7 +85,7 @@ fn walk_small<C: Cells>(
     requires none { found.old ≡ no_findings }
     ensures walked { OnOk result (SmallWalked (C.bytes c.old) (control_word (C.bytes c.old) LOW)
         found.new spots.new) }
-    ensures damaged { IfErr result (DamagedBy Why.Block (SmallBreaks (C.bytes c.old))) }
+    ensures damaged { IfErr result (DamagedBy StructureCheck.Block (SmallBreaks (C.bytes c.old))) }
     ensures audits { Audits C.bytes C.transaction C.quiet c.old c.new result }
     ensures length { length spots.new ≡ length spots.old }
 {
@@ -147,7 +147,7 @@ fn find_large<C: Cells>(
     place: u64,
     found: &mut Findings,
     spots: &mut [Spot],
-) -> Result<u64, AuditError>
+) -> Result<u64, StructureError>
     requires region { IsRegionSize (length (C.bytes c.old)) }
     requires right { ControlIsRight (C.bytes c.old) }
     requires edges { edges.now ≡ edges_of (C.bytes c.old) }
@@ -156,15 +156,15 @@ fn find_large<C: Cells>(
     requires more { place < edges.now.end }
     ensures walked { IfOk result (λ next. LargeWalked (C.bytes c.old) next found.new spots.new) }
     ensures onward { IfOk result (λ next. place < next) }
-    ensures damaged { IfErr result (DamagedBy Why.Block (LargeBreaks (C.bytes c.old))) }
+    ensures damaged { IfErr result (DamagedBy StructureCheck.Block (LargeBreaks (C.bytes c.old))) }
     ensures audits { Audits C.bytes C.transaction C.quiet c.old c.new result }
     ensures length { length spots.new ≡ length spots.old }
 {
     let label = read_label(c, place)?;
     if !is_large(c, place, &label, edges.end)? {
-        return Err(AuditError::Damaged {
+        return Err(StructureError::Damaged {
             place,
-            why: Why::Block,
+            why: StructureCheck::Block,
         });
     }
     found.note_large(&label, place, edges.high);
@@ -178,7 +178,7 @@ fn walk_large<C: Cells>(
     edges: &Edges,
     found: &mut Findings,
     spots: &mut [Spot],
-) -> Result<(), AuditError>
+) -> Result<(), StructureError>
     requires region { IsRegionSize (length (C.bytes c.old)) }
     requires right { ControlIsRight (C.bytes c.old) }
     requires edges { edges.now ≡ edges_of (C.bytes c.old) }
@@ -188,7 +188,7 @@ fn walk_large<C: Cells>(
         spots.old }
     ensures walked { OnOk result (LargeWalked (C.bytes c.old) (length (C.bytes c.old)) found.new
         spots.new) }
-    ensures damaged { IfErr result (DamagedBy Why.Block (LargeBreaks (C.bytes c.old))) }
+    ensures damaged { IfErr result (DamagedBy StructureCheck.Block (LargeBreaks (C.bytes c.old))) }
     ensures audits { Audits C.bytes C.transaction C.quiet c.old c.new result }
     ensures length { length spots.new ≡ length spots.old }
 {
@@ -209,7 +209,7 @@ pub fn check_blocks<C: Cells>(
     c: &mut C,
     edges: &Edges,
     spots: &mut [Spot],
-) -> Result<(), AuditError>
+) -> Result<(), StructureError>
     requires region { IsRegionSize (length (C.bytes c.old)) }
     requires right { ControlIsRight (C.bytes c.old) }
     requires edges { edges.now ≡ edges_of (C.bytes c.old) }
@@ -217,7 +217,7 @@ pub fn check_blocks<C: Cells>(
     requires spots { length spots.old * WORD ≡ length (C.bytes c.old) }
     requires clear { AreSpots [] [] spots.old }
     ensures surveyed { OnOk result (IsSurveyed (C.bytes c.old) edges.now spots.new) }
-    ensures damaged { IfErr result (DamagedBy Why.Block (IsWrongBlock (C.bytes c.old))) }
+    ensures damaged { IfErr result (DamagedBy StructureCheck.Block (IsWrongBlock (C.bytes c.old))) }
     ensures audits { Audits C.bytes C.transaction C.quiet c.old c.new result }
 {
     let mut found = Findings::none();
@@ -225,9 +225,9 @@ pub fn check_blocks<C: Cells>(
     walk_large(c, edges, &mut found, spots)?;
     match found.first() {
         None => Ok(()),
-        Some(place) => Err(AuditError::Damaged {
+        Some(place) => Err(StructureError::Damaged {
             place,
-            why: Why::Block,
+            why: StructureCheck::Block,
         }),
     }
 }

@@ -13,7 +13,7 @@ ghost use Rattle.sdr_region.specs.Walk.{AreBlocks};
 ghost use Rattle.sdr_region.specs.Walked.{IsBuilt};
 
 use crate::control::Edges;
-use crate::error::{AuditError, Why};
+use crate::error::{StructureError, StructureCheck};
 use crate::label::{Label, read_label};
 use crate::layout::has_layout;
 use sdr_base::control::LARGE_FRAME;
@@ -44,33 +44,33 @@ fn is_filled<C: Cells>(c: &mut C, label: &Label, place: u64, addr: u64) -> Resul
 }
 
 // Checks the small block that begins at a place, and answers where the next one does.
-fn check_small<C: Cells>(c: &mut C, edges: &Edges, place: u64) -> Result<u64, AuditError>
+fn check_small<C: Cells>(c: &mut C, edges: &Edges, place: u64) -> Result<u64, StructureError>
     requires built { IsBuilt (C.bytes c.old) edges.now }
     requires sound { (C.transaction c.old).failed ≡ false }
     requires filled { SmallFilled (C.bytes c.old) place }
     requires more { place < edges.now.low }
     ensures filled { IfOk result (SmallFilled (C.bytes c.old)) }
     ensures onward { IfOk result (λ next. place < next) }
-    ensures damaged { IfErr result (DamagedBy Why.Content (λ at. (small large : List PoolBlock) →
+    ensures damaged { IfErr result (DamagedBy StructureCheck.Content (λ at. (small large : List PoolBlock) →
         AreBlocks (C.bytes c.old) small large → IsWrongContent (C.bytes c.old) small large at)) }
     ensures audits { Audits C.bytes C.transaction C.quiet c.old c.new result }
 {
     let label = read_label(c, place)?;
     if !is_filled(c, &label, place, place + WORD)? {
-        return Err(AuditError::Damaged {
+        return Err(StructureError::Damaged {
             place: place + WORD,
-            why: Why::Content,
+            why: StructureCheck::Content,
         });
     }
     Ok(place + WORD * (1 + label.words))
 }
 
 // Checks all small blocks.
-fn check_all_small<C: Cells>(c: &mut C, edges: &Edges) -> Result<(), AuditError>
+fn check_all_small<C: Cells>(c: &mut C, edges: &Edges) -> Result<(), StructureError>
     requires built { IsBuilt (C.bytes c.old) edges.now }
     requires sound { (C.transaction c.old).failed ≡ false }
     ensures filled { OnOk result (SmallFilled (C.bytes c.old) (control_word (C.bytes c.old) LOW)) }
-    ensures damaged { IfErr result (DamagedBy Why.Content (λ at. (small large : List PoolBlock) →
+    ensures damaged { IfErr result (DamagedBy StructureCheck.Content (λ at. (small large : List PoolBlock) →
         AreBlocks (C.bytes c.old) small large → IsWrongContent (C.bytes c.old) small large at)) }
     ensures audits { Audits C.bytes C.transaction C.quiet c.old c.new result }
 {
@@ -82,22 +82,22 @@ fn check_all_small<C: Cells>(c: &mut C, edges: &Edges) -> Result<(), AuditError>
 }
 
 // Checks the large block that begins at a place, and answers where the next one does.
-fn check_large<C: Cells>(c: &mut C, edges: &Edges, place: u64) -> Result<u64, AuditError>
+fn check_large<C: Cells>(c: &mut C, edges: &Edges, place: u64) -> Result<u64, StructureError>
     requires built { IsBuilt (C.bytes c.old) edges.now }
     requires sound { (C.transaction c.old).failed ≡ false }
     requires filled { LargeFilled (C.bytes c.old) place }
     requires more { place < edges.now.end }
     ensures filled { IfOk result (LargeFilled (C.bytes c.old)) }
     ensures onward { IfOk result (λ next. place < next) }
-    ensures damaged { IfErr result (DamagedBy Why.Content (λ at. (small large : List PoolBlock) →
+    ensures damaged { IfErr result (DamagedBy StructureCheck.Content (λ at. (small large : List PoolBlock) →
         AreBlocks (C.bytes c.old) small large → IsWrongContent (C.bytes c.old) small large at)) }
     ensures audits { Audits C.bytes C.transaction C.quiet c.old c.new result }
 {
     let label = read_label(c, place)?;
     if !is_filled(c, &label, place, place + 2 * WORD)? {
-        return Err(AuditError::Damaged {
+        return Err(StructureError::Damaged {
             place: place + 2 * WORD,
-            why: Why::Content,
+            why: StructureCheck::Content,
         });
     }
     Ok(place + WORD * (LARGE_FRAME + label.words))
@@ -106,12 +106,12 @@ fn check_large<C: Cells>(c: &mut C, edges: &Edges, place: u64) -> Result<u64, Au
 /// Checks the contents of the blocks in use, each by itself: its length, the lengths in it, small values and zeros, by its kind's
 /// layout and limits. What is wrong first is told by the block's address. It reads the leader and the first 96 bytes of each block,
 /// and takes no memory.
-pub fn check_content<C: Cells>(c: &mut C, edges: &Edges) -> Result<(), AuditError>
+pub fn check_content<C: Cells>(c: &mut C, edges: &Edges) -> Result<(), StructureError>
     requires built { IsBuilt (C.bytes c.old) edges.now }
     requires sound { (C.transaction c.old).failed ≡ false }
     ensures right { OnOk result ((small large : List PoolBlock) →
         AreBlocks (C.bytes c.old) small large → ContentIsRight (C.bytes c.old) small large) }
-    ensures damaged { IfErr result (DamagedBy Why.Content (λ at. (small large : List PoolBlock) →
+    ensures damaged { IfErr result (DamagedBy StructureCheck.Content (λ at. (small large : List PoolBlock) →
         AreBlocks (C.bytes c.old) small large → IsWrongContent (C.bytes c.old) small large at)) }
     ensures audits { Audits C.bytes C.transaction C.quiet c.old c.new result }
 {

@@ -7,7 +7,7 @@ ghost use Rattle.sdr_base.specs.declared.line.TheConstants.{MOST_LINES, WORD};
 ghost use Rattle.sdr_region.specs.Auditing.{Audits, DamagedBy, edges_of};
 ghost use Rattle.sdr_region.specs.Control.{ControlIsRight, IsWrongControl, control_word, is_maximum_of, may_be};
 
-use crate::error::{AuditError, Why};
+use crate::error::{StructureError, StructureCheck};
 use sdr_base::control::{
     BULK_MAXIMUM, CONTROL_WORDS, FILE_MAXIMUM, HEAP_MAXIMUM, HIGH, INBOUND, LAST_NAME, LOW,
     NEXT_TICKET, OUTBOUND, SIZE, START,
@@ -67,7 +67,7 @@ fn may_be(size: u64, high: u64, word: u64, value: u64) -> bool
 }
 
 // Checks a control word.
-fn check_word<C: Cells>(c: &mut C, size: u64, high: u64, word: u64) -> Result<(), AuditError>
+fn check_word<C: Cells>(c: &mut C, size: u64, high: u64, word: u64) -> Result<(), StructureError>
     requires region { IsRegionSize size }
     requires size { length (C.bytes c.old) ≡ size }
     requires high { control_word (C.bytes c.old) HIGH ≡ high }
@@ -76,27 +76,27 @@ fn check_word<C: Cells>(c: &mut C, size: u64, high: u64, word: u64) -> Result<()
         (control_word (C.bytes c.old) other) ≡ true }
     ensures right { OnOk result (may_be (C.bytes c.old) word (control_word (C.bytes c.old) word)
         ≡ true) }
-    ensures damaged { IfErr result (DamagedBy Why.Control (IsWrongControl (C.bytes c.old))) }
+    ensures damaged { IfErr result (DamagedBy StructureCheck.Control (IsWrongControl (C.bytes c.old))) }
     ensures audits { Audits C.bytes C.transaction C.quiet c.old c.new result }
 {
     let value = read_number(c, WORD * word)?;
     if may_be(size, high, word, value) {
         Ok(())
     } else {
-        Err(AuditError::Damaged {
+        Err(StructureError::Damaged {
             place: WORD * word,
-            why: Why::Control,
+            why: StructureCheck::Control,
         })
     }
 }
 
 // Checks all control words.
-fn check_words<C: Cells>(c: &mut C, size: u64, high: u64) -> Result<(), AuditError>
+fn check_words<C: Cells>(c: &mut C, size: u64, high: u64) -> Result<(), StructureError>
     requires region { IsRegionSize size }
     requires size { length (C.bytes c.old) ≡ size }
     requires high { control_word (C.bytes c.old) HIGH ≡ high }
     ensures right { OnOk result (ControlIsRight (C.bytes c.old)) }
-    ensures damaged { IfErr result (DamagedBy Why.Control (IsWrongControl (C.bytes c.old))) }
+    ensures damaged { IfErr result (DamagedBy StructureCheck.Control (IsWrongControl (C.bytes c.old))) }
     ensures audits { Audits C.bytes C.transaction C.quiet c.old c.new result }
 {
     check_word(c, size, high, 0)?;
@@ -109,10 +109,10 @@ fn check_words<C: Cells>(c: &mut C, size: u64, high: u64) -> Result<(), AuditErr
 /// Checks the control words, and tells where blocks may stand. What is wrong is the lowest word that is: the size of the region,
 /// the place of the first block, the ends of the unassigned space, a maximum, the number of the next ticket, or a word that is
 /// always 0. It reads alone, and takes no memory.
-pub fn check_control<C: Cells>(c: &mut C) -> Result<Edges, AuditError>
+pub fn check_control<C: Cells>(c: &mut C) -> Result<Edges, StructureError>
     ensures edges { IfOk result (λ edges. edges ≡ edges_of (C.bytes c.old)) }
     ensures right { OnOk result (ControlIsRight (C.bytes c.old)) }
-    ensures damaged { IfErr result (DamagedBy Why.Control (IsWrongControl (C.bytes c.old))) }
+    ensures damaged { IfErr result (DamagedBy StructureCheck.Control (IsWrongControl (C.bytes c.old))) }
     ensures audits { Audits C.bytes C.transaction C.quiet c.old c.new result }
 {
     let size = c.size();

@@ -6,7 +6,7 @@ use sdr_base::Stop;
 
 /// The check that found something wrong.
 #[derive(Clone, Copy, Debug, PartialEq, Eq)]
-pub enum Why {
+pub enum StructureCheck {
     /// The control words.
     Control,
     /// The blocks of both pools, as their leaders tell.
@@ -21,24 +21,24 @@ pub enum Why {
 
 /// Why an audit came to no good end.
 #[derive(Clone, Copy, Debug, PartialEq, Eq)]
-pub enum AuditError {
+pub enum StructureError {
     /// The bytes stand for no world, by what is wrong at a place in the heap region.
-    Damaged { place: u64, why: Why },
+    Damaged { place: u64, why: StructureCheck },
     /// The disk failed.
     DiskFault,
     /// It had failed before.
     Failed,
 }
 
-impl From<Stop> for AuditError {
+impl From<Stop> for StructureError {
     ghost use Rattle.sdr_region.specs.Auditing.{HasStop};
 
     ghost from_gives = { λ stop e. HasStop e stop };
 
-    fn from(stop: Stop) -> AuditError {
+    fn from(stop: Stop) -> StructureError {
         match stop {
-            Stop::DiskFault => AuditError::DiskFault,
-            _ => AuditError::Failed,
+            Stop::DiskFault => StructureError::DiskFault,
+            _ => StructureError::Failed,
         }
     }
 }

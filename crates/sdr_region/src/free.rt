@@ -18,7 +18,7 @@ ghost use Rattle.sdr_region.specs.Walk.{AreBlocks};
 ghost use Rattle.sdr_region.specs.Walked.{IsBuilt, IsSurveyed};
 
 use crate::control::Edges;
-use crate::error::{AuditError, Why};
+use crate::error::{StructureError, StructureCheck};
 use crate::label::{Label, read_label};
 use crate::spot::{Spot, is_free};
 use sdr_base::control::{LARGE_LISTS, MOST_ORDER, MOST_SMALL, SMALL_LISTS};
@@ -157,7 +157,7 @@ fn follow<C: Cells>(
     edges: &Edges,
     spots: &mut [Spot],
     link: Link,
-) -> Result<Link, AuditError>
+) -> Result<Link, StructureError>
     requires built { IsBuilt (C.bytes c.old) edges.now }
     requires sound { (C.transaction c.old).failed ≡ false }
     requires more { link.addr ≢ 0 }
@@ -167,14 +167,14 @@ fn follow<C: Cells>(
         (λ told reached. ListWalked (C.bytes c.old) told reached next)) }
     ensures word { IfOk result (λ next. next.word ≡ link.word) }
     ensures fewer { OnOk result (free_left spots.new < free_left spots.old) }
-    ensures damaged { IfErr result (DamagedBy Why.Free (λ at. (small large : List PoolBlock) →
+    ensures damaged { IfErr result (DamagedBy StructureCheck.Free (λ at. (small large : List PoolBlock) →
         AreBlocks (C.bytes c.old) small large → IsWrongList (C.bytes c.old) small large at)) }
     ensures audits { Audits C.bytes C.transaction C.quiet c.old c.new result }
 {
     if !may_follow(c, edges, spots, &link)? {
-        return Err(AuditError::Damaged {
+        return Err(StructureError::Damaged {
             place: WORD * link.word,
-            why: Why::Free,
+            why: StructureCheck::Free,
         });
     }
     let place = link.addr - frame_in(link.word);
@@ -194,7 +194,7 @@ fn walk_list<C: Cells>(
     edges: &Edges,
     spots: &mut [Spot],
     word: u64,
-) -> Result<(), AuditError>
+) -> Result<(), StructureError>
     requires built { IsBuilt (C.bytes c.old) edges.now }
     requires sound { (C.transaction c.old).failed ≡ false }
     requires list { IsListWord word }
@@ -202,7 +202,7 @@ fn walk_list<C: Cells>(
         (λ told reached. ListsWalked (C.bytes c.old) told reached word) }
     ensures left { OnOk result (Leaves (C.bytes c.old) spots.new
         (λ told reached. ListsWalked (C.bytes c.old) told reached (word + 1))) }
-    ensures damaged { IfErr result (DamagedBy Why.Free (λ at. (small large : List PoolBlock) →
+    ensures damaged { IfErr result (DamagedBy StructureCheck.Free (λ at. (small large : List PoolBlock) →
         AreBlocks (C.bytes c.old) small large → IsWrongList (C.bytes c.old) small large at)) }
     ensures audits { Audits C.bytes C.transaction C.quiet c.old c.new result }
 {
@@ -219,12 +219,12 @@ fn walk_list<C: Cells>(
 }
 
 // Walks over all lists.
-fn walk_lists<C: Cells>(c: &mut C, edges: &Edges, spots: &mut [Spot]) -> Result<(), AuditError>
+fn walk_lists<C: Cells>(c: &mut C, edges: &Edges, spots: &mut [Spot]) -> Result<(), StructureError>
     requires surveyed { IsSurveyed (C.bytes c.old) edges.now spots.old }
     requires sound { (C.transaction c.old).failed ≡ false }
     ensures left { OnOk result (Leaves (C.bytes c.old) spots.new
         (λ told reached. ListsWalked (C.bytes c.old) told reached (LARGE_LISTS + MOST_ORDER + 1))) }
-    ensures damaged { IfErr result (DamagedBy Why.Free (λ at. (small large : List PoolBlock) →
+    ensures damaged { IfErr result (DamagedBy StructureCheck.Free (λ at. (small large : List PoolBlock) →
         AreBlocks (C.bytes c.old) small large → IsWrongList (C.bytes c.old) small large at)) }
     ensures audits { Audits C.bytes C.transaction C.quiet c.old c.new result }
 {
@@ -267,12 +267,12 @@ fn first_lost(spots: &[Spot]) -> Option<usize>
 /// order, each once, and a large one's previous link is right; what is wrong is told by the control word in which the list's front
 /// stands. Then each free block was reached; the first that wasn't is told by its address. It is linear in the region, for each block
 /// is followed once; it reads alone, and takes no memory.
-pub fn check_free<C: Cells>(c: &mut C, edges: &Edges, spots: &mut [Spot]) -> Result<(), AuditError>
+pub fn check_free<C: Cells>(c: &mut C, edges: &Edges, spots: &mut [Spot]) -> Result<(), StructureError>
     requires surveyed { IsSurveyed (C.bytes c.old) edges.now spots.old }
     requires sound { (C.transaction c.old).failed ≡ false }
     ensures right { OnOk result ((small large : List PoolBlock) →
         AreBlocks (C.bytes c.old) small large → AreListed (C.bytes c.old) small large) }
-    ensures damaged { IfErr result (DamagedBy Why.Free (λ at. (small large : List PoolBlock) →
+    ensures damaged { IfErr result (DamagedBy StructureCheck.Free (λ at. (small large : List PoolBlock) →
         AreBlocks (C.bytes c.old) small large → IsWrongFree (C.bytes c.old) small large at)) }
     ensures audits { Audits C.bytes C.transaction C.quiet c.old c.new result }
 {
@@ -281,9 +281,9 @@ pub fn check_free<C: Cells>(c: &mut C, edges: &Edges, spots: &mut [Spot]) -> Res
         None => Ok(()),
         Some(word) => {
             let place = WORD * word as u64;
-            Err(AuditError::Damaged {
+            Err(StructureError::Damaged {
                 place: place + frame_at(place, edges.low),
-                why: Why::Free,
+                why: StructureCheck::Free,
             })
         }
     }

@@ -3,7 +3,7 @@ ghost use Rattle.std.specs.Prelude.{◌≡◌, ◌≤◌, ◌<◌, ◌+◌, ◌*
 ghost use Rattle.std.specs.List.{list_all};
 ghost use Rattle.sdr_base.specs.Stored.{number_at};
 ghost use Rattle.sdr_base.specs.declared.line.TheConstants.{WORD};
-ghost use Rattle.sdr_region.specs.Content.{field, has_key, has_layout, is_hash, is_name, is_source, is_string, is_table, is_ticket, told_bytes};
+ghost use Rattle.sdr_region.specs.Content.{field, is_key_length, has_layout, is_hash, is_name_entry, is_source, is_string, is_table, is_ticket, told_bytes};
 
 use byteorder::{BigEndian, ByteOrder};
 use sdr_base::Kind;
@@ -30,7 +30,7 @@ fn are_zeros(bytes: &[u8]) -> bool
 
 // Whether a key of a hash may have so many bytes.
 fn has_key(count: u64) -> bool
-    ensures { result ≡ has_key count }
+    ensures { result ≡ is_key_length count }
 {
     1 <= count && count <= LONGEST_KEY
 }
@@ -74,7 +74,7 @@ fn is_hash(count: u64, first: &[u8]) -> bool
 // Whether an entry of the catalogue may have so many bytes and begin with these.
 fn is_name(count: u64, first: &[u8]) -> bool
     requires { length first.now ≡ min told_bytes count }
-    ensures { result ≡ is_name count first.now }
+    ensures { result ≡ is_name_entry count first.now }
 {
     if count != 56 {
         return false;

@@ -36,7 +36,7 @@ pub use bits::check_bits;
 pub use blocks::check_blocks;
 pub use content::check_content;
 pub use control::{Edges, check_control};
-pub use error::{AuditError, Why};
+pub use error::{StructureError, StructureCheck};
 pub use free::check_free;
 pub use region::{kept_heaps_are_sound, sound_regions_are_not_wrong, sound_regions_keep_heaps};
 pub use spot::Spot;

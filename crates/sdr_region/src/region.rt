@@ -5,8 +5,8 @@ ghost use Rattle.sdr_base.specs.KeptHeap.{KeepsHeap};
 ghost use Rattle.sdr_base.specs.Pools.{PoolBlock, Pools};
 ghost use Rattle.sdr_region.specs.Content.{ContentIsRight};
 ghost use Rattle.sdr_region.specs.Control.{ControlIsRight};
-ghost use Rattle.sdr_region.specs.Region.{IsSound, IsSoundRegion, IsWrongFirst, KeepsBlocks};
-ghost use Rattle.sdr_region.specs.declared.error.Why.{Why};
+ghost use Rattle.sdr_region.specs.Region.{IsSound, IsSoundRegion, RegionIsWrongFirst, KeepsBlocks};
+ghost use Rattle.sdr_region.specs.declared.error.StructureCheck.{StructureCheck};
 
 /// A law: a region with these blocks that passes each check keeps a heap that has just them, and each block in use has what its
 /// kind's layout asks. It does nothing.
@@ -18,7 +18,7 @@ pub fn sound_regions_keep_heaps()
 /// A law: a region that passes each check isn't wrong by any. It does nothing.
 pub fn sound_regions_are_not_wrong()
     ensures { (bytes : List ℕ) (why : Why) (place : ℕ) →
-        IsSoundRegion bytes → IsWrongFirst bytes why place → ⊥ }
+        IsSoundRegion bytes → RegionIsWrongFirst bytes why place → ⊥ }
 {}
 
 /// A law: where bytes keep a heap, its blocks, start bits and lists of free blocks are right, so a region whose control words and

@@ -3,7 +3,7 @@ ghost use Rattle.std.specs.Prelude.{◌≤◌, ◌<◌};
 
 use crate::regions::{HEAP, LINES, region, structure_of};
 use sdr_base::{Cells, Stop};
-use sdr_region::AuditError;
+use sdr_region::StructureError;
 use std::alloc::Global;
 
 // Changes the byte at a place. One that lies behind the region stays out.
@@ -26,7 +26,7 @@ fn is_told(alloc: Global, place: u64, by: u8) -> bool {
     }
     match structure_of(alloc, &mut cells) {
         Some(Ok(())) => true,
-        Some(Err(AuditError::Damaged { place, .. })) => place < 2048,
+        Some(Err(StructureError::Damaged { place, .. })) => place < 2048,
         _ => false,
     }
 }

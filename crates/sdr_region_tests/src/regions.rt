@@ -4,7 +4,7 @@ ghost use Rattle.sdr_base.specs.declared.line.TheConstants.{LEAST_LINES, MOST_LI
 
 use sdr_base::{Cells, MemoryCells, Stop, WORD, write_number};
 use sdr_check::check_structure;
-use sdr_region::{AuditError, Spot};
+use sdr_region::{StructureError, Spot};
 use std::alloc::Global;
 
 /// A word in a region: its place in bytes, and the number in it.
@@ -40,7 +40,7 @@ pub fn region(alloc: Global, lines: u64, words: &[Word], changes: &[Word]) -> Op
 }
 
 /// What an audit of the structure of a region comes to. `None`: there is no memory for it.
-pub fn structure_of(alloc: Global, cells: &mut MemoryCells) -> Option<Result<(), AuditError>> {
+pub fn structure_of(alloc: Global, cells: &mut MemoryCells) -> Option<Result<(), StructureError>> {
     let words = (cells.size() / WORD) as usize;
     let mut spots = vec![in alloc; Spot::Nothing; words].ok()?;
     match check_structure(cells, &mut spots) {
@@ -55,7 +55,7 @@ pub fn audited(
     lines: u64,
     words: &[Word],
     changes: &[Word],
-) -> Option<Result<(), AuditError>>
+) -> Option<Result<(), StructureError>>
     requires least { LEAST_LINES ≤ lines }
     requires most { lines ≤ MOST_LINES }
 {

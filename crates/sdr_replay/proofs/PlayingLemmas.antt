@@ -6,25 +6,25 @@ use Rattle.sdr_base.proofs.WrittenLemmas.{rose_later}
 use Rattle.sdr_base.specs.Causes.{Rose}
 use Rattle.sdr_base.specs.Written.{AppendsPart}
 use Rattle.sdr_base.specs.declared.refusal.Refusal.TheVariants as refusals
-use Rattle.sdr_core.specs.CoreKept.{Begins, BeginsOn, IsRunOf, Kept, core_at}
+use Rattle.sdr_core.specs.CoreKept.{RunStart, BeginsOn, IsRunOf, LoggedLock, core_at}
 use Rattle.sdr_core.specs.Leaving.{RunLeads}
 use Rattle.sdr_dry.proofs.MediaLemmas.{caused_later, caused_more, failed_refl}
 use Rattle.sdr_dry.proofs.ScheduleLemmas.{bindings_after, bindings_after-push, follows-push, run_text-push, runs-push}
 use Rattle.sdr_dry.specs.Schedule.{AreCaused, HaveFailed, IsCaused, MakesEvent, daemons_of, from_to, run_text}
 use Rattle.sdr_lock.specs.Core.{CoreStep, RunsCore, first_core}
 use Rattle.sdr_lock.specs.Crash.{is_sound}
-use Rattle.sdr_lock.specs.Gaps.{GapsLast, HasGapCause}
+use Rattle.sdr_lock.specs.Lapses.{LapsesLast, HasLapseCause}
 use Rattle.sdr_lock.specs.Leaving.{AllLeave}
 use Rattle.sdr_lock.specs.Machine.{Made}
 use Rattle.sdr_lock.specs.Roll.{first_roll}
-use Rattle.sdr_lock.specs.Serving.{StoodFor, made_by}
+use Rattle.sdr_lock.specs.Serving.{IsInSomeState, made_by}
 use Rattle.sdr_lock.specs.Standing.{standing_at}
 use Rattle.sdr_lock.specs.declared.has_ground.HasGround.{Ghosts}
 use Rattle.sdr_model.specs.declared.answer.Answer.{Answer}
 use Rattle.sdr_model.specs.declared.answer.Answer.TheVariants as answers
 use Rattle.sdr_model.specs.declared.answer.Reply.TheVariants as replies
 use Rattle.sdr_model.specs.declared.journal.Entry.{Entry}
-use Rattle.sdr_model.specs.declared.script.Step.{Step}
+use Rattle.sdr_model.specs.declared.script.ScriptStep.{ScriptStep}
 use Rattle.sdr_replay.specs.Playing.{IsPrinted, Output, PlaysOut, PrintsMore, leave_of, media_on}
 use Rattle.sdr_replay.specs.Running.{AnswersStep, HasMade, HasRun, Running}
 use Rattle.sdr_text.proofs.TextLemmas.{part_later}
@@ -62,13 +62,14 @@ printed_none p old line is =
     (λ first text below printed. (printed.0, part_more first.taken old.taken text line printed.1))
 
 -- the media of a ground tell the same, and no count of theirs has fallen
-media_later : {T : Type 0} (g : Ghosts T) (old new : T) → g.told new ≡ g.told old → GapsLast (g.gaps old) (g.gaps new)
+media_later : {T : Type 0} (g : Ghosts T) (old new : T) → g.told new ≡ g.told old → LapsesLast (g.lapses old)
+    (g.lapses new)
     → HaveFailed 0 0 (from_to (media_on g old) (media_on g new))
 media_later g old new same later = record { told = same; faults = omega (arith, later.faults); short = omega (arith, later.short) }
 
 -- so an answer that tells that they failed, or gave too few bytes, is caused where the ground tells its cause
-answer_caused : {T : Type 0} (g : Ghosts T) (old new : T) (answer : Answer) → g.told new ≡ g.told old → GapsLast (g.gaps old) (g.gaps new)
-    → HasGapCause answer (g.gaps old) (g.gaps new) → IsCaused answer (from_to (media_on g old) (media_on g new))
+answer_caused : {T : Type 0} (g : Ghosts T) (old new : T) (answer : Answer) → g.told new ≡ g.told old → LapsesLast (g.lapses old) (g.lapses new)
+    → HasLapseCause answer (g.lapses old) (g.lapses new) → IsCaused answer (from_to (media_on g old) (media_on g new))
 answer_caused g old new (answers.Reply replies.MediaFault) same later rose =
     record { told = same; faults = rose; short = omega (arith, later.short) }
 answer_caused g old new (answers.Reply (replies.Refused (refusals.SourceShort have want))) same later rose =
@@ -76,14 +77,14 @@ answer_caused g old new (answers.Reply (replies.Refused (refusals.SourceShort ha
 answer_caused g old new answer same later rose = media_later g old new same later
 
 -- nothing was made yet
-pub running_start : {T : Type 0} (g : Ghosts T) (b : Begins) (script : List Step) (daemons : List ℕ) (base : T) (k : Kept T) (out : Output)
+pub running_start : {T : Type 0} (g : Ghosts T) (b : RunStart) (script : List ScriptStep) (daemons : List ℕ) (base : T) (k : LoggedLock T) (out : Output)
     → daemons ≡ daemons_of script → BeginsOn g b (daemons_of script) base
     → k ≡ record { lock = record { roll = first_roll daemons; base = base }; log = record { works = []; journal = [] } }
     → Running g b k.lock.base script script [] k (IsPrinted true out out)
 running_start {T} g b script daemons base k out named begins made =
-    let core : Kept T = record { lock = record { roll = first_roll (daemons_of script); base = base }; log = record { works = []; journal = [] } } in
-    let is : core ≡ k = sym (made ∙ (λ i. let x : Kept T = record { lock = record { roll = first_roll (named i); base = base }; log = record { works = []; journal = [] } } in x)) in
-    subst (λ (x : Kept T). Running g b x.lock.base script script [] x (IsPrinted true out out)) is (record {
+    let core : LoggedLock T = record { lock = record { roll = first_roll (daemons_of script); base = base }; log = record { works = []; journal = [] } } in
+    let is : core ≡ k = sym (made ∙ (λ i. let x : LoggedLock T = record { lock = record { roll = first_roll (named i); base = base }; log = record { works = []; journal = [] } } in x)) in
+    subst (λ (x : LoggedLock T). Running g b x.lock.base script script [] x (IsPrinted true out out)) is (record {
       at = record {
         made = [];
         for = standing_at b.first begins.moves;
@@ -99,10 +100,10 @@ running_start {T} g b script daemons base k out named begins made =
       names = refl;
     })
 
-module _ {T : Type 0} (g : Ghosts T) (b : Begins) (base : T) (script : List Step) (step : Step) (rest : List Step) (bindings : List Binding) (old new : Kept T)
+module _ {T : Type 0} (g : Ghosts T) (b : RunStart) (base : T) (script : List ScriptStep) (step : ScriptStep) (rest : List ScriptStep) (bindings : List Binding) (old new : LoggedLock T)
     (was going : Bool) (first before after : Output) (r : Running g b base script (step ∷ rest) bindings old (IsPrinted was first before))
     (below : first.faults ≤ before.faults) (a : AnswersStep g bindings step old new (PrintsMore was going before after)) where
-  stood : StoodFor g.stands new.lock (λ v. CoreStep (g.told old.lock.base) (core_at old r.at.for)
+  stood : IsInSomeState g.stands new.lock (λ v. CoreStep (g.told old.lock.base) (core_at old r.at.for)
       (made_by step.daemon (event_of bindings step) a.came (g.moment old.lock.base) (g.moment new.lock.base) step.line v) (core_at new v))
   stood = a.makes.step.each r.at.for r.at.stood
 
@@ -125,7 +126,7 @@ module _ {T : Type 0} (g : Ghosts T) (b : Begins) (base : T) (script : List Step
         (subst (λ told. CoreStep told (core_at old r.at.for) e (core_at new stood.for)) r.at.media stood.tells);
     media = a.makes.asks.kept.media ∙ r.at.media;
     caused = caused_more r.at.made e (media_on g base) (media_on g old.lock.base) (media_on g new.lock.base) r.at.caused
-        (answer_caused g old.lock.base new.lock.base a.came.answer a.makes.asks.kept.media a.makes.asks.kept.gaps a.makes.asks.gap);
+        (answer_caused g old.lock.base new.lock.base a.came.answer a.makes.asks.kept.media a.makes.asks.kept.lapses a.makes.asks.gap);
     printed =
         subst (IsPrinted going first after) (sym (run_text-push r.at.made e))
         (a.prints stood.for (λ called. stood.stood (a.makes.called called)) first (run_text r.at.made) below r.at.printed);
@@ -141,16 +142,16 @@ module _ {T : Type 0} (g : Ghosts T) (b : Begins) (base : T) (script : List Step
   }
 
 -- nothing was done
-pub made_still : {T : Type 0} (g : Ghosts T) (b : Begins) (base : T) (script rest : List Step) (old new : Kept T) (was going : Bool)
+pub made_still : {T : Type 0} (g : Ghosts T) (b : RunStart) (base : T) (script rest : List ScriptStep) (old new : LoggedLock T) (was going : Bool)
     (first before after : Output) → HasMade g b base script rest old (IsPrinted was first before) → new ≡ old → after ≡ before → going ≡ was
     → HasMade g b base script rest new (IsPrinted going first after)
 made_still {T} g b base script rest old new was going first before after at same out printing =
-    subst (λ (k : Kept T). HasMade g b base script rest k (IsPrinted going first after)) (sym same)
+    subst (λ (k : LoggedLock T). HasMade g b base script rest k (IsPrinted going first after)) (sym same)
     (subst (λ (o : Output). HasMade g b base script rest old (IsPrinted going first o)) (sym out)
     (subst (λ (p : Bool). HasMade g b base script rest old (IsPrinted p first before)) (sym printing) at))
 
 -- some steps were made, of which more is told
-pub has_run : {T : Type 0} (g : Ghosts T) (b : Begins) (base : T) (script rest : List Step) (k : Kept T) (starved : Bool) (P : List ℕ → Type 0)
+pub has_run : {T : Type 0} (g : Ghosts T) (b : RunStart) (base : T) (script rest : List ScriptStep) (k : LoggedLock T) (starved : Bool) (P : List ℕ → Type 0)
     → (starved ≡ false → rest ≡ []) → HasMade g b base script rest k P
     → HasRun g b base script k (λ rest text. (starved ≡ false → rest ≡ []) × P text)
 has_run g b base script rest k starved P none at = record {
@@ -170,7 +171,7 @@ has_run g b base script rest k starved P none at = record {
 }
 
 -- all have left
-pub plays_out : {T : Type 0} (g : Ghosts T) (b : Begins) (base begun left : T) (script : List Step) (k last : Kept T) (starved printing failed : Bool)
+pub plays_out : {T : Type 0} (g : Ghosts T) (b : RunStart) (base begun left : T) (script : List ScriptStep) (k last : LoggedLock T) (starved printing failed : Bool)
     (out out' : Output) (journal : List Entry) → begun ≡ base → g.told base ≡ b.told
     → HasRun g b begun script k (λ rest text. (starved ≡ false → rest ≡ []) × IsPrinted printing out out' text)
     → RunLeads g (AllLeave (g.told k.lock.base) (leave_of starved)) k last → journal ≡ last.log.journal → left ≡ last.lock.base
@@ -180,7 +181,7 @@ plays_out {T} g b base begun left script k last starved printing failed out out'
     let s = leads.each r.at.for r.at.stood in
     let caused : AreCaused r.at.made (from_to (media_on g begun) (media_on g last.lock.base)) =
     caused_later r.at.made (media_on g begun) (media_on g k.lock.base) (media_on g last.lock.base) r.at.caused
-    (media_later g k.lock.base last.lock.base leads.media leads.gaps) in
+    (media_later g k.lock.base last.lock.base leads.media leads.lapses) in
     record {
       replays = record {
         front = r.at.front;

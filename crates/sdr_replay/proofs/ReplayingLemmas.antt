@@ -16,14 +16,14 @@ use Rattle.sdr_log.specs.Calls.{KeepsDisk}
 use Rattle.sdr_log.specs.Log.{put_back_of}
 use Rattle.sdr_log.specs.Logged.{GivesSame}
 use Rattle.sdr_model.specs.declared.journal.Entry.{Entry}
-use Rattle.sdr_model.specs.declared.script.Step.{Step}
+use Rattle.sdr_model.specs.declared.script.ScriptStep.{ScriptStep}
 use Rattle.sdr_replay.specs.Handed.{HandedDisk, handed_as}
 use Rattle.sdr_replay.specs.Playing.{Output, PlaysOut, RunsScript}
 use Rattle.sdr_replay.specs.Replaying.{IsNotRun, IsSettled, LeavesJournal, ReplaysOn, begins_on, with_base}
 use Rattle.sdr_replay.specs.declared.playing.Ran.{Ran}
 use Rattle.sdr_station.proofs.GroundLemmas.{heap_ground}
 use Rattle.sdr_station.specs.CrashNow.{crash_now}
-use Rattle.sdr_station.specs.Grounded.{Grounded, Leaves, Opens, StandsForBoth}
+use Rattle.sdr_station.specs.Grounded.{Grounded, Leaves, OpensAs, StandsForBoth}
 use Rattle.sdr_station.specs.Opening.{IsOpen, first_on}
 use Rattle.sdr_station.specs.declared.error.OpenError.{OpenError}
 
@@ -34,21 +34,21 @@ told_before (Some x) new y is tells = (x, refl)
 
 -- the heap on a disk, with media, as a ground
 abbrev pub ground_of : {D M : Type 0} → DiskGhosts D → MediaGhosts M → Ghosts (Grounded D M)
-ground_of d m = heap_ground d.bytes d.moment d.faults d.may_leave m
+ground_of d m = heap_ground d.bytes d.moment d.faults d.may_hold_after m
 
 -- The heap of a disk was opened with media: what opening tells of it.
 pub record OpenedSo {D M : Type 0} (d : DiskGhosts D) (disk : D) (files : M) (g : Grounded D M) : Type 0 where
   pub with_media : g.media ≡ files
-  pub open_so : IsOpen d.bytes d.moment d.may_leave disk g
+  pub open_so : IsOpen d.bytes d.moment d.may_hold_after disk g
   pub keeps : KeepsDisk d.size d.bytes disk g.heap.cells.disk
   pub later : d.faults disk ≤ d.faults g.heap.cells.disk
-  pub same : IfTold (d.bytes disk) (λ x. AtEach d.moment d.may_leave disk g.heap.cells.disk (GivesSame x))
+  pub same : IfTold (d.bytes disk) (λ x. AtEach d.moment d.may_hold_after disk g.heap.cells.disk (GivesSame x))
 
 -- what opening told of the same disk
 pub opened_so : {D M : Type 0} (d : DiskGhosts D) (given disk : D) (files : M) (g : Grounded D M) → given ≡ disk → g.media ≡ files → IsSettled d disk
-    → IsOpen d.bytes d.moment d.may_leave given g → KeepsDisk d.size d.bytes given g.heap.cells.disk → d.faults given ≤ d.faults g.heap.cells.disk
-    → IfTold (d.bytes given) (λ x. MayBeOpened x (d.may_leave given (d.moment given))
-    → AtEach d.moment d.may_leave given g.heap.cells.disk (GivesSame x)) → OpenedSo d disk files g
+    → IsOpen d.bytes d.moment d.may_hold_after given g → KeepsDisk d.size d.bytes given g.heap.cells.disk → d.faults given ≤ d.faults g.heap.cells.disk
+    → IfTold (d.bytes given) (λ x. MayBeOpened x (d.may_hold_after given (d.moment given))
+    → AtEach d.moment d.may_hold_after given g.heap.cells.disk (GivesSame x)) → OpenedSo d disk files g
 opened_so {D} d given disk files g same with_media settled open_so keeps later any_moment =
     let settled_given : IsSettled d given = subst (λ (x : D). IsSettled d x) (sym same) settled in
     subst (λ (x : D). OpenedSo d x files g) same
@@ -61,10 +61,10 @@ not_run {D} d given disk left now why same left_is is =
     subst (λ (x : D). IsNotRun d x now why) same (subst (λ (y : D). IsNotRun d given y why) (sym left_is) is)
 
 -- A heap that was opened on a disk, whose bytes as read are one of the images now, with media.
-module _ {D M : Type 0} (d : DiskGhosts D) (m : MediaGhosts M) (read_now : (x : D) → IfTold (d.bytes x) (d.may_leave x (d.moment x)))
-    (disk : D) (files : M) (script : List Step) (g : Grounded D M) (settled : IsSettled d disk) (o : OpenedSo d disk files g) where
+module _ {D M : Type 0} (d : DiskGhosts D) (m : MediaGhosts M) (read_now : (x : D) → IfTold (d.bytes x) (d.may_hold_after x (d.moment x)))
+    (disk : D) (files : M) (script : List ScriptStep) (g : Grounded D M) (settled : IsSettled d disk) (o : OpenedSo d disk files g) where
   -- what was opened stands for the first state
-  stands : StandsForBoth d.bytes d.moment d.may_leave g (standing_at (first_on g) [])
+  stands : StandsForBoth d.bytes d.moment d.may_hold_after g (standing_at (first_on g) [])
   stands = o.open_so.stands settled
 
   -- where the disk told its bytes, its moment hasn't fallen
@@ -74,16 +74,16 @@ module _ {D M : Type 0} (d : DiskGhosts D) (m : MediaGhosts M) (read_now : (x : 
       omega (arith, (o.same x is).later, stands.moment_is now.0 now.1)
 
   -- at each moment of the opening a crash left what opens to the first state
-  opening : (m : ℕ) (image : List ℕ) → d.moment disk ≤ m → m ≤ g.moment → Leaves d.bytes d.may_leave g.heap.cells.disk m image
-      → Opens image (first_on g)
+  opening : (m : ℕ) (image : List ℕ) → d.moment disk ≤ m → m ≤ g.moment → Leaves d.bytes d.may_hold_after g.heap.cells.disk m image
+      → OpensAs image (first_on g)
   opening m image from to left =
       let now = g.heap.cells.disk in
       let was = told_before (d.bytes disk) (d.bytes now) left.bytes left.tells o.keeps.tells in
       let at = o.same was.0 was.1 in
       let here : g.moment ≡ d.moment now = stands.moment_is left.bytes left.tells in
-      let read : d.may_leave now (d.moment now) left.bytes = read_now now left.bytes left.tells in
-      let opened : Opens left.bytes (first_on g) = crash_now d.bytes d.moment d.may_leave g (standing_at (first_on g) []) left.bytes stands
-      (record { bytes = left.bytes; tells = left.tells; left = subst (λ (n : ℕ). d.may_leave now n left.bytes) (sym here) read }) in
+      let read : d.may_hold_after now (d.moment now) left.bytes = read_now now left.bytes left.tells in
+      let opened : OpensAs left.bytes (first_on g) = crash_now d.bytes d.moment d.may_hold_after g (standing_at (first_on g) []) left.bytes stands
+      (record { bytes = left.bytes; tells = left.tells; left = subst (λ (n : ℕ). d.may_hold_after now n left.bytes) (sym here) read }) in
       let now_same : put_back_of left.bytes ≡ put_back_of was.0 = at.each (d.moment now) left.bytes at.later (omega arith) read in
       let then_same : put_back_of image ≡ put_back_of was.0 = at.each m image from (omega (arith, here, to)) left.left in
       record { heap = opened.heap; back = then_same ∙ sym now_same ∙ opened.back; room = opened.room; stands = opened.stands }
@@ -125,8 +125,8 @@ module _ {D M : Type 0} (d : DiskGhosts D) (m : MediaGhosts M) (read_now : (x : 
             let here : base.moment ≡ d.moment now = s.holds.moment_is at.0 at.1 in
             record {
               state = s.for.before;
-              opened = crash_now d.bytes d.moment d.may_leave base s.for image s.holds
-                  (record { bytes = at.0; tells = at.1; left = subst (λ (n : ℕ). d.may_leave now n image) (sym here) left });
+              opened = crash_now d.bytes d.moment d.may_hold_after base s.for image s.holds
+                  (record { bytes = at.0; tells = at.1; left = subst (λ (n : ℕ). d.may_hold_after now n image) (sym here) left });
               tells = s.tells;
             };
         later = run.counted;

@@ -3,21 +3,21 @@ use Rattle.std.specs.Prelude.{◌≡◌, ◌≤◌, ℕ, List, [], ◌++◌, Boo
 use Rattle.std.specs.Io.KnownBytes.{Appends}
 use Rattle.sdr_base.specs.Causes.{Rose}
 use Rattle.sdr_base.specs.Written.{AppendsPart}
-use Rattle.sdr_core.specs.CoreKept.{Begins, IsRunOf}
-use Rattle.sdr_dry.specs.Schedule.{AreCaused, Follows, MediaChange, SeenMedia, daemons_of, from_to, run_text}
+use Rattle.sdr_core.specs.CoreKept.{RunStart, IsRunOf}
+use Rattle.sdr_dry.specs.Schedule.{AreCaused, FollowsScript, MediaChange, SeenMedia, daemons_of, from_to, run_text}
 use Rattle.sdr_lock.specs.Core.{Core, RunsCore, first_core}
 use Rattle.sdr_lock.specs.Crash.{is_sound}
 use Rattle.sdr_lock.specs.Ground.{State}
 use Rattle.sdr_lock.specs.Leaving.{AllLeave}
 use Rattle.sdr_lock.specs.Machine.{Made}
-use Rattle.sdr_lock.specs.Standing.{Standing}
+use Rattle.sdr_lock.specs.Standing.{GroundState}
 use Rattle.sdr_lock.specs.Transaction.{bytes_given}
 use Rattle.sdr_lock.specs.declared.came.Came.{Came}
 use Rattle.sdr_lock.specs.declared.has_ground.HasGround.{Ghosts}
 use Rattle.sdr_model.specs.declared.event.Leave.{Leave}
 use Rattle.sdr_model.specs.declared.event.Leave.TheVariants as leaves
 use Rattle.sdr_model.specs.declared.journal.Entry.{Entry}
-use Rattle.sdr_model.specs.declared.script.Step.{Step}
+use Rattle.sdr_model.specs.declared.script.ScriptStep.{ScriptStep}
 use Rattle.sdr_replay.specs.declared.playing.Ran.{Ran}
 
 -- what is seen of an output: the bytes that it took, where it tells them, and how often it has failed
@@ -40,7 +40,7 @@ PrintsMore was going old now line =
     (first : Output) (text : List ℕ) → first.faults ≤ old.faults → IsPrinted was first old text → IsPrinted going first now (text ++ line)
 
 -- the bytes that an event gave, where the ground then stands for this
-abbrev pub bytes_by : Came → Standing → List ℕ
+abbrev pub bytes_by : Came → GroundState → List ℕ
 bytes_by a v = if a.called then bytes_given a.answer v.now.world.shown else []
 
 -- the leave that daemons make at the end, where memory was wanting or not
@@ -50,17 +50,18 @@ leave_of false = leaves.Done
 
 -- what is seen of the media of a ground
 abbrev pub media_on : {T : Type 0} → Ghosts T → T → SeenMedia
-media_on g base = record { told = g.told base; faults = (g.gaps base).faults; short = (g.gaps base).short }
+media_on g base = record { told = g.told base; faults = (g.lapses base).faults; short = (g.lapses base).short }
 
 -- The script's steps but the last ones of these were made in order, on a core of the script's daemons, with these answers; then
 -- all made their leaves, and the journal is the one of this run. P tells of the steps that are left and the text of the answers.
-pub record Replays (media : MediaChange) (first : State) (script : List Step) (leave : Leave) (journal : List Entry)
-    (P : List Step → List ℕ → Type 0) : Type 0 where
-  pub front : List Step
-  pub rest : List Step
+pub record Replays (media : MediaChange) (first : State) (script : List ScriptStep) (leave : Leave)
+    (journal : List Entry)
+    (P : List ScriptStep → List ℕ → Type 0) : Type 0 where
+  pub front : List ScriptStep
+  pub rest : List ScriptStep
   pub steps : script ≡ front ++ rest
   pub made : List Made
-  pub follows : Follows [] front made
+  pub follows : FollowsScript [] front made
   pub core : Core
   pub runs : RunsCore media.before.told (first_core (daemons_of script) first) made core
   pub leaving : List Made
@@ -71,13 +72,13 @@ pub record Replays (media : MediaChange) (first : State) (script : List Step) (l
   pub printed : P rest (run_text made)
 
 -- The steps were made, all of them unless memory was wanting, and their answers were printed; the leaves tell whether it was.
-abbrev pub RunsScript : {T : Type 0} → MediaChange → State → List Step → Output → Output → Ran T → Type 0
+abbrev pub RunsScript : {T : Type 0} → MediaChange → State → List ScriptStep → Output → Output → Ran T → Type 0
 RunsScript media first script out out' ran =
     Replays media first script (leave_of ran.starved) ran.journal
     (λ rest text. (ran.starved ≡ false → rest ≡ []) × IsPrinted ran.printing out out' text)
 
 -- A schedule was run on a ground, which was this one before.
-pub record PlaysOut {T : Type 0} (g : Ghosts T) (b : Begins) (script : List Step) (before : T) (out out' : Output) (ran : Ran T) : Type 0 where
+pub record PlaysOut {T : Type 0} (g : Ghosts T) (b : RunStart) (script : List ScriptStep) (before : T) (out out' : Output) (ran : Ran T) : Type 0 where
   -- the answers that were printed and the journal are those of the run of the script
   pub replays : RunsScript (from_to (media_on g before) (media_on g ran.base)) b.first script out out' ran
   -- what a crash leaves is told by the journal

@@ -3,7 +3,7 @@ use Rattle.std.specs.Prelude.{◌≡◌, ◌≤◌, ◌<◌, ℕ, List, Option, 
 use Rattle.sdr_base.specs.Causes.{Rose}
 use Rattle.sdr_base.specs.Media.{Told}
 use Rattle.sdr_base.specs.declared.media.Media.{Ghosts as MediaGhosts}
-use Rattle.sdr_core.specs.CoreKept.{Begins}
+use Rattle.sdr_core.specs.CoreKept.{RunStart}
 use Rattle.sdr_disk.specs.Moments.{AtEach}
 use Rattle.sdr_disk.specs.Told.{IfTold}
 use Rattle.sdr_disk.specs.declared.disk.Disk.{Ghosts as DiskGhosts}
@@ -15,20 +15,20 @@ use Rattle.sdr_lock.specs.Legal.{IsAfter, IsLegal}
 use Rattle.sdr_log.specs.Calls.{KeepsDisk}
 use Rattle.sdr_log.specs.Logged.{GivesSame}
 use Rattle.sdr_model.specs.declared.journal.Entry.{Entry}
-use Rattle.sdr_model.specs.declared.script.Step.{Step}
+use Rattle.sdr_model.specs.declared.script.ScriptStep.{ScriptStep}
 use Rattle.sdr_replay.specs.Handed.{HandedDisk}
 use Rattle.sdr_replay.specs.Playing.{Output, RunsScript}
 use Rattle.sdr_replay.specs.declared.playing.Ran.{Ran}
-use Rattle.sdr_station.specs.Grounded.{Grounded, Opens}
+use Rattle.sdr_station.specs.Grounded.{Grounded, OpensAs}
 use Rattle.sdr_station.specs.Opening.{ExplainsOpen, IsOpen, LeavesBytes, first_on}
 use Rattle.sdr_station.specs.declared.error.OpenError.{OpenError}
 
 -- nothing is pending on a disk that is handed in, or in lines alone that its open batches name
 abbrev pub IsSettled : {D : Type 0} → DiskGhosts D → D → Type 0
-IsSettled d disk = IfTold (d.bytes disk) (λ x. MayBeOpened x (d.may_leave disk (d.moment disk)))
+IsSettled d disk = IfTold (d.bytes disk) (λ x. MayBeOpened x (d.may_hold_after disk (d.moment disk)))
 
 -- a run of the script's daemons begins with the world on the heap that was opened, no later than its disk was handed in
-abbrev pub begins_on : {D M : Type 0} → MediaGhosts M → HandedDisk → List Step → Grounded D M → Begins
+abbrev pub begins_on : {D M : Type 0} → MediaGhosts M → HandedDisk → List ScriptStep → Grounded D M → RunStart
 begins_on m was script g =
     record { told = m.told g.media; daemons = daemons_of script; first = first_on g; start = min was.moment g.moment; faults = was.faults }
 
@@ -44,26 +44,26 @@ pub record LeavesJournal {D : Type 0} (d : DiskGhosts D) (told : Option Told) (d
   pub keeps : KeepsDisk d.size d.bytes old new
   -- at each moment of the call a crash leaves the state after some first entries, and all that are done
   pub any_moment : IfTold (d.bytes old) (λ _.
-      IsCrashSafe d.moment d.may_leave (OpensAfter Opens told daemons first journal) (d.moment old) journal new)
+      IsCrashSafe d.moment d.may_hold_after (OpensAfter OpensAs told daemons first journal) (d.moment old) journal new)
   -- none was done before the call
   pub early : IfTold (d.bytes old) (λ _. (m : ℕ) → m < d.moment old → done_by m journal ≡ 0)
   -- unless the disk failed in an entry, all of them are done by now, nothing is pending, and a crash now leaves the state after all
   pub all : is_sound journal ≡ true → IfTold (d.bytes old) (λ _. (m : ℕ) → d.moment new ≤ m → done_by m journal ≡ length journal)
   pub settled : is_sound journal ≡ true → IsSettled d new
   pub durable : is_sound journal ≡ true → IfTold (d.bytes old) (λ _.
-      (image : List ℕ) → d.may_leave new (d.moment new) image
-      → OpensTo Opens (λ s. IsAfter told daemons first journal (length journal) s) image)
+      (image : List ℕ) → d.may_hold_after new (d.moment new) image
+      → OpensTo OpensAs (λ s. IsAfter told daemons first journal (length journal) s) image)
   -- the disk failed in an entry only where its count of faults rose, and the count has not fallen
   pub later : d.faults old ≤ d.faults new
   pub cause : is_sound journal ≡ false → Rose (d.faults old) (d.faults new)
 
 -- The heap of the disk was opened with these media, and the schedule was run on it.
-pub record ReplaysOn {D M : Type 0} (d : DiskGhosts D) (m : MediaGhosts M) (disk : D) (files : M) (script : List Step) (out out' : Output)
+pub record ReplaysOn {D M : Type 0} (d : DiskGhosts D) (m : MediaGhosts M) (disk : D) (files : M) (script : List ScriptStep) (out out' : Output)
     (ran : Ran (D × M)) : Type 0 where
   -- what was opened
   pub ground : Grounded D M
   pub with_media : ground.media ≡ files
-  pub open_so : IsOpen d.bytes d.moment d.may_leave disk ground
+  pub open_so : IsOpen d.bytes d.moment d.may_hold_after disk ground
   -- the answers that were printed and the journal are those of the run of the script, from the world on it
   pub replays : RunsScript (media_change m.told m.faults m.short files ran.base.1) (first_on ground) script out out' ran
   -- the journal is legal
@@ -82,6 +82,6 @@ pub record IsNotRun {D : Type 0} (d : DiskGhosts D) (disk disk' : D) (cause : Op
   pub keeps : KeepsDisk d.size d.bytes disk disk'
   pub bytes : LeavesBytes (d.bytes disk) (d.bytes disk') cause
   -- at each moment of the call a crash leaves what gives the same heap, or none as before
-  pub any_moment : IfTold (d.bytes disk) (λ x. AtEach d.moment d.may_leave disk disk' (GivesSame x))
+  pub any_moment : IfTold (d.bytes disk) (λ x. AtEach d.moment d.may_hold_after disk disk' (GivesSame x))
   -- no count of faults has fallen
   pub later : d.faults disk ≤ d.faults disk'

@@ -63,7 +63,7 @@ impl<D: Disk, J: HandedIn> Disk for Handed<D, J> {
 
     ghost moment = { λ d. D.moment d };
 
-    ghost may_leave = { λ d m image. D.may_leave d m image };
+    ghost may_hold_after = { λ d m image. D.may_hold_after d m image };
 
     ghost told = { λ d. D.told d };
 

@@ -1,13 +1,13 @@
 // A schedule that runs on a ground.
 ghost use Rattle.std.specs.Prelude.{◌≡◌, ◌≤◌, ◌<◌, ◌^◌, ◌⊎◌, [], false, true, length, vec_capacity};
 ghost use Rattle.std.specs.Prelude.{IfErr, IfOk, OnErr, OnOk};
-ghost use Rattle.sdr_core.specs.CoreKept.{BeginsOn, Makes};
+ghost use Rattle.sdr_core.specs.CoreKept.{BeginsOn, MakesCoreStep};
 ghost use Rattle.sdr_core.specs.Leaving.{LastsOn, RunLeads};
 ghost use Rattle.sdr_dry.specs.Schedule.{daemons_of};
 ghost use Rattle.sdr_lock.specs.Crash.{is_sound};
 ghost use Rattle.sdr_lock.specs.Leaving.{AllLeave};
 ghost use Rattle.sdr_lock.specs.Legal.{is_fault};
-ghost use Rattle.sdr_lock.specs.Standing.{Standing};
+ghost use Rattle.sdr_lock.specs.Standing.{GroundState};
 ghost use Rattle.sdr_replay.specs.Running.{AnswersStep, HasRun, MakesStep, Running};
 ghost use Rattle.sdr_replay.specs.Playing.{IsPrinted, PlaysOut, PrintsMore, bytes_by, leave_of, output};
 ghost use Rattle.sdr_text.specs.Text.{line_text};
@@ -16,7 +16,7 @@ use sdr_base::{NoMemory, Sink};
 use sdr_core::{Core, Origin};
 use sdr_dry::daemons_of;
 use sdr_lock::{Came, Tells};
-use sdr_model::{Answer, Close, Entry, Event, Journal, Leave, Step, What};
+use sdr_model::{Answer, Close, Entry, Event, Journal, Leave, ScriptStep, What};
 use sdr_text::write_answer;
 use sdr_words::Bindings;
 use std::alloc::Global;
@@ -37,7 +37,7 @@ pub struct Ran<T> {
 }
 
 // Prints the line of an answer, unless the output has failed.
-fn print<K: Sink>(out: &mut K, printing: &mut bool, step: &Step, given: &Answer, bytes: &[u8])
+fn print<K: Sink>(out: &mut K, printing: &mut bool, step: &ScriptStep, given: &Answer, bytes: &[u8])
     ensures prints { PrintsMore printing.old printing.new
         (output K.taken K.faults out.old) (output K.taken K.faults out.new)
         (line_text step.now.line step.now.daemon given.now bytes.now) }
@@ -55,7 +55,7 @@ fn print<K: Sink>(out: &mut K, printing: &mut bool, step: &Step, given: &Answer,
 // Makes the event of a step, and prints its answer. Want of memory leaves all as before.
 fn answer<T: Tells, J: Origin, K: Sink>(
     core: &mut Core<T, J>,
-    step: &Step,
+    step: &ScriptStep,
     event: &Event,
     out: &mut K,
     printing: &mut bool,
@@ -63,10 +63,10 @@ fn answer<T: Tells, J: Origin, K: Sink>(
     requires drawn { core.old.lock.roll.drawn < 2 ^ 60 }
     requires lasts { LastsOn T.HasGround core.old.lock.base }
     ensures makes { IfOk result (λ came.
-        Makes T.HasGround step.now.daemon step.now.line event.now came
+        MakesCoreStep T.HasGround step.now.daemon step.now.line event.now came
         core.old.lock core.old.log core.new.lock core.new.log) }
     ensures prints { IfOk result (λ came.
-        (v : Standing) → (came.called ≡ true → T.stands core.new.lock.base v) →
+        (v : GroundState) → (came.called ≡ true → T.stands core.new.lock.base v) →
         PrintsMore printing.old printing.new
         (output K.taken K.faults out.old) (output K.taken K.faults out.new)
         (line_text step.now.line step.now.daemon came.answer (bytes_by came v))) }
@@ -85,7 +85,7 @@ fn make<T: Tells, J: Origin, K: Sink>(
     alloc: Global,
     core: &mut Core<T, J>,
     bindings: &mut Bindings,
-    step: &Step,
+    step: &ScriptStep,
     out: &mut K,
     printing: &mut bool,
 ) -> Result<(), NoMemory>
@@ -113,7 +113,7 @@ fn make<T: Tells, J: Origin, K: Sink>(
 fn play_on<T: Tells, J: Origin, K: Sink>(
     alloc: Global,
     core: &mut Core<T, J>,
-    script: &[Step],
+    script: &[ScriptStep],
     out: &mut K,
     printing: &mut bool,
 ) -> bool
@@ -187,7 +187,7 @@ fn leave_of(starved: bool) -> Leave
 /// given back and nothing is printed.
 pub fn play<T: Tells, J: Origin, K: Sink>(
     alloc: Global,
-    script: &[Step],
+    script: &[ScriptStep],
     base: T,
     out: &mut K,
 ) -> Result<Ran<T>, T>

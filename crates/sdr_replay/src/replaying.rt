@@ -8,7 +8,7 @@ use crate::handed::{Handed, HandedIn};
 use crate::playing::{Ran, play};
 use sdr_base::{Media, Sink};
 use sdr_disk::Disk;
-use sdr_model::Step;
+use sdr_model::ScriptStep;
 use sdr_station::{HeapGround, OpenError, Shut};
 use std::alloc::Global;
 use std::marker::Brand;
@@ -45,7 +45,7 @@ fn with_parts<D: Disk, M: Media, J: HandedIn>(
 // Plays a script on the heap of a disk.
 fn replay_on<D: Disk, M: Media, J: HandedIn, K: Sink>(
     alloc: Global,
-    script: &[Step],
+    script: &[ScriptStep],
     disk: D,
     media: M,
     out: &mut K,
@@ -89,7 +89,7 @@ fn replay_on<D: Disk, M: Media, J: HandedIn, K: Sink>(
 /// the cause comes with the disk and the media: not formatted, damaged, a disk fault, or want of memory.
 pub fn replay<D: Disk, M: Media, K: Sink>(
     alloc: Global,
-    script: &[Step],
+    script: &[ScriptStep],
     disk: D,
     media: M,
     out: &mut K,

@@ -50,7 +50,7 @@ module _ (bytes : List ℕ) (w : World) (P : Pools) (s : StandsForWhole bytes w 
       ∙ ap (λ (k : Kind). thing_of_kind k heap words addr) b.kind_is
 
   -- how many extents of an account's objects name a source of the world
-  count_is : (addr : ℕ) (account : Acct) → count_of w addr account ≡ heaps.count_of heap words account addr
+  count_is : (addr : ℕ) (account : Acct) → count_of w addr account ≡ heaps.named_count heap words account addr
   count_is addr account =
       ap (λ (v : World). count_of v addr account) (sym (world_is bytes w P s are)) ∙ count_same heap words audit addr account
 
@@ -75,7 +75,7 @@ module _ (bytes : List ℕ) (w : World) (P : Pools) (s : StandsForWhole bytes w 
   tells : (addr : ℕ) (source : ZcoSource) → thing_at w addr ≡ Some (things.Source source) → (account : Acct) →
       tells_count heap words account addr ≡ true
   tells addr source is account =
-      eq-eqb (word_of (heap.blocks addr) (count_field account)) (heaps.count_of heap words account addr)
+      eq-eqb (word_of (heap.blocks addr) (count_field account)) (heaps.named_count heap words account addr)
       (count_told addr source is account ∙ count_is addr account)
 
   -- each source tells both counts

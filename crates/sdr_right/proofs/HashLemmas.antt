@@ -24,7 +24,7 @@ use Rattle.sdr_model.specs.declared.things.HashEntry.{HashEntry}
 use Rattle.sdr_model.specs.declared.things.SdrList.{SdrList}
 use Rattle.sdr_model.specs.declared.things.Thing.TheVariants as things
 use Rattle.sdr_owner.proofs.LayoutLemmas.{word_laid}
-use Rattle.sdr_owner.specs.Linking.{StandIn, StandsAt}
+use Rattle.sdr_owner.specs.Linking.{AllStandAt, StandsAt}
 use Rattle.sdr_owner.specs.View.{View, view_in, word_of}
 use Rattle.sdr_read.proofs.BucketLemmas.{map_alike}
 use Rattle.sdr_read.specs.Told.{bucket_told, element_told, entry_told, hash_told, list_told}
@@ -101,8 +101,8 @@ module _ (bytes : List ℕ) (w : World) (P : Pools) (s : StandsForWhole bytes w 
         let count = length-buckets in
         let at = get_or-map-range_with_len (bucket_row hash) 0 hash.buckets k k [] less (omega arith) in
         let here =
-        subst (λ (items : List HashItem). StandIn heap (bucket_entries items)) at
-        (All-get_or (λ items. StandIn heap (bucket_entries items)) buckets k [] (omega (arith, count, less)) each) in
+        subst (λ (items : List HashItem). AllStandAt heap (bucket_entries items)) at
+        (All-get_or (λ items. AllStandAt heap (bucket_entries items)) buckets k [] (omega (arith, count, less)) each) in
         ap (map (entry_told heap)) (bucket_members bytes w P s addr hash is k less)
         ∙ told_rows heap item_addr item_block item_row (entry_told heap) FitsEntry (entry_back heap) 0 0 mine
         (All-filter (λ (e : HashEntry). bucket_of hash.buckets e.key == k) FitsEntry hash.entries fits) here

@@ -23,13 +23,12 @@ use Rattle.sdr_audit.specs.Standing.{StandsForWhole}
 use Rattle.sdr_keys.proofs.KeyedLemmas.{from_distinct}
 use Rattle.sdr_keys.proofs.MembersLemmas.{length-followed}
 use Rattle.sdr_keys.specs.Entries.{bucket, bucket_count, buckets, entry_count, fits_bucket, keeps_bucket, keeps_entries, keeps_length}
-use Rattle.sdr_keys.specs.Keyed.{IsKeyed, catalogue, keeps}
+use Rattle.sdr_keys.specs.Keyed.{IsKeyed, catalogue, keeps_key_rule}
 use Rattle.sdr_keys.specs.Members.{members}
-use Rattle.sdr_keys.specs.Texts as keys
 use Rattle.sdr_keys.specs.Texts.{first_repeated, text_at}
-use Rattle.sdr_keys.specs.declared.rules.Rule.{Rule}
-use Rattle.sdr_keys.specs.declared.rules.Rule.TheVariants as which
-use Rattle.sdr_keys.specs.declared.texts.Text.TheVariants as texts
+use Rattle.sdr_keys.specs.declared.rules.KeyRule.{KeyRule}
+use Rattle.sdr_keys.specs.declared.rules.KeyRule.TheVariants as which
+use Rattle.sdr_keys.specs.declared.texts.EntryText.TheVariants as texts
 use Rattle.sdr_model.proofs.SumLemmas.{sum_by-map}
 use Rattle.sdr_model.specs.Fields.{FitsEntry}
 use Rattle.sdr_model.specs.HashSteps.{bucket_of}
@@ -59,7 +58,7 @@ use Rattle.sdr_right.proofs.ToldLemmas.{names_are}
 use Rattle.sdr_world.proofs.KeptLemmas.{All-unmap}
 use Rattle.sdr_world.proofs.StandLemmas.{All-every}
 
-same_bytes : (o : Option Block) → keys.bytes_of o ≡ bytes_of o
+same_bytes : (o : Option Block) → bytes_of o ≡ bytes_of o
 same_bytes None = refl
 same_bytes (Some block) = refl
 
@@ -115,7 +114,7 @@ module _ (bytes : List ℕ) (w : World) (P : Pools) (s : StandsForWhole bytes w 
 
   -- an owner has no more blocks than there are words, of which there are few
   few_members : (owner : Owner) → length (members heap words owner) ≤ words
-  few_members owner = length-followed heap owner words (chains.first_of heap owner)
+  few_members owner = length-followed heap owner words (chains.first_link heap owner)
 
   few_words : words < 2 ^ 30
   few_words =
@@ -216,7 +215,7 @@ module _ (bytes : List ℕ) (w : World) (P : Pools) (s : StandsForWhole bytes w 
       entries_kept addr hash there (fits_thing bytes w P s addr (things.Hash hash) there).1
       (valid_thing bytes w P s addr (things.Hash hash) there))
 
-  rules_kept : (rule : Rule) (addr : ℕ) → keeps heap words rule addr ≡ true
+  rules_kept : (rule : KeyRule) (addr : ℕ) → keeps_key_rule heap words rule addr ≡ true
   rules_kept which.Length addr = lengths_told addr
   rules_kept which.Entries addr = hashes_kept addr
 

@@ -31,7 +31,7 @@ use Rattle.sdr_model.specs.declared.zco.ZcoObject.{ZcoObject}
 use Rattle.sdr_model.specs.declared.zco.ZcoSource.{ZcoSource}
 use Rattle.sdr_owner.proofs.LayoutLemmas.{word_laid}
 use Rattle.sdr_owner.specs.Chains as chains
-use Rattle.sdr_owner.specs.Linking.{StandIn, StandsAt}
+use Rattle.sdr_owner.specs.Linking.{AllStandAt, StandsAt}
 use Rattle.sdr_owner.specs.Reading.{behind_words}
 use Rattle.sdr_owner.specs.View.{View, view_in, word_of}
 use Rattle.sdr_owner.specs.declared.owner.Owner.TheVariants as owners
@@ -110,7 +110,7 @@ module _ (bytes : List ℕ) (w : World) (P : Pools) (s : StandsForWhole bytes w 
         let flag = ap (λ (n : ℕ). n == 1) (source_word 1 (omega arith) (flag_small source.flagged)) ∙ flag_told source.flagged in
         λ i. record { subject = subject i; length = count i; flagged = flag i }
 
-  capsules_are : (cs : List Capsule) → StandIn heap (capsule_entries (map capsule_row cs)) →
+  capsules_are : (cs : List Capsule) → AllStandAt heap (capsule_entries (map capsule_row cs)) →
       map (capsule_told heap) (map capsule_addr (map capsule_row cs)) ≡ cs
   capsules_are cs stand =
       told_rows heap capsule_addr capsule_block capsule_row (capsule_told heap) (λ c. Unit {0})
@@ -132,7 +132,7 @@ module _ (bytes : List ℕ) (w : World) (P : Pools) (s : StandsForWhole bytes w 
     extents_few =
         let inside : AreInside w (things.Object z) = subst (λ (o : Option Thing). IfSome o (AreInside w)) is (s.whole.fits.inside addr) in
         let sum = sum_by-le (λ (e : Extent). e.length) (2 ^ 40) z.extents (each z.extents inside) in
-        let count = length-followed heap (owners.Extents addr) words (chains.first_of heap (owners.Extents addr)) in
+        let count = length-followed heap (owners.Extents addr) words (chains.first_link heap (owners.Extents addr)) in
         let many =
         ap (λ (l : List ℕ). length l) (extent_members bytes w P s addr z is) ∙ length-map (map extent_row z.extents) extent_addr
         ∙ length-map z.extents extent_row in
@@ -161,10 +161,10 @@ module _ (bytes : List ℕ) (w : World) (P : Pools) (s : StandsForWhole bytes w 
         ap (λ (b : Option Block). word_of b n) (own_stands heap w s.stands.blocks addr (things.Object z) is)
         ∙ word_laid kinds.Object object_words [] n less small
 
-    inside_stand : StandIn heap (inner_entries addr (things.Object z))
+    inside_stand : AllStandAt heap (inner_entries addr (things.Object z))
     inside_stand = inner_stand heap w s.stands.blocks addr (things.Object z) is
 
-    two_stand : StandIn heap (capsule_entries headers ++ extent_entries extents)
+    two_stand : AllStandAt heap (capsule_entries headers ++ extent_entries extents)
     two_stand = All-left (StandsAt heap) (capsule_entries headers ++ extent_entries extents) (capsule_entries trailers) inside_stand
 
     pub object_is : IsValidThing (things.Object z) → All FitsExtent z.extents → object_told heap words addr ≡ z

@@ -44,6 +44,6 @@ module _ (bytes : List ℕ) (w : World) (P : Pools) (s : StandsForWhole bytes w 
   -- they are what is occupied in the heap
   pub occupancies_told : AreBytes bytes → (account : Acct) (space : Space) → tells_occupancy heap words account space ≡ true
   occupancies_told are account space =
-      eq-eqb (heap.roots (occupancy_word account space)) (heaps.occupancy heap words account space)
+      eq-eqb (heap.roots (occupancy_word account space)) (heaps.occupancy_in heap words account space)
       (word_is account space ∙ ap (λ (v : World). occupancy v account space) (sym (world_is bytes w P s are))
       ∙ occupancy_same heap words (heap_audited bytes w P s are) account space)

@@ -10,7 +10,7 @@ use Rattle.sdr_base.specs.declared.account.Acct.{Acct}
 use Rattle.sdr_base.specs.declared.account.Acct.TheVariants as accts
 use Rattle.sdr_base.specs.declared.account.Amounts.{Amounts}
 use Rattle.sdr_audit.specs.Standing.{StandsForWhole}
-use Rattle.sdr_count.specs.Queues.{AreLawfulIn, IsQueue, is_left_rightly, numbers_of, room, tickets}
+use Rattle.sdr_count.specs.Queues.{AreLawfulIn, IsQueue, is_left_rightly, ticket_numbers, room, tickets}
 use Rattle.sdr_model.specs.Accounts.{account_of, tickets_of}
 use Rattle.sdr_model.specs.Amounts.{are_within, is_nothing, minus}
 use Rattle.sdr_model.specs.Charges.{rooms}
@@ -49,13 +49,13 @@ module _ (bytes : List ℕ) (w : World) (P : Pools) (s : StandsForWhole bytes w 
   room_is : (account : Acct) → room heap account ≡ rooms w account
   room_is account = λ i. minus (maxima_are bytes w P s account i) (occupied_are bytes w P s account i)
 
-  queue_is : (account : Acct) → All (λ n. n < w.accounts.next) (numbers_of (tickets_of w.accounts account)) →
+  queue_is : (account : Acct) → All (λ n. n < w.accounts.next) (ticket_numbers (tickets_of w.accounts account)) →
       IsValidAccount (account_of w.accounts account) →
       IsQueue heap account (tickets heap words account)
   queue_is account below valid =
       subst (IsQueue heap account) (sym (tickets_are bytes w P s account))
       (record {
-        below = subst (λ (next : ℕ). All (λ n. n < next) (numbers_of (tickets_of w.accounts account))) (sym (next_is bytes w P s)) below;
+        below = subst (λ (next : ℕ). All (λ n. n < next) (ticket_numbers (tickets_of w.accounts account))) (sym (next_is bytes w P s)) below;
         order = valid.order;
         left = All-weaker IsValidTicket (λ t. is_left_rightly t ≡ true) left_rightly (tickets_of w.accounts account) valid.tickets;
         barred =
@@ -64,13 +64,13 @@ module _ (bytes : List ℕ) (w : World) (P : Pools) (s : StandsForWhole bytes w 
             (s.whole.barred account);
       })
 
-  parts : map (λ (t : Ticket). t.number) (inbound ++ outbound) ≡ numbers_of inbound ++ numbers_of outbound
+  parts : map (λ (t : Ticket). t.number) (inbound ++ outbound) ≡ ticket_numbers inbound ++ ticket_numbers outbound
   parts = map-append (λ (t : Ticket). t.number) inbound outbound
 
-  below : All (λ n. n < w.accounts.next) (numbers_of inbound ++ numbers_of outbound)
+  below : All (λ n. n < w.accounts.next) (ticket_numbers inbound ++ ticket_numbers outbound)
   below = subst (All (λ n. n < w.accounts.next)) parts s.whole.queues.below
 
-  distinct : IsDistinct nat_eq (numbers_of inbound ++ numbers_of outbound)
+  distinct : IsDistinct nat_eq (ticket_numbers inbound ++ ticket_numbers outbound)
   distinct = subst (IsDistinct nat_eq) parts s.whole.queues.distinct
 
   -- both queues keep their law
@@ -81,17 +81,18 @@ module _ (bytes : List ℕ) (w : World) (P : Pools) (s : StandsForWhole bytes w 
       record {
         inbound = record {
           distinct =
-              subst (λ (ts : List Ticket). IsDistinct nat_eq (numbers_of ts)) (sym in_same)
-              (distinct_left nat_eq (numbers_of inbound) (numbers_of outbound) distinct);
+              subst (λ (ts : List Ticket). IsDistinct nat_eq (ticket_numbers ts)) (sym in_same)
+              (distinct_left nat_eq (ticket_numbers inbound) (ticket_numbers outbound) distinct);
           queue =
               queue_is accts.Inbound
-              (All-left (λ n. n < w.accounts.next) (numbers_of inbound) (numbers_of outbound) below) s.whole.queues.inbound;
+              (All-left (λ n. n < w.accounts.next) (ticket_numbers inbound) (ticket_numbers outbound) below) s.whole.queues.inbound;
         };
         outbound = record {
           distinct =
-              subst (IsDistinct nat_eq) (λ i. numbers_of (sym in_same i) ++ numbers_of (sym out_same i)) distinct;
+              subst (IsDistinct nat_eq) (λ i. ticket_numbers (sym in_same i) ++ ticket_numbers (sym out_same i))
+                  distinct;
           queue =
               queue_is accts.Outbound
-              (All-right (λ n. n < w.accounts.next) (numbers_of inbound) (numbers_of outbound) below) s.whole.queues.outbound;
+              (All-right (λ n. n < w.accounts.next) (ticket_numbers inbound) (ticket_numbers outbound) below) s.whole.queues.outbound;
         };
       }

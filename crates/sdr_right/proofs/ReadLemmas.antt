@@ -17,7 +17,7 @@ use Rattle.sdr_base.specs.declared.account.Acct.{Acct}
 use Rattle.sdr_base.specs.declared.kind.Kind.{Kind}
 use Rattle.sdr_base.specs.declared.kind.Kind.TheVariants as kinds
 use Rattle.sdr_audit.specs.Rows.{capsule_row, element_row, extent_row, item_row, name_row}
-use Rattle.sdr_count.specs.Queues.{ticket_at}
+use Rattle.sdr_count.specs.Queues.{ticket_in}
 use Rattle.sdr_model.specs.Fields.{FitsElement, FitsEntry, FitsExtent, FitsName, IsWord}
 use Rattle.sdr_model.specs.TicketRows.{ticket_row}
 use Rattle.sdr_model.specs.declared.accounts.Ticket.{Ticket}
@@ -27,7 +27,7 @@ use Rattle.sdr_model.specs.declared.things.HashEntry.{HashEntry}
 use Rattle.sdr_model.specs.declared.zco.Capsule.{Capsule}
 use Rattle.sdr_model.specs.declared.zco.Extent.{Extent}
 use Rattle.sdr_owner.proofs.LayoutLemmas.{word_laid}
-use Rattle.sdr_owner.specs.Linking.{StandIn, StandsAt}
+use Rattle.sdr_owner.specs.Linking.{AllStandAt, StandsAt}
 use Rattle.sdr_owner.specs.Reading.{behind_words, name_in}
 use Rattle.sdr_owner.specs.View.{View, word_of}
 use Rattle.sdr_read.specs.Told.{capsule_told, element_told, entry_told, extent_told, name_told}
@@ -42,7 +42,7 @@ behind_laid kind words rest n is =
 -- Where what is told of the block of each row is the row, what is told of a chain's blocks is its rows.
 module _ (heap : View) {X Y : Type 0} (addr : X → ℕ) (block : ℕ → ℕ → X → Block) (row : Y → X) (told : ℕ → Y) (R : Y → Type 0)
     (each : (before next : ℕ) (y : Y) → R y → heap.blocks (addr (row y)) ≡ Some (block before next (row y)) → told (addr (row y)) ≡ y) where
-  pub told_rows : (before next : ℕ) (ys : List Y) → All R ys → StandIn heap (linked addr block before next (map row ys)) →
+  pub told_rows : (before next : ℕ) (ys : List Y) → All R ys → AllStandAt heap (linked addr block before next (map row ys)) →
       map told (map addr (map row ys)) ≡ ys
   unfolding linked
   told_rows before next [] fits stand = refl
@@ -129,7 +129,7 @@ module _ (heap : View) where
 
   pub ticket_back : (account : Acct) (before next : ℕ) (t : Ticket) → FitsWords t →
       heap.blocks t.block ≡ Some (ticket_block account before next (ticket_row t)) →
-      ticket_at heap t.block ≡ t
+      ticket_in heap t.block ≡ t
   ticket_back account before next t fits is = λ i. record {
     block = t.block;
     number = word 0 (omega arith) fits.number i;

@@ -10,13 +10,13 @@ use Rattle.sdr_base.specs.declared.account.Acct.TheVariants as accts
 use Rattle.sdr_base.specs.declared.kind.Kind.TheVariants as kinds
 use Rattle.sdr_audit.specs.Standing.{StandsForWhole}
 use Rattle.sdr_audit.specs.Ties.{ties_of}
-use Rattle.sdr_count.specs.Rules.{covers_part, extent_length, has_raw_length, has_taken, is_flagged, is_unflagged, is_used, keeps}
-use Rattle.sdr_count.specs.declared.rules.Rule.{Rule}
-use Rattle.sdr_count.specs.declared.rules.Rule.TheVariants as which
+use Rattle.sdr_count.specs.Rules.{covers_part, extent_length, has_raw_length, has_taken, is_flagged, is_unflagged, has_extent_if_passing, keeps_count_rule}
+use Rattle.sdr_count.specs.declared.rules.CountRule.{CountRule}
+use Rattle.sdr_count.specs.declared.rules.CountRule.TheVariants as which
 use Rattle.sdr_keys.specs.Members.{members}
 use Rattle.sdr_model.proofs.SumLemmas.{sum_by-map}
 use Rattle.sdr_model.specs.Gone.{is_passing}
-use Rattle.sdr_model.specs.Valid.{HasBytes, HasSubject, IsUsed}
+use Rattle.sdr_model.specs.Valid.{HasBytes, HasSubject, HasExtentIfPassing}
 use Rattle.sdr_model.specs.World.{World, as_raw, thing_at}
 use Rattle.sdr_model.specs.Zco.{as_source, owned_raw, taken_over}
 use Rattle.sdr_model.specs.declared.things.Thing.{Thing}
@@ -25,7 +25,7 @@ use Rattle.sdr_model.specs.declared.zco.Extent.{Extent}
 use Rattle.sdr_model.specs.declared.zco.ZcoSource.{ZcoSource}
 use Rattle.sdr_owner.specs.Owned.{AreBytes}
 use Rattle.sdr_owner.specs.Reading.{behind_words}
-use Rattle.sdr_owner.specs.Rules.{names_raw}
+use Rattle.sdr_owner.specs.Rules.{is_source_of_raw}
 use Rattle.sdr_owner.specs.View.{View, is_kind, length_of, view_in, word_of}
 use Rattle.sdr_owner.specs.declared.owner.Owner.TheVariants as owners
 use Rattle.sdr_read.proofs.SourceLemmas.{subject_by}
@@ -85,7 +85,7 @@ module _ (bytes : List ℕ) (w : World) (P : Pools) (s : StandsForWhole bytes w 
   -- a source of a raw object has its length
   raw_lengths : (addr : ℕ) → has_raw_length heap addr ≡ true
   raw_lengths addr =
-      where_so (names_raw (heap.blocks addr)) _ (λ on.
+      where_so (is_source_of_raw (heap.blocks addr)) _ (λ on.
       let p =
       and_parts (is_kind kinds.Source (heap.blocks addr)) (word_of (heap.blocks addr) 0 == 3 || word_of (heap.blocks addr) 0 == 4) on in
       let there = source_there addr p.0 in
@@ -148,14 +148,14 @@ module _ (bytes : List ℕ) (w : World) (P : Pools) (s : StandsForWhole bytes w 
   ]
 
   -- and has one
-  sources_used : (addr : ℕ) → is_used heap addr ≡ true
+  sources_used : (addr : ℕ) → has_extent_if_passing heap addr ≡ true
   sources_used addr =
       or_assoc (not (is_flagged heap addr || has_taken heap addr)) (not (word_of (heap.blocks addr) 2 == 0))
       (not (word_of (heap.blocks addr) 3 == 0))
       ∙ where_so (is_flagged heap addr || has_taken heap addr) _ (λ on.
       let p = passing addr on in
       let there = source_there addr p.kind in
-      let used = subst (λ (o : Option Thing). IfSome (as_source o) (IsUsed w addr)) there (s.whole.fits.used addr) p.passing in
+      let used = subst (λ (o : Option Thing). IfSome (as_source o) (HasExtentIfPassing w addr)) there (s.whole.fits.used addr) p.passing in
       let inbound = count_told bytes w P s are addr (source addr) there accts.Inbound in
       let outbound = count_told bytes w P s are addr (source addr) there accts.Outbound in
       one_some (word_of (heap.blocks addr) 2) (word_of (heap.blocks addr) 3) (omega (arith, used, inbound, outbound)))
@@ -174,7 +174,7 @@ module _ (bytes : List ℕ) (w : World) (P : Pools) (s : StandsForWhole bytes w 
       ∙ never_both (is_kind kinds.Source (heap.blocks addr)))
 
   -- each block keeps each rule
-  pub rules_kept : (rule : Rule) (addr : ℕ) → keeps heap words rule addr ≡ true
+  pub rules_kept : (rule : CountRule) (addr : ℕ) → keeps_count_rule heap words rule addr ≡ true
   rules_kept which.RawLength addr = raw_lengths addr
   rules_kept which.Inside addr = all_inside bytes w P s addr
   rules_kept which.Part addr = parts_covered addr

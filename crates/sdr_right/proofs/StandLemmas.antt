@@ -3,7 +3,7 @@ use Rattle.std.proofs.Common.{◌≡◌, ℕ, [], ◌∷◌, ◌++◌, map, leng
 use Rattle.std.specs.List.{flat_map}
 use Rattle.std.proofs.lemmas.List.Elements.{All-head, All-tail}
 use Rattle.sdr_base.specs.Blocks.{Block}
-use Rattle.sdr_base.specs.Entries.{Entries, Stands}
+use Rattle.sdr_base.specs.Entries.{Entries, BlocksAre}
 use Rattle.sdr_base.specs.Hashes.{bucket_entries, hash_block}
 use Rattle.sdr_base.specs.Linked.{first_of, last_of}
 use Rattle.sdr_base.specs.Lists.{addr_of, elements_between, list_block}
@@ -19,7 +19,7 @@ use Rattle.sdr_audit.specs.Ties.{Ties, ties_of}
 use Rattle.sdr_model.specs.World.{World, thing_at}
 use Rattle.sdr_model.specs.declared.things.Thing.{Thing}
 use Rattle.sdr_model.specs.declared.things.Thing.TheVariants as things
-use Rattle.sdr_owner.specs.Linking.{StandIn, StandsAt}
+use Rattle.sdr_owner.specs.Linking.{AllStandAt, StandsAt}
 use Rattle.sdr_owner.specs.View.{View}
 use Rattle.sdr_world.proofs.StandLemmas.{thing_stands}
 
@@ -54,13 +54,13 @@ parts ties addr (things.Hash hash) = refl
 parts ties addr (things.Source source) = refl
 parts ties addr (things.Object z) = refl
 
-module _ (heap : View) (w : World) (stands : Stands heap.blocks (entries_of w)) (addr : ℕ) (thing : Thing)
+module _ (heap : View) (w : World) (stands : BlocksAre heap.blocks (entries_of w)) (addr : ℕ) (thing : Thing)
     (is : thing_at w addr ≡ Some thing) where
-  all_stand : StandIn heap ((addr, own_block (ties_of w) addr thing) ∷ inner_entries addr thing)
-  all_stand = subst (StandIn heap) (parts (ties_of w) addr thing) (thing_stands heap w stands addr thing is)
+  all_stand : AllStandAt heap ((addr, own_block (ties_of w) addr thing) ∷ inner_entries addr thing)
+  all_stand = subst (AllStandAt heap) (parts (ties_of w) addr thing) (thing_stands heap w stands addr thing is)
 
   pub own_stands : heap.blocks addr ≡ Some (own_block (ties_of w) addr thing)
   own_stands = (All-head (StandsAt heap) (addr, own_block (ties_of w) addr thing) (inner_entries addr thing) all_stand).is
 
-  pub inner_stand : StandIn heap (inner_entries addr thing)
+  pub inner_stand : AllStandAt heap (inner_entries addr thing)
   inner_stand = All-tail (StandsAt heap) (addr, own_block (ties_of w) addr thing) (inner_entries addr thing) all_stand

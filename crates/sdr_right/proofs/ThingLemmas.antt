@@ -7,7 +7,7 @@ use Rattle.sdr_base.specs.Blocks as base
 use Rattle.sdr_base.specs.Pools.{Pools}
 use Rattle.sdr_base.specs.declared.kind.Kind.{Kind}
 use Rattle.sdr_base.specs.declared.kind.Kind.TheVariants as kinds
-use Rattle.sdr_audit.specs.Shape.{told_of}
+use Rattle.sdr_audit.specs.Shape.{shape_of}
 use Rattle.sdr_audit.specs.Standing.{StandsForWhole}
 use Rattle.sdr_audit.specs.Ties.{ties_of}
 use Rattle.sdr_model.specs.Fields.{FitsThing, IsWord}
@@ -15,7 +15,7 @@ use Rattle.sdr_model.specs.Tables.{Table}
 use Rattle.sdr_model.specs.Things as model
 use Rattle.sdr_model.specs.Valid.{IsValidTable, IsValidThing}
 use Rattle.sdr_model.specs.World.{World, thing_at}
-use Rattle.sdr_model.specs.declared.things.Block.{Block}
+use Rattle.sdr_model.specs.declared.things.UsedBlock.{UsedBlock}
 use Rattle.sdr_model.specs.declared.things.Thing.{Thing}
 use Rattle.sdr_model.specs.declared.things.Thing.TheVariants as things
 use Rattle.sdr_owner.proofs.LayoutLemmas.{word_laid}
@@ -45,7 +45,7 @@ inner_none kinds.Capsule heap words addr inner = refl
 inner_none kinds.Ticket heap words addr inner = refl
 
 -- nor of a block that is told as a loose one
-loose_none : (heap : View) (words addr : ℕ) (o : Option base.Block) (loose : Option Block) → base.kind_length o ≡ told_of loose →
+loose_none : (heap : View) (words addr : ℕ) (o : Option base.Block) (loose : Option UsedBlock) → base.kind_length o ≡ shape_of loose →
     IsLoose loose →
     thing_by o heap words addr ≡ None
 loose_none heap words addr None loose same is = refl
@@ -124,7 +124,7 @@ module _ (bytes : List ℕ) (w : World) (P : Pools) (s : StandsForWhole bytes w 
       by None is =
           loose_none heap words addr (heap.blocks addr) (loose_at w addr)
           (block_told heap w s.stands.blocks s.whole.valid addr
-          ∙ ap (λ (o : Option Thing). told_of (option_or (option_map (model.own_block addr) o) (loose_at w addr))) is)
+          ∙ ap (λ (o : Option Thing). shape_of (option_or (option_map (model.own_block addr) o) (loose_at w addr))) is)
           (others_loose w addr)
           ∙ sym is
       by (Some thing) is =

@@ -15,7 +15,7 @@ use Rattle.sdr_base.specs.declared.account.Acct.TheVariants as accts
 use Rattle.sdr_base.specs.declared.control.TheConstants.{FILE_MAXIMUM, NEXT_TICKET}
 use Rattle.sdr_audit.specs.Rows.{name_row}
 use Rattle.sdr_audit.specs.Standing.{StandsForWhole, queue_entries}
-use Rattle.sdr_count.specs.Queues.{amounts_in, ticket_at, tickets}
+use Rattle.sdr_count.specs.Queues.{amounts_in, ticket_in, tickets}
 use Rattle.sdr_keys.specs.Members.{members}
 use Rattle.sdr_model.specs.Accounts.{account_of, most_amount, tickets_of}
 use Rattle.sdr_model.specs.Fields.{FitsName, FitsTicket}
@@ -23,7 +23,7 @@ use Rattle.sdr_model.specs.TicketRows.{ticket_row}
 use Rattle.sdr_model.specs.Valid.{IsValidTicket}
 use Rattle.sdr_model.specs.World.{World}
 use Rattle.sdr_model.specs.declared.accounts.Ticket.{Ticket}
-use Rattle.sdr_owner.specs.Linking.{StandIn, StandsAt}
+use Rattle.sdr_owner.specs.Linking.{AllStandAt, StandsAt}
 use Rattle.sdr_owner.specs.Owned.{AreBytes}
 use Rattle.sdr_owner.specs.View.{View, view_in}
 use Rattle.sdr_owner.specs.declared.owner.Owner.TheVariants as owners
@@ -102,15 +102,15 @@ module _ (bytes : List ℕ) (w : World) (P : Pools) (s : StandsForWhole bytes w 
       (All-tail (λ (t : Ticket). t.number < w.accounts.next) t ts below))
 
   -- the tickets that are told
-  queue_are : (account : Acct) → All FitsWords (tickets_of w.accounts account) → StandIn heap (queue_entries w.accounts account) →
+  queue_are : (account : Acct) → All FitsWords (tickets_of w.accounts account) → AllStandAt heap (queue_entries w.accounts account) →
       tickets heap words account ≡ tickets_of w.accounts account
   queue_are account fits stand =
-      ap (map (ticket_at heap)) (ticket_members bytes w P s account)
-      ∙ told_rows heap ticket_addr (ticket_block account) ticket_row (ticket_at heap) FitsWords (ticket_back heap account) 0 0
+      ap (map (ticket_in heap)) (ticket_members bytes w P s account)
+      ∙ told_rows heap ticket_addr (ticket_block account) ticket_row (ticket_in heap) FitsWords (ticket_back heap account) 0 0
       (tickets_of w.accounts account) fits
       stand
 
-  queues_stand : StandIn heap (queue_entries w.accounts accts.Inbound ++ queue_entries w.accounts accts.Outbound)
+  queues_stand : AllStandAt heap (queue_entries w.accounts accts.Inbound ++ queue_entries w.accounts accts.Outbound)
   queues_stand =
       All-right (StandsAt heap) (catalogue_entries (map name_row w.names))
       (queue_entries w.accounts accts.Inbound ++ queue_entries w.accounts accts.Outbound)

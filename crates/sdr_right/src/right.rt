@@ -2,8 +2,8 @@
 ghost use Rattle.std.specs.Prelude.{List, ℕ};
 ghost use Rattle.sdr_audit.specs.Standing.{StandsForWhole};
 ghost use Rattle.sdr_base.specs.Pools.{Pools};
-ghost use Rattle.sdr_count.specs.Checked.{IsRightRegion, IsWrongFirst};
-ghost use Rattle.sdr_count.specs.declared.error.Why.{Why};
+ghost use Rattle.sdr_count.specs.Checked.{IsRightRegion, CountsAreWrongFirst};
+ghost use Rattle.sdr_count.specs.declared.error.ThingCheck.{ThingCheck};
 ghost use Rattle.sdr_model.specs.World.{World};
 ghost use Rattle.sdr_owner.specs.Owned.{AreBytes};
 
@@ -13,5 +13,5 @@ pub fn worlds_are_right()
     ensures right { (bytes : List ℕ) (w : World) (P : Pools) →
         StandsForWhole bytes w P → AreBytes bytes → IsRightRegion bytes }
     ensures not_wrong { (bytes : List ℕ) (w : World) (P : Pools) (why : Why) (place : ℕ) →
-        StandsForWhole bytes w P → AreBytes bytes → IsWrongFirst bytes why place → ⊥ }
+        StandsForWhole bytes w P → AreBytes bytes → CountsAreWrongFirst bytes why place → ⊥ }
 {}

@@ -15,9 +15,9 @@ use Rattle.sdr_model.specs.declared.event.Event.TheVariants as events
 use Rattle.sdr_model.specs.declared.journal.Said.{Said}
 use Rattle.sdr_model.specs.declared.journal.What.{What}
 use Rattle.sdr_model.specs.declared.journal.What.TheVariants as whats
-use Rattle.sdr_lock.specs.Core.{Core, Under, Work, closed_by, entry_of, has_left, said_by, under, what_else, with_said}
+use Rattle.sdr_lock.specs.Core.{Core, Under, Work, closed_by, entry_of, has_left, said_by, under, what_added, with_said}
 use Rattle.sdr_lock.specs.Ground.{State}
-use Rattle.sdr_lock.specs.Legal.{MayStand, is_fault, is_leave}
+use Rattle.sdr_lock.specs.Legal.{MayFollow, is_fault, is_leave}
 use Rattle.sdr_lock.specs.Machine.{Machine, Made, with_roll}
 use Rattle.sdr_lock.specs.Nesting.{closing, nested}
 use Rattle.sdr_lock.specs.Closing.{close_of}
@@ -44,7 +44,7 @@ pub suspended_passes : (event : Event) (serving mine : ℕ) → passes event (re
 suspended_passes events.Request serving mine = refl
 suspended_passes event serving mine = refl
 
-pub refused_adds_none : (u : Under) (event : Event) (refusal : Refusal) → u.left ≡ false → what_else u event (refused refusal) ≡ None
+pub refused_adds_none : (u : Under) (event : Event) (refusal : Refusal) → u.left ≡ false → what_added u event (refused refusal) ≡ None
 refused_adds_none u (events.Leaves leave) refusal stays = ap (λ b. if b then Some (whats.Leaves leave) else None) stays
 refused_adds_none u (events.Look ticket) refusal stays = refl
 refused_adds_none u event refusal stays = refl
@@ -101,7 +101,7 @@ module _ {told : Option Told} {daemons : List ℕ} {first : State} {c : Core} {e
 
   -- the machine stays
   pub unchanged : {event : Event} {answer : Answer} → e.said.event ≡ event → e.said.answer ≡ answer → passes event answer ≡ true → closed_by answer ≡ None
-      → ((u : Under) → u.left ≡ false → what_else u event answer ≡ None) → StepKeeps told daemons first c e c.machine
+      → ((u : Under) → u.left ≡ false → what_added u event answer ≡ None) → StepKeeps told daemons first c e c.machine
   unchanged {event = event} {answer = answer} is told_so outside unclosed adds =
       adds_none p found c.machine c.log.works (next_outside p found is told_so outside)
       (what_unclosed p found is told_so c.machine unclosed
@@ -138,7 +138,7 @@ module _ {told : Option Told} {daemons : List ℕ} {first : State} {c : Core} {e
 
   -- it draws a number, and its event stands in no transaction
   pub draws : {event : Event} {answer : Answer} → e.said.event ≡ event → e.said.answer ≡ answer → passes event answer ≡ true → closed_by answer ≡ None
-      → ((u : Under) → u.left ≡ false → what_else u event answer ≡ None) → d.holds ≡ None
+      → ((u : Under) → u.left ≡ false → what_added u event answer ≡ None) → d.holds ≡ None
       → StepKeeps told daemons first c e (with_roll c.machine (with_number c.machine.roll d 0))
   draws {event = event} {answer = answer} is told_so outside unclosed adds none =
       adds_none p found (with_roll c.machine (with_number c.machine.roll d 0)) c.log.works (next_outside p found is told_so outside)
@@ -196,7 +196,7 @@ module _ {told : Option Told} {daemons : List ℕ} {first : State} {c : Core} {e
 
   -- it is done with its number, and no entry is added
   pub done_none : {event : Event} {answer : Answer} {drawn : ℕ} (waits : Option ℕ) → e.said.event ≡ event → e.said.answer ≡ answer → passes event answer ≡ true → closed_by answer ≡ None
-      → ((u : Under) → u.left ≡ false → u.waited ≡ (under c.machine.roll d c.machine.roll event).waited → what_else u event answer ≡ None)
+      → ((u : Under) → u.left ≡ false → u.waited ≡ (under c.machine.roll d c.machine.roll event).waited → what_added u event answer ≡ None)
       → IsTurn c.log.journal c.machine.roll d drawn → (c.machine.roll.failed ≡ None → IsIdle told c.machine c.log.works d) → waits ≡ d.waits
       → StepKeeps told daemons first c e (with_done c.machine d d.left waits drawn)
   done_none {event = event} {answer = answer} {drawn = drawn} waits is told_so outside unclosed adds turn idle same =
@@ -212,10 +212,11 @@ module _ {told : Option Told} {daemons : List ℕ} {first : State} {c : Core} {e
   -- it is done with its number, and an entry is added that leaves the state
   pub done_some : {event : Event} {answer : Answer} {drawn : ℕ} (left : Bool) (waits : Option ℕ) (what : What) → e.said.event ≡ event → e.said.answer ≡ answer → passes event answer ≡ true
       → closed_by answer ≡ None
-      → what_else (under c.machine.roll d (with_done c.machine d left waits drawn).roll event) event answer ≡ Some what
+      → what_added (under c.machine.roll d (with_done c.machine d left waits drawn).roll event) event answer ≡ Some what
       → IsTurn c.log.journal c.machine.roll d drawn → (c.machine.roll.failed ≡ None → IsIdle told c.machine c.log.works d)
       → AgreesWithLast (Some (entry_of (number_of c.machine.roll d) e what)) (done_with d left waits)
-      → MayStand told daemons c.log.journal c.machine.before (number_of c.machine.roll d) e.daemon what c.machine.before
+      → MayFollow told daemons c.log.journal c.machine.before (number_of c.machine.roll d) e.daemon what
+          c.machine.before
       → (c.machine.roll.failed ≡ None) ⊎ (is_leave what ≡ true) → is_fault what ≡ false
       → StepKeeps told daemons first c e (with_done c.machine d left waits drawn)
   done_some {event = event} {answer = answer} {drawn = drawn} left waits what is told_so outside unclosed adds turn idle agree stands leaves whole =

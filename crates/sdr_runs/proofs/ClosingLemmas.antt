@@ -12,12 +12,12 @@ use Rattle.sdr_model.specs.declared.event.Event.{Event}
 use Rattle.sdr_model.specs.declared.event.Event.TheVariants as events
 use Rattle.sdr_model.specs.declared.journal.What.TheVariants as whats
 use Rattle.sdr_lock.specs.Agreeing.{AgreesWith}
-use Rattle.sdr_lock.specs.Core.{Core, Under, all_said, entry_of, said_by, under, what_else, with_said, without_work}
+use Rattle.sdr_lock.specs.Core.{Core, Under, all_said, entry_of, said_by, under, what_added, with_said, without_work}
 use Rattle.sdr_lock.specs.Ground.{HasHeap, State}
-use Rattle.sdr_lock.specs.Legal.{MayStand, is_fault}
+use Rattle.sdr_lock.specs.Legal.{MayFollow, is_fault}
 use Rattle.sdr_lock.specs.Machine.{Machine, Made, roll_closed, with_transaction}
 use Rattle.sdr_lock.specs.Nesting.{closing}
-use Rattle.sdr_lock.specs.Roll.{after_entry, at_nesting, daemon_of, number_of, put_daemon, served_number, with_fault}
+use Rattle.sdr_lock.specs.Roll.{when_done, at_nesting, daemon_of, number_of, put_daemon, served_number, with_fault}
 use Rattle.sdr_lock.specs.Transaction.{ClosesSo, Finishes, IsAnswered, Runs, OpenTransaction, Transacts, asks_disk, is_closing, transaction_of}
 use Rattle.sdr_lock.specs.declared.daemon.Daemon.{Daemon}
 use Rattle.sdr_lock.specs.declared.daemon.Holding.{Holding}
@@ -30,15 +30,15 @@ use Rattle.sdr_runs.proofs.TurnLemmas.{IsTurn, entry_roll, nested_roll, turn_min
 use Rattle.sdr_runs.proofs.WorkLemmas.{SoFar, apart_said, apart_without, runs_last, said_more, said_none, said_other, said_without, so_far_more}
 
 -- an event that goes on in a transaction adds no entry
-within_adds_none : (u : Under) (event : Event) (answer : Answer) → IsWithin event answer → u.left ≡ false → what_else u event answer ≡ None
+within_adds_none : (u : Under) (event : Event) (answer : Answer) → IsWithin event answer → u.left ≡ false → what_added u event answer ≡ None
 within_adds_none u (events.Leaves leave) answer within stays = ap (λ b. if b then Some (whats.Leaves leave) else None) stays
-within_adds_none u (events.Look ticket) answer within stays = ap (what_else u (events.Look ticket)) (within.unlooked ticket refl).1
+within_adds_none u (events.Look ticket) answer within stays = ap (what_added u (events.Look ticket)) (within.unlooked ticket refl).1
 within_adds_none u event answer within stays = refl
 
 -- the machine in which the disk has failed at this moment, and the daemon is done with its number
 abbrev pub with_failed : Machine → Daemon → ℕ → ℕ → Machine
 with_failed m d drawn moment = record {
-  roll = with_fault (record { daemons = put_daemon m.roll.daemons (after_entry d); drawn = drawn; failed = m.roll.failed }) moment;
+  roll = with_fault (record { daemons = put_daemon m.roll.daemons (when_done d); drawn = drawn; failed = m.roll.failed }) moment;
   before = m.before;
   now = m.before;
 }
@@ -50,7 +50,7 @@ module _ {told : Option Told} {daemons : List ℕ} {first : State} {c : Core} {e
   closed_works k others left = record {
     apart = apart_without c.log.works d.id k.apart;
     current =
-        rests_put told c.machine.roll c.log.works (without_work c.log.works d.id) d (after_entry d) c.machine.roll.drawn c.machine.roll.failed left left refl
+        rests_put told c.machine.roll c.log.works (without_work c.log.works d.id) d (when_done d) c.machine.roll.drawn c.machine.roll.failed left left refl
         (found_there p found) others (said_none c.log.works d.id) (λ other apart. said_without c.log.works d.id other apart);
   }
 
@@ -122,7 +122,7 @@ module _ {told : Option Told} {daemons : List ℕ} {first : State} {c : Core} {e
 
     -- the entry of a transaction that finishes may stand
     finished : (close : Close) (left : State) → Finishes c.machine.before (transaction_of h c.machine.now) e.said close left
-        → MayStand told daemons c.log.journal c.machine.before (number_of c.machine.roll d) e.daemon (whats.Work (all_said c.log.works d.id e.said) close) left
+        → MayFollow told daemons c.log.journal c.machine.before (number_of c.machine.roll d) e.daemon (whats.Work (all_said c.log.works d.id e.said) close) left
     finished close left last =
         subst (λ n. Runs told c.machine.before n (all_said c.log.works d.id e.said) close left)
         (sym (ap (λ o. option_map_or (λ (k : Holding). k.number) o (c.machine.roll.drawn + 1)) holds))

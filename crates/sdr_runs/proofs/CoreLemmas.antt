@@ -12,9 +12,9 @@ use Rattle.sdr_model.specs.declared.event.Event.{Event}
 use Rattle.sdr_model.specs.declared.journal.Entry.{Entry}
 use Rattle.sdr_model.specs.declared.journal.What.{What}
 use Rattle.sdr_model.specs.declared.journal.What.TheVariants as whats
-use Rattle.sdr_lock.specs.Core.{Core, Under, Work, all_said, closed_by, core_after, entry_of, was_outside, log_after, under, what_else, what_of, with_said, without_work, works_after}
+use Rattle.sdr_lock.specs.Core.{Core, Under, Work, all_said, closed_by, core_after, entry_of, was_outside, log_after, under, what_added, what_of, with_said, without_work, works_after}
 use Rattle.sdr_lock.specs.Ground.{State}
-use Rattle.sdr_lock.specs.Legal.{Lead, MayStand, is_fault, is_leave}
+use Rattle.sdr_lock.specs.Legal.{Lead, MayFollow, is_fault, is_leave}
 use Rattle.sdr_lock.specs.Machine.{Machine, Made}
 use Rattle.sdr_lock.specs.Roll.{daemon_of, number_of}
 use Rattle.sdr_lock.specs.declared.daemon.Daemon.{Daemon}
@@ -82,7 +82,7 @@ module _ {told : Option Told} {daemons : List ℕ} {first : State} {c : Core} {e
         (sym (ap (λ o. record { machine = c.machine; log = option_map_or (λ (d : Daemon). log_after (under c.machine.roll d c.machine.roll e.said.event) c.log e) o c.log }) none))
         (record { roll = p.keeps.roll; journal = still c.machine.roll.failed c.machine.before refl (λ none. none); works = p.keeps.works });
     adds =
-        subst (λ o. MatchOption o (c.machine.before ≡ c.machine.before) (λ (x : Entry). MayStand told daemons c.log.journal c.machine.before x.number x.daemon x.what c.machine.before))
+        subst (λ o. MatchOption o (c.machine.before ≡ c.machine.before) (λ (x : Entry). MayFollow told daemons c.log.journal c.machine.before x.number x.daemon x.what c.machine.before))
         (sym (ap (λ o. option_map_or (λ (d : Daemon). entry_under (under c.machine.roll d c.machine.roll e.said.event) c e) o None) none)) refl;
     fails =
         subst (λ o. MatchOption o (c.machine.roll.failed ≡ c.machine.roll.failed) (λ (x : Entry). FailsBy x.what c.machine))
@@ -123,7 +123,7 @@ module _ {told : Option Told} {daemons : List ℕ} {first : State} {c : Core} {e
           (ap (λ o. c.log.journal ++ option_to_list (option_map (entry_of (made_under m').number e) o)) none ∙ append-nil c.log.journal)))
           (record { roll = roll; journal = still m'.roll.failed m'.before before (λ none. sym same ∙ none); works = open_ones });
       adds =
-          subst (λ o. MatchOption o (m'.before ≡ c.machine.before) (λ (x : Entry). MayStand told daemons c.log.journal c.machine.before x.number x.daemon x.what m'.before))
+          subst (λ o. MatchOption o (m'.before ≡ c.machine.before) (λ (x : Entry). MayFollow told daemons c.log.journal c.machine.before x.number x.daemon x.what m'.before))
           (sym (added_is m' ∙ ap (option_map (entry_of (made_under m').number e)) none)) before;
       fails =
           subst (λ o. MatchOption o (m'.roll.failed ≡ c.machine.roll.failed) (λ (x : Entry). FailsBy x.what m'))
@@ -136,7 +136,7 @@ module _ {told : Option Told} {daemons : List ℕ} {first : State} {c : Core} {e
     -- an event that adds an entry
     pub adds_some : (m' : Machine) (works' : List Work) (what : What) → next_works ≡ works' → what_of (made_under m') c.log.works e ≡ Some what
         → KeepsRoll daemons (c.log.journal ++ entry_of (number_of c.machine.roll d) e what ∷ []) m'.roll
-        → MayStand told daemons c.log.journal c.machine.before (number_of c.machine.roll d) e.daemon what m'.before
+        → MayFollow told daemons c.log.journal c.machine.before (number_of c.machine.roll d) e.daemon what m'.before
         → last_number 0 c.log.journal < number_of c.machine.roll d
         → (c.machine.roll.failed ≡ None) ⊎ (is_leave what ≡ true)
         → (m'.roll.failed ≡ None → (c.machine.roll.failed ≡ None) × (is_fault what ≡ false))
@@ -155,7 +155,7 @@ module _ {told : Option Told} {daemons : List ℕ} {first : State} {c : Core} {e
             works = open_ones;
           });
       adds =
-          subst (λ o. MatchOption o (m'.before ≡ c.machine.before) (λ (x : Entry). MayStand told daemons c.log.journal c.machine.before x.number x.daemon x.what m'.before))
+          subst (λ o. MatchOption o (m'.before ≡ c.machine.before) (λ (x : Entry). MayFollow told daemons c.log.journal c.machine.before x.number x.daemon x.what m'.before))
           (sym (added_is m' ∙ ap (option_map (entry_of (made_under m').number e)) some)) stands;
       fails =
           subst (λ o. MatchOption o (m'.roll.failed ≡ c.machine.roll.failed) (λ (x : Entry). FailsBy x.what m'))
@@ -187,13 +187,13 @@ module _ {told : Option Told} {daemons : List ℕ} {first : State} {c : Core} {e
           ∙ ap (λ o. option_map_or (λ (close : Close). without_work c.log.works e.daemon) o (with_said c.log.works e.daemon e.said)) (closed_is (Some close) closed)
           ∙ ap (without_work c.log.works) (sym number_is)
 
-      pub what_unclosed : (m' : Machine) → closed_by answer ≡ None → what_of (made_under m') c.log.works e ≡ what_else (under c.machine.roll d m'.roll event) event answer
+      pub what_unclosed : (m' : Machine) → closed_by answer ≡ None → what_of (made_under m') c.log.works e ≡ what_added (under c.machine.roll d m'.roll event) event answer
       what_unclosed m' unclosed =
-          ap (λ o. option_map_or (λ (close : Close). Some (whats.Work (all_said c.log.works e.daemon e.said) close)) o (what_else (made_under m') e.said.event e.said.answer)) (closed_is None unclosed)
-          ∙ (λ i. what_else (under c.machine.roll d m'.roll (is i)) (is i) (told_so i))
+          ap (λ o. option_map_or (λ (close : Close). Some (whats.Work (all_said c.log.works e.daemon e.said) close)) o (what_added (made_under m') e.said.event e.said.answer)) (closed_is None unclosed)
+          ∙ (λ i. what_added (under c.machine.roll d m'.roll (is i)) (is i) (told_so i))
 
       pub what_closed : (m' : Machine) (close : Close) → closed_by answer ≡ Some close
           → what_of (made_under m') c.log.works e ≡ Some (whats.Work (all_said c.log.works d.id e.said) close)
       what_closed m' close closed =
-          ap (λ o. option_map_or (λ (close : Close). Some (whats.Work (all_said c.log.works e.daemon e.said) close)) o (what_else (made_under m') e.said.event e.said.answer)) (closed_is (Some close) closed)
+          ap (λ o. option_map_or (λ (close : Close). Some (whats.Work (all_said c.log.works e.daemon e.said) close)) o (what_added (made_under m') e.said.event e.said.answer)) (closed_is (Some close) closed)
           ∙ ap (λ n. Some (whats.Work (all_said c.log.works n e.said) close)) (sym number_is)

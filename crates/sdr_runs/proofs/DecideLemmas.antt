@@ -4,10 +4,10 @@ use Rattle.sdr_base.specs.Media.{Told}
 use Rattle.sdr_base.specs.declared.moves.Move.{Move}
 use Rattle.sdr_lock.specs.Agreeing.{AgreesWith}
 use Rattle.sdr_lock.specs.Core.{closed_by}
-use Rattle.sdr_lock.specs.Machine.{Machine, Made, MachineStep, Answers, Closes, Comes, Enters, Faults, FaultsWithin, Goes, Holds, Looks, LooksAt, Proceeds, Serves, Works, is_outside, roll_closed, with_transaction}
+use Rattle.sdr_lock.specs.Machine.{Machine, Made, MachineStep, StepsOf, Closes, Comes, Enters, Faults, FaultsWithin, Goes, Holds, Looks, LooksAt, Proceeds, OnTurn, GoesOnIn, is_outside, roll_closed, with_transaction}
 use Rattle.sdr_lock.specs.Nesting.{noted}
 use Rattle.sdr_lock.specs.Roll.{Roll, daemon_of, is_stalled, served_number, waits_for, with_drawn}
-use Rattle.sdr_lock.specs.Transaction.{Becomes, Replies, OpenTransaction, Transacts, bytes_given, is_closing, is_opening, left_by, transaction_of}
+use Rattle.sdr_lock.specs.Transaction.{Becomes, Replies, OpenTransaction, Transacts, bytes_given, is_closing, is_opening, state_left, transaction_of}
 use Rattle.sdr_lock.specs.declared.daemon.Daemon.{Daemon}
 use Rattle.sdr_lock.specs.declared.daemon.Holding.{Holding}
 use Rattle.sdr_lock.proofs.StepLemmas.{from_option, from_test}
@@ -130,7 +130,7 @@ module _ (told : Option Told) (m : Machine) (e : Made) (answer : Answer) (bytes 
   closes_same : (d : Daemon) (h : Holding) → Closes m d h e m1 → Closes m d h again m2 → Same
   closes_same d h one two =
       let close : two.close ≡ one.close = two.closes.how ∙ sym one.closes.how in
-      let left : two.left ≡ one.left = two.closes.left ∙ ap (λ c. left_by c m.before m.now) close ∙ sym one.closes.left in
+      let left : two.left ≡ one.left = two.closes.left ∙ ap (λ c. state_left c m.before m.now) close ∙ sym one.closes.left in
       record {
         answer_is = two.closes.told.answer ∙ ap answers.Closed close ∙ sym one.closes.told.answer;
         bytes_are = two.closes.told.bytes ∙ sym one.closes.told.bytes;
@@ -175,7 +175,7 @@ module _ (told : Option Told) (m : Machine) (e : Made) (answer : Answer) (bytes 
   transacts_same h (events.Look ticket) t1 t2 is one two = becomes_same t1 t2 _ _ one two
   transacts_same h (events.Leaves leave) t1 t2 is one two = absurd one
 
-  works_same : (d : Daemon) (h : Holding) (event : Event) → e.said.event ≡ event → Works m d h event e m1 → Works m d h event again m2 → Same
+  works_same : (d : Daemon) (h : Holding) (event : Event) → e.said.event ≡ event → GoesOnIn m d h event e m1 → GoesOnIn m d h event again m2 → Same
   works_same d h event is one two =
       let same = transacts_same h event one.after two.after is one.transacts two.transacts in
       record {
@@ -189,7 +189,7 @@ module _ (told : Option Told) (m : Machine) (e : Made) (answer : Answer) (bytes 
   proceeds_same d h event is one two =
       test_pair (is_closing (transaction_of h m.now) event) one two (λ s t. closes_same d h s t) (λ s t. works_same d h event is s t)
 
-  serves_same : (d : Daemon) (h : Holding) (event : Event) → e.said.event ≡ event → Serves m d h event e m1 → Serves m d h event again m2 → Same
+  serves_same : (d : Daemon) (h : Holding) (event : Event) → e.said.event ≡ event → OnTurn m d h event e m1 → OnTurn m d h event again m2 → Same
   serves_same d h event is one two = test_pair (is_opening (transaction_of h m.now) event) one two (λ s t. goes_same _ _ s t) either
     where
       either : Proceeds m d h event e m1 ⊎ FaultsWithin m d h event e m1 → Proceeds m d h event again m2 ⊎ FaultsWithin m d h event again m2 → Same
@@ -219,7 +219,7 @@ module _ (told : Option Told) (m : Machine) (e : Made) (answer : Answer) (bytes 
       (λ s t. test_pair (h.nesting.depth == 0) s t (λ x y. goes_same _ _ x y) (λ x y. ends_same d h (events.Leaves leave) x y)) (λ s t. goes_same _ _ s t)
   holds_same d h event is one two = enters_same d h event is one two
 
-  answers_same : Answers m e m1 → Answers m again m2 → Same
+  answers_same : StepsOf m e m1 → StepsOf m again m2 → Same
   answers_same one two =
       option_pair (daemon_of m.roll e.daemon) one two (λ s t. goes_same _ _ s t)
       (λ d s t. test_pair d.left s t (λ x y. goes_same _ _ x y)

@@ -11,8 +11,8 @@ use Rattle.sdr_model.specs.declared.journal.What.{What}
 use Rattle.sdr_model.specs.declared.journal.What.TheVariants as whats
 use Rattle.sdr_lock.specs.Core.{closed_by}
 use Rattle.sdr_lock.specs.Ground.{State}
-use Rattle.sdr_lock.specs.Legal.{IsLegal, Lead, MayStand}
-use Rattle.sdr_lock.specs.Transaction.{Finishes, GoesOn, Runs, OpenTransaction, begun_in}
+use Rattle.sdr_lock.specs.Legal.{IsLegal, Lead, MayFollow}
+use Rattle.sdr_lock.specs.Transaction.{Finishes, GoesOn, Runs, OpenTransaction, begun_under}
 use Rattle.sdr_runs.specs.Framed.{FramesWork}
 use Rattle.sdr_runs.proofs.TransactLemmas.{transacts_within}
 
@@ -56,7 +56,7 @@ runs_framed told before number [] close left runs = absurd runs
 runs_framed told before number (said ∷ []) close left runs =
     inr (record { look = said; all = refl; ticket = runs.ticket; event = runs.event; answer = runs.faults.told.answer; faulted = runs.faults.how })
 runs_framed told before number (said ∷ second ∷ more) close left runs =
-    let rest = goes_on_closes told before (begun_in number before) (second ∷ more) close left runs.1 in
+    let rest = goes_on_closes told before (begun_under number before) (second ∷ more) close left runs.1 in
     inl (record {
       begin = said;
       between = rest.between;
@@ -68,7 +68,7 @@ runs_framed told before number (said ∷ second ∷ more) close left runs =
     })
 
 stands_framed : (told : Option Told) (daemons : List ℕ) (journal : List Entry) (s : State) (number daemon : ℕ) (what : What) (s' : State)
-    → MayStand told daemons journal s number daemon what s' → FramesWork number what
+    → MayFollow told daemons journal s number daemon what s' → FramesWork number what
 stands_framed told daemons journal s number daemon (whats.Work said close) s' stands = runs_framed told s number said close s' stands
 stands_framed told daemons journal s number daemon what s' stands = tt
 

@@ -7,24 +7,24 @@ use Rattle.std.proofs.lemmas.List.{reverse-append}
 use Rattle.sdr_base.specs.Media.{Told}
 use Rattle.sdr_model.specs.declared.journal.Entry.{Entry}
 use Rattle.sdr_lock.specs.Ground.{State}
-use Rattle.sdr_lock.specs.Legal.{EndsWithLeaves, Lead, MayStand, Rise, is_fault, is_leave, last_entry}
+use Rattle.sdr_lock.specs.Legal.{EndsWithLeaves, Lead, MayFollow, Rise, is_fault, is_leave, last_entry}
 use Rattle.sdr_runs.specs.Rising.{MomentsRise, NumbersRise}
 
 -- the entries lead on by one more that may stand behind them
 pub lead_more : (told : Option Told) (daemons : List ℕ) (before : List Entry) (s : State) (entries : List Entry) (s' : State) (e : Entry) (s'' : State)
-    → Lead told daemons before s entries s' → MayStand told daemons (before ++ entries) s' e.number e.daemon e.what s''
+    → Lead told daemons before s entries s' → MayFollow told daemons (before ++ entries) s' e.number e.daemon e.what s''
     → Lead told daemons before s (entries ++ e ∷ []) s''
 lead_more told daemons before s [] s' e s'' lead stands =
-    let from : MayStand told daemons before s e.number e.daemon e.what s'' =
-    subst (λ x. MayStand told daemons before x e.number e.daemon e.what s'') lead
-    (subst (λ xs. MayStand told daemons xs s' e.number e.daemon e.what s'') (append-nil before) stands) in
+    let from : MayFollow told daemons before s e.number e.daemon e.what s'' =
+    subst (λ x. MayFollow told daemons before x e.number e.daemon e.what s'') lead
+    (subst (λ xs. MayFollow told daemons xs s' e.number e.daemon e.what s'') (append-nil before) stands) in
     record { after = s''; stands = from; rest = refl }
 lead_more told daemons before s (first ∷ entries) s' e s'' lead stands = record {
   after = lead.after;
   stands = lead.stands;
   rest =
       lead_more told daemons (before ++ first ∷ []) lead.after entries s' e s'' lead.rest
-      (subst (λ xs. MayStand told daemons xs s' e.number e.daemon e.what s'') (sym (append_assoc before (first ∷ []) entries)) stands);
+      (subst (λ xs. MayFollow told daemons xs s' e.number e.daemon e.what s'') (sym (append_assoc before (first ∷ []) entries)) stands);
 }
 
 -- the number of the last entry, and the moment at which it was done

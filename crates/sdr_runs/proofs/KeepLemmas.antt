@@ -8,7 +8,7 @@ use Rattle.sdr_base.specs.Media.{Told}
 use Rattle.std.specs.List.{AllByRecursion}
 use Rattle.sdr_model.specs.declared.journal.Entry.{Entry}
 use Rattle.sdr_lock.specs.Ground.{State}
-use Rattle.sdr_lock.specs.Legal.{EndsWithLeaves, Lead, MayStand, is_fault, is_leave, last_entry}
+use Rattle.sdr_lock.specs.Legal.{EndsWithLeaves, Lead, MayFollow, is_fault, is_leave, last_entry}
 use Rattle.sdr_lock.specs.Roll.{Roll, daemon_of, least_held, put_daemon, served_number}
 use Rattle.sdr_lock.specs.declared.daemon.Daemon.{Daemon}
 use Rattle.sdr_lock.specs.declared.daemon.Holding.{Holding}
@@ -112,7 +112,7 @@ none_held daemons journal r id d h keeps none held =
 -- an entry that may stand there is added
 pub journal_more : (told : Option Told) (daemons : List ℕ) (first : State) (journal : List Entry) (failed failed' : Option ℕ) (before after : State) (e : Entry)
     → KeepsJournal told daemons first journal failed before
-    → MayStand told daemons journal before e.number e.daemon e.what after
+    → MayFollow told daemons journal before e.number e.daemon e.what after
     → last_number 0 journal < e.number → list_any (λ n. n == e.daemon) daemons ≡ true
     → (failed ≡ None) ⊎ (is_leave e.what ≡ true) → (failed' ≡ None → (failed ≡ None) × (is_fault e.what ≡ false))
     → KeepsJournal told daemons first (journal ++ e ∷ []) failed' after

@@ -17,7 +17,7 @@ use Rattle.sdr_lock.specs.Roll.{Roll, after_leave, daemon_of, least_held, lesser
 use Rattle.sdr_lock.specs.declared.daemon.Daemon.{Daemon}
 use Rattle.sdr_lock.specs.declared.daemon.Holding.{Holding}
 use Rattle.sdr_lock.proofs.StepLemmas.{from_option, from_test}
-use Rattle.sdr_runs.specs.LastEntries.{left_by}
+use Rattle.sdr_runs.specs.LastEntries.{is_by_leave}
 use Rattle.sdr_runs.proofs.CoreLemmas.{KeepsCore}
 use Rattle.sdr_runs.proofs.RollLemmas.{among, contrary, each_also, each_found, each_put, found_number, found_put, number_same, other_put, same_number}
 use Rattle.sdr_runs.proofs.RunLemmas.{core_step_keeps, run_keeps}
@@ -250,22 +250,22 @@ module _ (told : Option Told) (daemons : List ℕ) (first : State) (leave : Leav
 
 -- a daemon that has left has a leave as its last entry
 left_last : (told : Option Told) (daemons : List ℕ) (first : State) (c : Core) (id : ℕ) → KeepsCore told daemons first c → has_left c.machine.roll id ≡ true
-    → left_by (last_entry c.log.journal id) ≡ true
+    → is_by_leave (last_entry c.log.journal id) ≡ true
 left_last told daemons first c id keeps left = by (daemon_of c.machine.roll id) refl left
   where
-    by : (o : Option Daemon) → daemon_of c.machine.roll id ≡ o → option_map_or (λ (d : Daemon). d.left) o false ≡ true → left_by (last_entry c.log.journal id) ≡ true
+    by : (o : Option Daemon) → daemon_of c.machine.roll id ≡ o → option_map_or (λ (d : Daemon). d.left) o false ≡ true → is_by_leave (last_entry c.log.journal id) ≡ true
     by None found left = absurd (true≢false (sym left))
     by (Some d) found left = sym (keeps.roll.agree id d found).left ∙ left
 
 pub run_leaves : (told : Option Told) (daemons : List ℕ) (first : State) (made : List Made) (core : Core) → RunsCore told (first_core daemons first) made core
     → IsDistinct nat_eq daemons → (leave : Leave) (leaving : List Made) (last : Core) → AllLeave told leave core leaving last
-    → All (λ id. (has_left last.machine.roll id ≡ true) × (left_by (last_entry last.log.journal id) ≡ true)) daemons
+    → All (λ id. (has_left last.machine.roll id ≡ true) × (is_by_leave (last_entry last.log.journal id) ≡ true)) daemons
 run_leaves told daemons first made core runs distinct leave leaving last all =
-    subst (All (λ id. (has_left last.machine.roll id ≡ true) × (left_by (last_entry last.log.journal id) ≡ true))) held.0.roll.numbers
-    (left_or_staying told daemons first leave (λ id. (has_left last.machine.roll id ≡ true) × (left_by (last_entry last.log.journal id) ≡ true)) all.between.machine.roll.daemons
+    subst (All (λ id. (has_left last.machine.roll id ≡ true) × (is_by_leave (last_entry last.log.journal id) ≡ true))) held.0.roll.numbers
+    (left_or_staying told daemons first leave (λ id. (has_left last.machine.roll id ≡ true) × (is_by_leave (last_entry last.log.journal id) ≡ true)) all.between.machine.roll.daemons
     (both (staying all.between.machine.roll) after.left)
     (each_also (λ (d : Daemon). among d.id all.between.machine.roll.daemons ≡ Some d)
-    (λ (d : Daemon). d.left ≡ true → (has_left last.machine.roll d.id ≡ true) × (left_by (last_entry last.log.journal d.id) ≡ true))
+    (λ (d : Daemon). d.left ≡ true → (has_left last.machine.roll d.id ≡ true) × (is_by_leave (last_entry last.log.journal d.id) ≡ true))
     (λ d found left. pair d.id (after.still d.id (ap (λ o. option_map_or (λ (x : Daemon). x.left) o false) found ∙ left))) all.between.machine.roll.daemons itself))
   where
     held : KeepsCore told daemons first all.between × (served_daemon all.between.machine.roll ≡ None)
@@ -279,10 +279,10 @@ run_leaves told daemons first made core runs distinct leave leaving last all =
         in_turn told daemons first leave (staying all.between.machine.roll) all.between all.last last held.0 (unserved_none all.between.machine.roll held.1)
         (staying_known told daemons first leave all.between.machine.roll.daemons all.between.machine.roll.daemons itself) all.others
 
-    pair : (id : ℕ) → has_left last.machine.roll id ≡ true → (has_left last.machine.roll id ≡ true) × (left_by (last_entry last.log.journal id) ≡ true)
+    pair : (id : ℕ) → has_left last.machine.roll id ≡ true → (has_left last.machine.roll id ≡ true) × (is_by_leave (last_entry last.log.journal id) ≡ true)
     pair id left = (left, left_last told daemons first last id after.keeps left)
 
     both : (ids : List ℕ) → AllByRecursion (λ id. left_among last.machine.roll.daemons id ≡ true) ids
-        → AllByRecursion (λ id. (has_left last.machine.roll id ≡ true) × (left_by (last_entry last.log.journal id) ≡ true)) ids
+        → AllByRecursion (λ id. (has_left last.machine.roll id ≡ true) × (is_by_leave (last_entry last.log.journal id) ≡ true)) ids
     both [] left = tt
     both (id ∷ ids) left = (pair id left.0, both ids left.1)

@@ -15,14 +15,14 @@ use Rattle.sdr_model.specs.Charges.{bytes_charge, capsule_bytes, object_bytes, o
 use Rattle.sdr_model.specs.PartSteps.{asked_extents, clone_moves, object_of}
 use Rattle.sdr_base.specs.declared.kind.Space.TheVariants as spaces
 use Rattle.sdr_model.specs.Queue.{barrier}
-use Rattle.sdr_model.specs.Zco.{empty_object, extents_length, object_at, owned_raw, source_at, source_on, space_of, uses_of}
+use Rattle.sdr_model.specs.Zco.{empty_object, extents_length, object_at, owned_raw, source_at, source_naming, space_of, uses_of}
 use Rattle.sdr_model.specs.declared.accounts.Pending.{Pending}
 use Rattle.sdr_model.specs.Rows.{ByRow}
 use Rattle.sdr_model.specs.Step.{Step, Stops, StopsWith}
 use Rattle.sdr_model.specs.Steps.{DoesWith, Outcome, On, Refuses, Takes, TakesOne, with_thing}
 use Rattle.sdr_model.specs.World.{World, as_raw, as_text, block_at, is_marked, misnamed, refusal_for, spot_of, thing_at}
 use Rattle.sdr_model.specs.Amounts.{amounts_by, first_above, in_space, minus}
-use Rattle.sdr_model.specs.Charging.{Charges, grant_left, no_space, with_used}
+use Rattle.sdr_model.specs.Charging.{Charges, grant_left, no_space, with_covered}
 use Rattle.sdr_model.specs.HashSteps as hash
 use Rattle.sdr_model.specs.ListSteps as list
 use Rattle.sdr_model.specs.NameSteps.{OnName}
@@ -46,7 +46,7 @@ use Rattle.sdr_model.specs.declared.answer.Reply.{Reply}
 use Rattle.sdr_model.specs.declared.answer.Reply.TheVariants as replies
 use Rattle.sdr_model.specs.declared.call.Call.{Call}
 use Rattle.sdr_model.specs.declared.call.Call.TheVariants as calls
-use Rattle.sdr_model.specs.declared.things.Block.{Block}
+use Rattle.sdr_model.specs.declared.things.UsedBlock.{UsedBlock}
 use Rattle.sdr_runs.specs.Replying.{is_of_call}
 
 -- the call answers for itself
@@ -78,7 +78,7 @@ module _ (w : World) (o : Outcome) where
   misnames : (addr : ℕ) → Refuses w o (misnamed w addr) → IsFair o
   misnames addr h = refuses h (by (block_at w addr))
     where
-      by : (x : Option Block) → is_of_call (replies.Refused (refusal_for addr x)) ≡ true
+      by : (x : Option UsedBlock) → is_of_call (replies.Refused (refusal_for addr x)) ≡ true
       by None = refl
       by (Some block) = refl
 
@@ -93,7 +93,7 @@ module _ (w : World) (o : Outcome) where
   covers : (acct : Acct) (charge : Space → ℕ) (goes : World → Type 0) (p : Option Pending)
       → MatchOption (barrier (minus (amounts_by charge) (grant_left p)) (tickets_of w.accounts acct))
       (MatchOption (first_above (minus (amounts_by charge) (grant_left p)) (rooms w acct))
-      (goes (with_used w p (amounts_by charge)))
+      (goes (with_covered w p (amounts_by charge)))
       (λ space. Refuses w o (no_space w acct (minus (amounts_by charge) (grant_left p)) space)))
       (λ t. Refuses w o (refusals.Queue t.number))
       → ((used : World) → goes used → IsFair o) → IsFair o
@@ -125,7 +125,7 @@ module _ (w : World) (o : Outcome) where
   in_range offset bytes have goes h then = tests (bytes == 0 || nat_lt have (offset + bytes)) h (λ f. refuses f refl) then
 
   unnamed : (raw : ℕ) (goes : Type 0) → OnUnnamed w o raw goes → (goes → IsFair o) → IsFair o
-  unnamed raw goes h then = options (source_on w raw) h then (λ source f. refuses f refl)
+  unnamed raw goes h then = options (source_naming w raw) h then (λ source f. refuses f refl)
 
   capsule : (addr number : ℕ) (text : List ℕ) (with_capsule : ZcoObject → Capsule → ZcoObject) → object.AddsCapsule w o addr number text with_capsule → IsFair o
   capsule addr number text with_capsule h =

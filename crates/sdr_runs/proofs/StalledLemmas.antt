@@ -12,7 +12,7 @@ use Rattle.sdr_lock.specs.Legal as legal
 use Rattle.sdr_lock.specs.Legal.{have_stalled, is_leave, is_wait_for, last_entry}
 use Rattle.sdr_lock.specs.Roll.{Roll, is_stalled, is_stuck, waits_for}
 use Rattle.sdr_lock.specs.declared.daemon.Daemon.{Daemon}
-use Rattle.sdr_runs.specs.LastEntries.{AgreesWithLast, left_by, waited_ticket, waits_by}
+use Rattle.sdr_runs.specs.LastEntries.{AgreesWithLast, is_by_leave, waited_ticket, waits_by}
 use Rattle.sdr_runs.proofs.KeepLemmas.{KeepsRoll}
 use Rattle.sdr_runs.proofs.RollLemmas.{among, each_also, each_found, number_same}
 
@@ -39,7 +39,7 @@ stuck_agree w last d agree = (λ i. agree.left i || option_map_or (λ t. not (is
     of (whats.Waits ticket) = refl
     of what = refl
 
-    by : (o : Option Entry) → (left_by o || option_map_or (λ t. not (is_granted (pending_of w t))) (waits_by o) false) ≡ option_map_or (λ (e : Entry). legal.ends_stuck w e.what) o false
+    by : (o : Option Entry) → (is_by_leave o || option_map_or (λ t. not (is_granted (pending_of w t))) (waits_by o) false) ≡ option_map_or (λ (e : Entry). legal.ends_stuck w e.what) o false
     by None = refl
     by (Some e) = of e.what
 

@@ -18,7 +18,7 @@ use Rattle.sdr_base.specs.declared.account.Acct.TheVariants as accts
 use Rattle.sdr_base.specs.declared.account.Amounts.{Amounts}
 use Rattle.sdr_base.specs.declared.kind.Space.TheVariants as spaces
 use Rattle.sdr_base.specs.declared.moves.Move.TheVariants.{Gave}
-use Rattle.sdr_lock.specs.Ground.{bare, kept}
+use Rattle.sdr_lock.specs.Ground.{bare, committed}
 use Rattle.sdr_model.specs.Dry.{StepsDry}
 use Rattle.sdr_model.specs.declared.answer.Answer.TheVariants as answers
 use Rattle.sdr_model.specs.declared.event.Event.TheVariants as events
@@ -169,7 +169,7 @@ abbrev changed_in : ℕ → World → OpenTransaction
 changed_in number w = record { number = number; nesting = modified_at 1; state = bare w }
 
 -- an end
-ends : (before now : World) (number line : ℕ) → ClosesSo (bare before) (changed_in number now) (said line events.End (answers.Closed closes.Ended)) closes.Ended (kept (bare now))
+ends : (before now : World) (number line : ℕ) → ClosesSo (bare before) (changed_in number now) (said line events.End (answers.Closed closes.Ended)) closes.Ended (committed (bare now))
 ends before now number line = record { how = refl; told = plain; left = refl }
 
 pub stalled_row : LeavesJournal (1 ∷ 2 ∷ []) (bare empty_world) stalled_made stalled_journal

@@ -14,10 +14,10 @@ use Rattle.sdr_model.specs.declared.event.Event.TheVariants as events
 use Rattle.sdr_model.specs.declared.event.Leave.{Leave}
 use Rattle.sdr_model.specs.declared.journal.What.TheVariants as whats
 use Rattle.sdr_lock.specs.Agreeing.{AgreesWith}
-use Rattle.sdr_lock.specs.Core.{Core, Under, has_left, what_else}
+use Rattle.sdr_lock.specs.Core.{Core, Under, has_left, what_added}
 use Rattle.sdr_lock.specs.Ground.{State}
 use Rattle.sdr_lock.specs.Legal.{last_entry, waited_for}
-use Rattle.sdr_lock.specs.Machine.{Machine, Made, MachineStep, Answers, Closes, Comes, Enters, FaultsWithin, Holds, Looks, LooksAt, Serves, Works, is_outside, roll_acting, roll_coming, roll_failed, roll_holding, with_roll}
+use Rattle.sdr_lock.specs.Machine.{Machine, Made, MachineStep, StepsOf, Closes, Comes, Enters, FaultsWithin, Holds, Looks, LooksAt, OnTurn, GoesOnIn, is_outside, roll_acting, roll_coming, roll_failed, roll_holding, with_roll}
 use Rattle.sdr_lock.specs.Roll.{after_leave, daemon_of, is_stalled, served_number, waits_for, with_daemon, with_drawn, with_number}
 use Rattle.sdr_lock.specs.Transaction.{OpenTransaction, Transacts, asks_disk, is_closing, is_opening, transaction_of}
 use Rattle.sdr_lock.specs.declared.daemon.Daemon.{Daemon}
@@ -51,7 +51,7 @@ inside_begun : (h : Holding) (s : State) (event : Event) → is_outside h event 
 inside_begun h s events.Begin out first = first
 inside_begun h s event out first = out
 
-failed_adds_none : (u : Under) (event : Event) (moment : ℕ) → u.left ≡ false → what_else u event (answers.Reply (replies.Failed moment)) ≡ None
+failed_adds_none : (u : Under) (event : Event) (moment : ℕ) → u.left ≡ false → what_added u event (answers.Reply (replies.Failed moment)) ≡ None
 failed_adds_none u (events.Leaves leave) moment stays = ap (λ b. if b then Some (whats.Leaves leave) else None) stays
 failed_adds_none u (events.Look ticket) moment stays = refl
 failed_adds_none u event moment stays = refl
@@ -147,7 +147,7 @@ module _ {told : Option Told} {daemons : List ℕ} {first : State} {c : Core} {e
             (faults_so p found holds inside served sound stays (ap (asks_disk (transaction_of h c.machine.now)) is ∙ faults.asks) faults.faults.heap faults.faults.told)
 
         serves : (event : Event) → e.said.event ≡ event → is_outside h event ≡ false → (served_number c.machine.roll == h.number) ≡ true
-            → AgreesWith told c.machine.now.world e.said.event e.said.answer e.said.bytes → Serves c.machine d h event e m' → KeepsAt m'
+            → AgreesWith told c.machine.now.world e.said.event e.said.answer e.said.bytes → OnTurn c.machine d h event e m' → KeepsAt m'
         serves event is within served media rest =
             from_test (is_opening (transaction_of h c.machine.now) event) rest
             (λ opening goes.
@@ -156,7 +156,7 @@ module _ {told : Option Told} {daemons : List ℕ} {first : State} {c : Core} {e
             (λ unopened either. proceeds (inside_begun h c.machine.now event within unopened) either)
           where
             proceeds : (h.nesting.depth == 0) ≡ false
-                → MatchBool (is_closing (transaction_of h c.machine.now) event) (Closes c.machine d h e m') (Works c.machine d h event e m') ⊎ FaultsWithin c.machine d h event e m' → KeepsAt m'
+                → MatchBool (is_closing (transaction_of h c.machine.now) event) (Closes c.machine d h e m') (GoesOnIn c.machine d h event e m') ⊎ FaultsWithin c.machine d h event e m' → KeepsAt m'
             proceeds inside (inr faults) =
                 subst KeepsAt (sym faults.faults.after)
                 (faults_so p found holds inside served sound stays (ap (asks_disk (transaction_of h c.machine.now)) is ∙ faults.asks) faults.faults.heap faults.faults.told)
@@ -195,7 +195,7 @@ module _ {told : Option Told} {daemons : List ℕ} {first : State} {c : Core} {e
         holding event is media rest = enters event is media rest
 
   -- the disk hasn't failed
-  answered : c.machine.roll.failed ≡ None → AgreesWith told c.machine.now.world e.said.event e.said.answer e.said.bytes → Answers c.machine e m' → KeepsAt m'
+  answered : c.machine.roll.failed ≡ None → AgreesWith told c.machine.now.world e.said.event e.said.answer e.said.bytes → StepsOf c.machine e m' → KeepsAt m'
   answered sound media rest =
       from_option (daemon_of c.machine.roll e.daemon) rest (λ none goes. subst KeepsAt (sym goes.after) (unknown p none))
       (λ d found performs. from_test d.left performs (λ _ goes. subst KeepsAt (sym goes.after) (not_begun p found goes.told.answer))

@@ -8,7 +8,7 @@ use Rattle.sdr_model.specs.declared.journal.Said.{Said}
 use Rattle.sdr_lock.specs.Agreeing.{AgreesWith}
 use Rattle.sdr_lock.specs.Core.{Work, said_by, with_said, without_work}
 use Rattle.sdr_lock.specs.Ground.{State}
-use Rattle.sdr_lock.specs.Transaction.{Finishes, GoesOn, IsOpening, Runs, SaysThen, OpenTransaction, Transacts, begun_in, is_closing, transaction_of}
+use Rattle.sdr_lock.specs.Transaction.{Finishes, GoesOn, IsOpening, Runs, SaysThen, OpenTransaction, Transacts, begun_under, is_closing, transaction_of}
 use Rattle.sdr_lock.specs.declared.daemon.Holding.{Holding}
 use Rattle.sdr_runs.proofs.RollLemmas.{contrary, number_same, same_number, turned}
 
@@ -124,7 +124,7 @@ pub record SoFar (told : Option Told) (before : State) (number : ℕ) (said : Li
   pub more : List Said
   pub all : said ≡ begin ∷ more
   pub opening : IsOpening number begin
-  pub goes : GoesTo told (begun_in number before) more t
+  pub goes : GoesTo told (begun_under number before) more t
 
 -- one more event of the transaction
 pub goes_more : (told : Option Told) (t : OpenTransaction) (more : List Said) (t' : OpenTransaction) (said : Said) (t'' : OpenTransaction) → GoesTo told t more t'
@@ -148,7 +148,7 @@ so_far_more told before number all t said t' far stays transacts media = record 
   more = far.more ++ said ∷ [];
   all = ap (λ xs. xs ++ said ∷ []) far.all;
   opening = far.opening;
-  goes = goes_more told (begun_in number before) far.more t said t' far.goes stays transacts media;
+  goes = goes_more told (begun_under number before) far.more t said t' far.goes stays transacts media;
 }
 
 -- the last event of the transaction
@@ -175,9 +175,9 @@ pub runs_last : (told : Option Told) (before : State) (number : ℕ) (all : List
 runs_last told before number all t said close left far last =
     subst (λ xs. Runs told before number (xs ++ said ∷ []) close left) (sym far.all) (by far.more far.goes)
   where
-    by : (more : List Said) → GoesTo told (begun_in number before) more t → Runs told before number (far.begin ∷ more ++ said ∷ []) close left
-    by [] goes = (far.opening, goes_last told before (begun_in number before) [] t said close left goes last)
-    by (first ∷ more) goes = (far.opening, goes_last told before (begun_in number before) (first ∷ more) t said close left goes last)
+    by : (more : List Said) → GoesTo told (begun_under number before) more t → Runs told before number (far.begin ∷ more ++ said ∷ []) close left
+    by [] goes = (far.opening, goes_last told before (begun_under number before) [] t said close left goes last)
+    by (first ∷ more) goes = (far.opening, goes_last told before (begun_under number before) (first ∷ more) t said close left goes last)
 
 -- a daemon has said nothing but in a transaction, and in that nothing has been done: it may begin from any state
 abbrev pub Untouched : Option Told → List Said → Option Holding → Type 0

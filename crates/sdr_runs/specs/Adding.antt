@@ -6,7 +6,7 @@ use Rattle.sdr_model.specs.declared.answer.Answer.TheVariants as answers
 use Rattle.sdr_model.specs.declared.answer.Reply.TheVariants as replies
 use Rattle.sdr_model.specs.declared.journal.Entry.{Entry}
 use Rattle.sdr_lock.specs.Core.{Core, Under, entry_of, under, what_of}
-use Rattle.sdr_lock.specs.Legal.{MayStand, is_fault}
+use Rattle.sdr_lock.specs.Legal.{MayFollow, is_fault}
 use Rattle.sdr_lock.specs.Machine.{Machine, Made}
 use Rattle.sdr_lock.specs.Roll.{daemon_of}
 use Rattle.sdr_lock.specs.declared.daemon.Daemon.{Daemon}
@@ -26,7 +26,7 @@ entry_added c e m =
 abbrev pub AddsRightly : Option Told → List ℕ → Core → Made → Machine → Type 0
 AddsRightly told daemons c e m =
     MatchOption (entry_added c e m) (m.before ≡ c.machine.before)
-    (λ (x : Entry). MayStand told daemons c.log.journal c.machine.before x.number x.daemon x.what m.before)
+    (λ (x : Entry). MayFollow told daemons c.log.journal c.machine.before x.number x.daemon x.what m.before)
 
 -- By an event that adds no entry the disk hasn't failed; where it did in the entry that is added, the event was answered so.
 abbrev pub FailsRightly : Core → Made → Machine → Type 0

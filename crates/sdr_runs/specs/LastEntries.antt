@@ -19,12 +19,12 @@ waits_by None = None
 waits_by (Some e) = waited_ticket e.what
 
 -- whether a last entry is a leave
-abbrev pub left_by : Option Entry → Bool
-left_by last = option_map_or (λ (e : Entry). is_leave e.what) last false
+abbrev pub is_by_leave : Option Entry → Bool
+is_by_leave last = option_map_or (λ (e : Entry). is_leave e.what) last false
 
 -- The daemon has left just where its last entry is a leave, and waits for a ticket just where that is a wait for it.
 pub record AgreesWithLast (last : Option Entry) (d : Daemon) : Type 0 where
-  pub left : d.left ≡ left_by last
+  pub left : d.left ≡ is_by_leave last
   pub waits : d.waits ≡ waits_by last
 
 -- each daemon of the roll agrees with its last entry in the journal

@@ -6,7 +6,7 @@ ghost use Rattle.sdr_lock.specs.Leaving.{AllLeave};
 ghost use Rattle.sdr_lock.specs.Legal.{last_entry};
 ghost use Rattle.sdr_lock.specs.Machine.{Made};
 ghost use Rattle.sdr_model.specs.declared.event.Leave.{Leave};
-ghost use Rattle.sdr_runs.specs.LastEntries.{left_by};
+ghost use Rattle.sdr_runs.specs.LastEntries.{is_by_leave};
 ghost use Rattle.sdr_runs.specs.Running.{OfEachRun};
 
 /// A law: after the leaves at the end of a schedule every daemon has left, and its last entry is a leave, also where
@@ -15,5 +15,5 @@ pub fn all_leave_at_the_end()
     ensures { OfEachRun (λ told daemons first core. IsDistinct nat_eq daemons →
         (leave : Leave) (leaving : List Made) (last : Core) → AllLeave told leave core leaving last →
         All (λ id. (has_left last.machine.roll id ≡ true)
-        × (left_by (last_entry last.log.journal id) ≡ true)) daemons) }
+        × (is_by_leave (last_entry last.log.journal id) ≡ true)) daemons) }
 {}

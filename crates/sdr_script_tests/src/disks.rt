@@ -3,7 +3,7 @@ use sdr_base::{Bytes, MemorySink, MemorySource, NoMedia};
 use sdr_disk::{Disk, MemoryDisk, Torn};
 use sdr_image::format;
 use sdr_log::Frame;
-use sdr_shell::{Outcome, still};
+use sdr_shell::{RunOutcome, still};
 use std::alloc::Global;
 use std::rc::RcStr;
 
@@ -36,7 +36,7 @@ pub fn answered(
     failing: Vec<u64>,
     input: &[u8],
     output: &mut MemorySink,
-) -> Option<Outcome<MemoryDisk, NoMedia>> {
+) -> Option<RunOutcome<MemoryDisk, NoMedia>> {
     let mut words = Vec::new(alloc);
     words.push(RcStr::from_str(alloc, word).ok()?).ok()?;
     let mut source = MemorySource::new(Bytes::copied(alloc, input).ok()?, Vec::new(alloc));

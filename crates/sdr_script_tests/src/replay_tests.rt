@@ -4,7 +4,7 @@ use crate::disks::{HEAP, answered, bytes_of, formatted};
 use sdr_base::{MemorySink, NoMedia};
 use sdr_disk::{MemoryDisk, Torn};
 use sdr_model::Entry;
-use sdr_shell::{DISK_FAULT, DONE, Outcome};
+use sdr_shell::{DISK_FAULT, DONE, RunOutcome};
 use std::alloc::Global;
 use std::ops::Range;
 
@@ -26,7 +26,7 @@ fn replayed(
     failing: Vec<u64>,
     script: &[u8],
     output: &mut MemorySink,
-) -> Option<Outcome<MemoryDisk, NoMedia>> {
+) -> Option<RunOutcome<MemoryDisk, NoMedia>> {
     answered(alloc, "replay", bytes, failing, script, output)
 }
 

@@ -50,7 +50,7 @@ module _ (hash : Hash) (key : List ℕ) (some : 1 ≤ hash.buckets) where
 
   -- the entry of the key
   pub item_is : item_of (hash_row hash) key ≡ option_map item_row (find (has_key key) hash.entries)
-  item_is = ap (find (blocks.has_key key)) items_are ∙ found_in hash.buckets key hash.entries
+  item_is = ap (find (blocks.item_has_key key)) items_are ∙ found_in hash.buckets key hash.entries
 
   -- with other entries, of which those in other buckets stay
   with_bucket_is : (entries : List HashEntry)
@@ -163,7 +163,7 @@ module _ (hash : Hash) (key : List ℕ) (some : 1 ≤ hash.buckets) where
     in_its = (ap (bucket_of hash.buckets) (sym same_key), tt)
 
     -- none before it has the key
-    none_there : find (blocks.has_key key) (its before) ≡ None
+    none_there : find (blocks.item_has_key key) (its before) ≡ None
     none_there = found_in hash.buckets key before ∙ ap (option_map item_row) k.none
 
     -- its bucket, with others in its place

@@ -89,7 +89,7 @@ module _ (buckets : ℕ) where
 
   -- an entry of a key is found among those in its bucket
   pub found_in : (key : List ℕ) (es : List HashEntry)
-      → find (blocks.has_key key) (map item_row (in_bucket (bucket_of buckets key) es))
+      → find (blocks.item_has_key key) (map item_row (in_bucket (bucket_of buckets key) es))
       ≡ option_map item_row (find (has_key key) es)
   found_in key [] = refl
   found_in key (e ∷ es) =
@@ -101,13 +101,13 @@ module _ (buckets : ℕ) where
       here = in_bucket (bucket_of buckets key) es
 
       step : (k b : Bool) → has_key key e ≡ k → (has_key key e ≡ true → b ≡ true)
-          → find (blocks.has_key key) (map item_row here) ≡ option_map item_row (find (has_key key) es)
-          → find (blocks.has_key key) (map item_row (cond b (e ∷ here) here))
+          → find (blocks.item_has_key key) (map item_row here) ≡ option_map item_row (find (has_key key) es)
+          → find (blocks.item_has_key key) (map item_row (cond b (e ∷ here) here))
           ≡ option_map item_row (cond k (Some e) (find (has_key key) es))
       step true true is same rest =
-          ap (λ t. cond t (Some (item_row e)) (find (blocks.has_key key) (map item_row here))) is
+          ap (λ t. cond t (Some (item_row e)) (find (blocks.item_has_key key) (map item_row here))) is
       step false true is same rest =
-          ap (λ t. cond t (Some (item_row e)) (find (blocks.has_key key) (map item_row here))) is ∙ rest
+          ap (λ t. cond t (Some (item_row e)) (find (blocks.item_has_key key) (map item_row here))) is ∙ rest
       step false false is same rest = rest
       step true false is same rest = absurd (true≢false (sym (same is)))
 

@@ -21,7 +21,7 @@ use Rattle.sdr_model.specs.Steps.{Outcome, gave, taken_addresses}
 use Rattle.sdr_model.specs.World.{World, thing_at}
 use Rattle.sdr_model.specs.declared.call.Call.{Call}
 use Rattle.sdr_model.specs.declared.call.Call.TheVariants as calls
-use Rattle.sdr_answers.specs.Answering.{IsServed}
+use Rattle.sdr_answers.specs.Answering.{IsReady}
 use Rattle.zco_answers.proofs.DemandLemmas.{enough as objects_enough}
 use Rattle.zco_bond_answers.proofs.DemandLemmas.{enough as bond_enough}
 use Rattle.zco_granted.proofs.DemandLemmas.{enough as tickets_enough}
@@ -30,7 +30,7 @@ use Rattle.sdr_served.specs.Serving.{call_lines}
 
 -- a call that is answered by its row asks for as many lines as it touches
 pub enough : (d : Demand) (heap : Heap) (w : World) (call : Call) (o : Outcome) → HeapStandsFor heap w
-    → IsServed w
+    → IsReady w
     → IsSmall heap → ByRow w o call → is_answer o.reply ≡ true
     → most_lines d + call_lines heap w call ≤ most_lines (demand_after d w call o)
 enough d heap w call o s served small row answered =

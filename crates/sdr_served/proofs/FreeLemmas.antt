@@ -1,12 +1,12 @@
 -- A raw object or a string that is given back, as a step.
 use Rattle.std.proofs.Common.{◌≡◌, ◌∙◌, ℕ, List, [], ◌∷◌, inl, inr, Option, Some, None, refl, sym, ap, arith, subst}
-use Rattle.sdr_audit.specs.Shape.{told_of}
+use Rattle.sdr_audit.specs.Shape.{shape_of}
 use Rattle.sdr_audit.specs.Standing.{HeapStandsFor, thing_entries, with_taken_marked}
 use Rattle.sdr_audit.specs.Ties.{IsUntied, ties_of}
 use Rattle.sdr_base.proofs.StandingLemmas.{went}
 use Rattle.sdr_base.specs.Blocks as base
 use Rattle.sdr_base.specs.Blocks.{IsKind, IsOther, kind_length}
-use Rattle.sdr_base.specs.Entries.{Changes, Stands}
+use Rattle.sdr_base.specs.Entries.{Changes, BlocksAre}
 use Rattle.sdr_base.specs.Kinds.{kind_number}
 use Rattle.sdr_base.specs.Making.{besides}
 use Rattle.sdr_base.specs.Objects.{Heap, with_given}
@@ -25,17 +25,17 @@ use Rattle.sdr_model.specs.Steps.{Outcome, without_thing}
 use Rattle.sdr_model.specs.Valid.{IsValid}
 use Rattle.sdr_model.specs.Whole.{IsWhole}
 use Rattle.sdr_model.specs.World.{World, as_raw, as_text, block_at, misnamed, refusal_for, thing_at}
-use Rattle.sdr_model.specs.Zco.{source_on}
+use Rattle.sdr_model.specs.Zco.{source_naming}
 use Rattle.sdr_model.specs.declared.answer.Reply.TheVariants as replies
 use Rattle.sdr_model.specs.declared.call.Call.TheVariants as calls
-use Rattle.sdr_model.specs.declared.things.Block.{Block}
+use Rattle.sdr_model.specs.declared.things.UsedBlock.{UsedBlock}
 use Rattle.sdr_model.specs.declared.things.Thing.{Thing}
 use Rattle.sdr_model.specs.declared.things.Thing.TheVariants as things
 use Rattle.sdr_answers.proofs.KindLemmas.{block_told, no_block}
 use Rattle.sdr_answers.proofs.RawLemmas.{no_raw, raw_is_at}
 use Rattle.sdr_answers.proofs.RowLemmas.{full_refused, gave_back, marks_none, row_refused, thing_went}
 use Rattle.sdr_answers.proofs.TextLemmas.{no_text, text_is_at}
-use Rattle.sdr_answers.specs.Answering.{Answered, IsRefused, IsServed}
+use Rattle.sdr_answers.specs.Answering.{Answered, IsRefused, IsReady}
 use Rattle.sdr_served.specs.Freeing.{IsFree, NamedStops}
 use Rattle.sdr_answers.proofs.ListLemmas.{IsSmall}
 use Rattle.sdr_base.proofs.LayoutLemmas.{number_at-layout}
@@ -65,18 +65,18 @@ one_goes : (heap new : Heap) (addr : ℕ) (x : base.Block) → new ≡ with_give
     → Changes heap.blocks new.blocks ((addr, x) ∷ []) []
 one_goes heap new addr x is = record {
   kept = λ rest s.
-      subst (λ (b : base.Blocks). Stands b rest) (sym (ap (λ (h : Heap). h.blocks) is)) (went heap.blocks addr x [] rest s);
+      subst (λ (b : base.Blocks). BlocksAre b rest) (sym (ap (λ (h : Heap). h.blocks) is)) (went heap.blocks addr x [] rest s);
 }
 
 -- no source of the world names a raw object whose block names none
-unnamed_in : (heap : Heap) (w : World) (addr : ℕ) → heap.moves ≡ [] → HeapStandsFor heap w → IsServed w
-    → IsUnnamed (heap.blocks addr) → source_on w addr ≡ None
+unnamed_in : (heap : Heap) (w : World) (addr : ℕ) → heap.moves ≡ [] → HeapStandsFor heap w → IsReady w
+    → IsUnnamed (heap.blocks addr) → source_naming w addr ≡ None
 unnamed_in heap w addr unmoved s served u =
     let r = named_is_at heap w addr s served u.kind in
-    unnamed_at heap heap w unmoved s served addr (u.none (or_null (source_on w addr)) r.bytes r.keeps)
+    unnamed_at heap heap w unmoved s served addr (u.none (or_null (source_naming w addr)) r.bytes r.keeps)
 
 -- a raw object is
-raw_freeable : (heap : Heap) (w : World) (addr : ℕ) → heap.moves ≡ [] → HeapStandsFor heap w → IsServed w
+raw_freeable : (heap : Heap) (w : World) (addr : ℕ) → heap.moves ≡ [] → HeapStandsFor heap w → IsReady w
     → IsFree (heap.blocks addr) → IsKind (heap.blocks addr) kinds.Raw → IsFreeable heap w addr
 raw_freeable heap w addr unmoved s served free kind =
     let r = raw_is_at heap w addr s served.whole.valid kind in
@@ -85,7 +85,7 @@ raw_freeable heap w addr unmoved s served free kind =
       there = r.there;
       untied = tt;
       row = subst (λ (t : Option Thing). FreesThing w (free_outcome w addr) addr (as_raw t) (as_text t)) (sym r.there)
-          (on_none _ _ (source_on w addr) (unnamed_in heap w addr unmoved s served (free kind))
+          (on_none _ _ (source_naming w addr) (unnamed_in heap w addr unmoved s served (free kind))
           (refl, marks_none (without_thing w addr) (Gave addr ∷ []) refl, refl));
       goes = λ new is. one_goes heap new addr _ is;
     }
@@ -104,14 +104,14 @@ text_freeable heap w addr s whole kind =
       goes = λ new is. one_goes heap new addr _ is;
     }
 
-freeable : (heap : Heap) (w : World) (addr : ℕ) → heap.moves ≡ [] → HeapStandsFor heap w → IsServed w
+freeable : (heap : Heap) (w : World) (addr : ℕ) → heap.moves ≡ [] → HeapStandsFor heap w → IsReady w
     → IsFree (heap.blocks addr) → IsRawOrText (heap.blocks addr) → IsFreeable heap w addr
 freeable heap w addr unmoved s served free (inl raw) = raw_freeable heap w addr unmoved s served free raw
 freeable heap w addr unmoved s served free (inr text) = text_freeable heap w addr s served.whole text
 
 -- what goes is given back
 pub free_answered : (addr : ℕ) (old new : Heap) (w : World) → old.moves ≡ [] → Frees addr old new
-    → IsFree (old.blocks addr) → HeapStandsFor old w → IsServed w → Answered w (calls.Free addr) new [] replies.Done
+    → IsFree (old.blocks addr) → HeapStandsFor old w → IsReady w → Answered w (calls.Free addr) new [] replies.Done
 free_answered addr old new w unmoved frees free s served =
     let f = freeable old w addr unmoved s served free frees.found in
     thing_went w (calls.Free addr) addr f.thing (Gave addr ∷ []) replies.Done old new f.there f.untied s
@@ -134,7 +134,7 @@ neither_row w addr refusal none is =
 
 -- why nothing was given back
 pub free_refused : (addr : ℕ) (old new : Heap) (w : World) (was : List ℕ) (refusal : Refusal) → old.moves ≡ []
-    → IsFree (old.blocks addr) → HeapStandsFor old w → IsServed w
+    → IsFree (old.blocks addr) → HeapStandsFor old w → IsReady w
     → FreeStops (old.blocks addr) addr old new (stops.Refused refusal)
     → IsRefused w (calls.Free addr) old new was was refusal
 free_refused addr old new w was (refusals.BadAddress bad) unmoved free s served m = record {
@@ -160,7 +160,7 @@ free_refused addr old new w was (refusals.WrongKind bad number) unmoved free s s
     kind_in None = kinds.Raw
     kind_in (Some told) = told.0
 
-    other : (f : Option base.Block) (b : Option Block) → old.blocks addr ≡ f → kind_length f ≡ told_of b → IsNeither f number
+    other : (f : Option base.Block) (b : Option UsedBlock) → old.blocks addr ≡ f → kind_length f ≡ shape_of b → IsNeither f number
         → (¬ IsKind (old.blocks addr) kinds.Raw) × (¬ IsKind (old.blocks addr) kinds.Text) ×
         (refusals.WrongKind bad number ≡ refusal_for addr b)
     other None b here same n = absurd n
@@ -182,7 +182,7 @@ free_refused addr old new w was refusal unmoved free s served m = absurd m.1
 
 -- a source names the raw object, and it stays
 pub free_named : (addr : ℕ) (old new : Heap) (w : World) (was : List ℕ) (refusal : Refusal) → old.moves ≡ [] → new ≡ old
-    → IsSmall old → HeapStandsFor old w → IsServed w → NamedStops old.blocks addr (stops.Refused refusal)
+    → IsSmall old → HeapStandsFor old w → IsReady w → NamedStops old.blocks addr (stops.Refused refusal)
     → IsRefused w (calls.Free addr) old new was was refusal
 free_named addr old new w was (refusals.InUse bad count) unmoved same small s served m =
     let r = named_is_at old w addr s served m.1.kind in
@@ -192,7 +192,7 @@ free_named addr old new w was (refusals.InUse bad count) unmoved same small s se
       step =
           inl (row_refused w (calls.Free addr) new (refusals.InUse bad count) (ap (λ (h : Heap). h.moves) same ∙ unmoved)
           (subst (λ (t : Option Thing). FreesThing w o addr (as_raw t) (as_text t)) (sym r.there)
-          (on_some _ _ (source_on w addr) u.0 u.1
+          (on_some _ _ (source_naming w addr) u.0 u.1
           (refl, refl, λ i. replies.Refused (refusals.InUse (m.0 i) (u.2 i))))));
       left = λ reads. same;
       gave = refl;

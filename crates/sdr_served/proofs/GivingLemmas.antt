@@ -1,11 +1,11 @@
 -- What the answer to a call tells of media, by whether it reads them.
 use Rattle.std.proofs.Common.{◌≡◌, ◌∙◌, ℕ, List, [], true, false, true≢false, Option, None, Some, Result, Ok, Err, OnErr, inl, inr, refl, sym, subst, arith}
-use Rattle.sdr_answers.specs.Answering.{Comes, ComesIn, IsServed}
+use Rattle.sdr_answers.specs.Answering.{ComesInEach, ComesIn, IsReady}
 use Rattle.sdr_audit.specs.Standing.{HeapStandsFor}
 use Rattle.sdr_base.proofs.WorksLemmas.{looks_works, works_more, works_ok}
 use Rattle.sdr_base.specs.Media.{Told}
 use Rattle.sdr_base.specs.Objects.{Heap}
-use Rattle.sdr_base.specs.Works.{Looks, Works}
+use Rattle.sdr_base.specs.Works.{Looks, Spends}
 use Rattle.sdr_base.specs.declared.has_heap.HasHeap.{Ghosts as HeapGhosts}
 use Rattle.sdr_base.specs.declared.media.Media.{Ghosts}
 use Rattle.sdr_base.specs.declared.moves.Move.{Move}
@@ -49,13 +49,13 @@ fits_reading call reads = absurd (true≢false (sym reads))
 
 -- so as it looks, it works
 pub works_reading : {T S : Type 0} {m : HeapGhosts S} {a b : S} (result : Result T Stop) (w : World) (call : Call)
-    → reads_media call ≡ true → Looks m a b (past_media result) → Works m (call_lines (m.heap a) w call) a b (past_media result)
+    → reads_media call ≡ true → Looks m a b (past_media result) → Spends m (call_lines (m.heap a) w call) a b (past_media result)
 works_reading {m = m} {a = a} result w call reads l =
     works_more (looks_works l) (let none = media_lines (m.heap a) w call reads in omega (arith, none))
 
 -- a stop of a call on blocks alone is none of media
-works_stopped : {T S : Type 0} {m : HeapGhosts S} {lines : ℕ} {a b : S} (stop : Stop) → Works {T = T} m lines a b (Err stop)
-    → Works m lines a b (past_stop stop)
+works_stopped : {T S : Type 0} {m : HeapGhosts S} {lines : ℕ} {a b : S} (stop : Stop) → Spends {T = T} m lines a b (Err stop)
+    → Spends m lines a b (past_stop stop)
 works_stopped (stops.Refused refusal) w = record {
   kept = w.kept;
   moved = w.moved;
@@ -80,8 +80,8 @@ works_stopped stops.Failed w = record {
 }
 
 -- so media have no part in what it works
-pub works_past : {T S : Type 0} {m : HeapGhosts S} {lines : ℕ} {a b : S} (result : Result T Stop) → Works m lines a b result
-    → Works m lines a b (past_media result)
+pub works_past : {T S : Type 0} {m : HeapGhosts S} {lines : ℕ} {a b : S} (result : Result T Stop) → Spends m lines a b result
+    → Spends m lines a b (past_media result)
 works_past (Ok value) w = works_ok w
 works_past (Err stop) w = works_stopped stop w
 
@@ -120,7 +120,7 @@ never_short w moves after have want call none (inr s) = true≢false (sym s.stop
 -- so it tells nothing of them
 module _ {M S : Type 0} (m : Ghosts M) (h : HeapGhosts S) (a b : S) (w : World) (call : Call) (was shown : List ℕ) (media : M)
     (none : reads_media call ≡ false) where
-  unread_misses : (lines : ℕ) (result : Result Reply Stop) → ComesIn w call (h.heap a) (h.heap b) was shown result → Works h lines a b result
+  unread_misses : (lines : ℕ) (result : Result Reply Stop) → ComesIn w call (h.heap a) (h.heap b) was shown result → Spends h lines a b result
       → MissesMedia m w call media media result
   unread_misses lines (Ok reply) comes works = tt
   unread_misses lines (Err (stops.Refused (refusals.SourceShort have want))) comes works =
@@ -129,13 +129,13 @@ module _ {M S : Type 0} (m : Ghosts M) (h : HeapGhosts S) (a b : S) (w : World) 
   unread_misses lines (Err stops.MediaFault) comes works = absurd works.cause.explained
   unread_misses lines (Err stop) comes works = tt
 
-  never_fails : (lines : ℕ) (result : Result Reply Stop) → result ≡ Err stops.MediaFault → Works h lines a b result → ⊥
+  never_fails : (lines : ℕ) (result : Result Reply Stop) → result ≡ Err stops.MediaFault → Spends h lines a b result → ⊥
   never_fails lines result failed works =
-      (subst (λ (r : Result Reply Stop). Works h lines a b r) failed works).cause.explained
+      (subst (λ (r : Result Reply Stop). Spends h lines a b r) failed works).cause.explained
 
 pub tells_unread : {M S : Type 0} (m : Ghosts M) (h : HeapGhosts S) (lines : World → ℕ) (a b : S) (call : Call) (was shown : List ℕ)
-    (media : M) (result : Result Reply Stop) → reads_media call ≡ false → Comes call (h.heap a) (h.heap b) was shown result
-    → ((w : World) → HeapStandsFor (h.heap a) w → IsServed w → Works h (lines w) a b result)
+    (media : M) (result : Result Reply Stop) → reads_media call ≡ false → ComesInEach call (h.heap a) (h.heap b) was shown result
+    → ((w : World) → HeapStandsFor (h.heap a) w → IsReady w → Spends h (lines w) a b result)
     → TellsInEach m call (h.heap a) (h.heap b) was shown media media result
 tells_unread m h lines a b call was shown media result none comes works = record {
   each = λ w stands served.

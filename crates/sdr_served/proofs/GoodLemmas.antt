@@ -8,7 +8,7 @@ use Rattle.sdr_answers.proofs.SpotLemmas.{spot_is_at}
 use Rattle.sdr_served.proofs.TableLemmas.{table_is_at}
 use Rattle.sdr_answers.proofs.TextLemmas.{text_is_at}
 use Rattle.sdr_answers.specs.Answering as answers
-use Rattle.sdr_answers.specs.Answering.{IsServed}
+use Rattle.sdr_answers.specs.Answering.{IsReady}
 use Rattle.sdr_served.specs.Serving.{IsGood}
 use Rattle.zco_answers.proofs.GoodLemmas.{good_of as objects_good}
 use Rattle.zco_cut_answers.proofs.GoodLemmas.{to_cut as object_to_cut}
@@ -24,11 +24,11 @@ use Rattle.sdr_base.specs.Blocks.{IsKind}
 use Rattle.sdr_base.specs.Objects.{Heap}
 use Rattle.sdr_base.specs.Raws.{raw_block}
 use Rattle.sdr_base.specs.declared.kind.Kind.TheVariants as kinds
-use Rattle.sdr_heap.specs.Raw.{IsWhole}
+use Rattle.sdr_heap.specs.Raw.{HasSourceWord}
 use Rattle.sdr_model.specs.World.{World}
 
 -- a raw object's block has its source word
-raws_good : (heap : Heap) (w : World) → HeapStandsFor heap w → IsServed w → (addr : ℕ) → IsWhole (heap.blocks addr)
+raws_good : (heap : Heap) (w : World) → HeapStandsFor heap w → IsReady w → (addr : ℕ) → HasSourceWord (heap.blocks addr)
 raws_good heap w s served addr =
     by (heap.blocks addr) (λ kind. let r = raw_is_at heap w addr s served.whole.valid kind in (r.bytes, r.block))
   where
@@ -36,7 +36,7 @@ raws_good heap w s served addr =
     named_by = (ties_of w).named_by addr
 
     by : (found : Option base.Block) → (IsKind found kinds.Raw → (bytes : List ℕ) × (found ≡ Some (raw_block named_by bytes)))
-        → IsWhole found
+        → HasSourceWord found
     by None raws = tt
     by (Some block) raws =
         λ kind.
@@ -44,7 +44,7 @@ raws_good heap w s served addr =
         let same : raw_block named_by r.0 ≡ block = cc in
         subst (λ (b : base.Block). 8 ≤ length b.bytes) same (omega (arith, length_of_raw named_by r.0))
 
-things_good : (heap : Heap) (w : World) → HeapStandsFor heap w → IsServed w → IsSmall heap → answers.IsGood heap
+things_good : (heap : Heap) (w : World) → HeapStandsFor heap w → IsReady w → IsSmall heap → answers.IsGood heap
 things_good heap w s served small = record {
   raws = raws_good heap w s served;
   strings = λ addr kind. let t = text_is_at heap w addr s served.whole.valid kind in record { text = t.text; keeps = t.keeps };
@@ -56,7 +56,7 @@ things_good heap w s served small = record {
 }
 
 -- so are sources, queues and objects
-pub good_of : (heap : Heap) (w : World) → HeapStandsFor heap w → IsServed w → IsSmall heap → IsGood heap
+pub good_of : (heap : Heap) (w : World) → HeapStandsFor heap w → IsReady w → IsSmall heap → IsGood heap
 good_of heap w s served small = record {
   things = things_good heap w s served small;
   sources = sources_good heap w s served small;

@@ -4,7 +4,7 @@ use Rattle.std.specs.Prelude.{remove}
 use Rattle.sdr_served.proofs.BucketChanges.{inserted_is, removed_is, revised_is}
 use Rattle.sdr_served.proofs.HashLemmas.{IsHashAt, addrs_are, hash_is_at}
 use Rattle.sdr_answers.proofs.RowLemmas.{full_refused, gave_back, gave_takes, marks_none, moved_nothing, row_refused, short_refused, thing_changed, thing_went, took_one}
-use Rattle.sdr_answers.specs.Answering.{Aim, Answered, IsRefused, IsServed}
+use Rattle.sdr_answers.specs.Answering.{Aim, Answered, IsRefused, IsReady}
 use Rattle.sdr_audit.specs.Rows.{hash_row}
 use Rattle.sdr_audit.specs.Standing.{HeapStandsFor, with_taken_marked}
 use Rattle.sdr_base.specs.Entries.{Changes}
@@ -20,7 +20,7 @@ use Rattle.sdr_hash.specs.Calls.{ChangeStops, InsertStops, InsertsKey, LacksKey,
 use Rattle.sdr_hash.specs.Destroying.{DestroyStops, DestroysHash}
 use Rattle.sdr_lock.proofs.WorkLemmas.{on_none, on_some}
 use Rattle.sdr_model.specs.HashChanges.{with_entry}
-use Rattle.sdr_model.specs.HashSteps.{OnKey, addr_of, as_hash, entry_addr, has_key, value_at, value_of}
+use Rattle.sdr_model.specs.HashSteps.{OnKey, entry_addr_or_zero, as_hash, entry_addr, has_key, value_at, value_of}
 use Rattle.sdr_model.specs.Hashes.{Hash}
 use Rattle.sdr_model.specs.Reading.{is_reading}
 use Rattle.sdr_model.specs.Rows.{ByRow}
@@ -46,7 +46,7 @@ insert_outcome w addr hash key value block = record {
 }
 
 -- a call on a heap that stands for a world in which it is served
-module _ (old new : Heap) (w : World) (unmoved : old.moves ≡ []) (s : HeapStandsFor old w) (served : IsServed w) where
+module _ (old new : Heap) (w : World) (unmoved : old.moves ≡ []) (s : HeapStandsFor old w) (served : IsReady w) where
   -- a key came
   insert_row : (addr : ℕ) (key : List ℕ) (value block : ℕ) (h : IsHashAt old w addr) → LacksKey old.blocks addr key
       → ByRow w (insert_outcome w addr h.hash key value block) (calls.HashInsert addr key value)
@@ -125,7 +125,7 @@ module _ (old new : Heap) (w : World) (unmoved : old.moves ≡ []) (s : HeapStan
       let same : hash_row (revised_hash hash key value place) ≡ with_value (hash_row hash) key value =
       ap (λ (b : ℕ). hash_row (record hash {
         entries = set hash.entries place (record { block = b; key = key; value = value });
-      })) (ap addr_of k.told.keyed.there)
+      })) (ap entry_addr_or_zero k.told.keyed.there)
       ∙ revised_is hash key k.at.valid.buckets.0 place k.told.keyed value in
       thing_changed w (calls.HashRevise addr key value) addr (things.Hash hash)
       (things.Hash (revised_hash hash key value place)) [] replies.Done old new k.at.there tt tt s
@@ -161,7 +161,7 @@ module _ (old new : Heap) (w : World) (unmoved : old.moves ≡ []) (s : HeapStan
       let hash = k.at.hash in
       let place = k.told.place in
       let block = entry_addr hash.entries place in
-      let same : removes.has.addr ≡ block = sym (ap addr_of k.told.keyed.there ∙ k.told.told) in
+      let same : removes.has.addr ≡ block = sym (ap entry_addr_or_zero k.told.keyed.there ∙ k.told.told) in
       let made : Made (gave (block ∷ [])) old new = subst (λ (b : ℕ). Made (gave (b ∷ [])) old new) same removes.made in
       thing_changed w (calls.HashRemove addr key) addr (things.Hash hash) (things.Hash (shorter_hash hash place))
       (gave (block ∷ [])) replies.Done old new k.at.there tt tt s (gave_back w (block ∷ []) old new unmoved made)

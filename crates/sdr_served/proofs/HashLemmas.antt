@@ -8,7 +8,7 @@ use Rattle.std.proofs.lemmas.Simd.{map-map}
 use Rattle.std.specs.List.{range_with_len}
 use Rattle.sdr_answers.proofs.KindLemmas.{own_in_use, thing_is_at}
 use Rattle.sdr_answers.proofs.ListLemmas.{IsSmall}
-use Rattle.sdr_answers.specs.Answering.{IsServed}
+use Rattle.sdr_answers.specs.Answering.{IsReady}
 use Rattle.sdr_audit.proofs.ChangeLemmas.{apart}
 use Rattle.sdr_audit.proofs.ThingShapes.{thing_shapes}
 use Rattle.sdr_audit.specs.Rows.{bucket_row, hash_row, item_row}
@@ -33,7 +33,7 @@ use Rattle.sdr_model.specs.RowMoves as moves
 use Rattle.sdr_model.specs.Things.{entry_block, own_block}
 use Rattle.sdr_model.specs.Valid.{IsValid, IsValidHash, IsValidThing}
 use Rattle.sdr_model.specs.World.{World, thing_at}
-use Rattle.sdr_model.specs.declared.things.Block.{Block}
+use Rattle.sdr_model.specs.declared.things.UsedBlock.{UsedBlock}
 use Rattle.sdr_model.specs.declared.things.HashEntry.{HashEntry}
 use Rattle.sdr_model.specs.declared.things.Thing.{Thing}
 use Rattle.sdr_model.specs.declared.things.Thing.TheVariants as things
@@ -73,7 +73,7 @@ hash_fits hash valid fits =
         }
 
 -- the blocks of a hash of the world keep it
-pub hash_kept : (heap : Heap) (w : World) (addr : ℕ) (hash : Hash) → HeapStandsFor heap w → IsServed w
+pub hash_kept : (heap : Heap) (w : World) (addr : ℕ) (hash : Hash) → HeapStandsFor heap w → IsReady w
     → thing_at w addr ≡ Some (things.Hash hash) → IsHashAt heap w addr
 hash_kept heap w addr hash s served there =
     let a = apart addr (things.Hash hash) s there in
@@ -91,7 +91,7 @@ own_hash addr (things.Hash hash) is = (hash, refl)
 own_hash addr thing is = absurd cc
 
 -- a block in use of the kind of hashes is a hash's
-pub hash_is_at : (heap : Heap) (w : World) (addr : ℕ) → HeapStandsFor heap w → IsServed w → IsKind (heap.blocks addr) kinds.Hash
+pub hash_is_at : (heap : Heap) (w : World) (addr : ℕ) → HeapStandsFor heap w → IsReady w → IsKind (heap.blocks addr) kinds.Hash
     → IsHashAt heap w addr
 hash_is_at heap w addr s served kind =
     let t = thing_is_at heap w addr kinds.Hash s served.whole.valid refl kind in
@@ -124,7 +124,7 @@ bucket_addrs (items ∷ buckets) =
     ∙ ap (λ (addrs : List ℕ). map item_addr items ++ addrs) (bucket_addrs buckets)
 
 -- the blocks of the entries, without the hash's own
-abbrev rest_of : List Block → List Block
+abbrev rest_of : List UsedBlock → List UsedBlock
 rest_of [] = []
 rest_of (b ∷ bs) = bs
 
@@ -140,14 +140,14 @@ module _ (hash : Hash) (valid : IsValidHash hash) where
   pub addrs_are : addrs_in (hash_row hash).buckets ≡ map (λ (e : HashEntry). e.block) hash.entries
   addrs_are =
       sym (bucket_addrs (hash_row hash).buckets)
-      ∙ sym (map-map (λ (b : Block). b.addr) shape entries)
-      ∙ ap (map (λ (b : Block). b.addr)) shapes_are
-      ∙ map-map (λ (b : Block). b.addr) entry_block hash.entries
+      ∙ sym (map-map (λ (b : UsedBlock). b.addr) shape entries)
+      ∙ ap (map (λ (b : UsedBlock). b.addr)) shapes_are
+      ∙ map-map (λ (b : UsedBlock). b.addr) entry_block hash.entries
 
   -- their count
   pub count_is : sum_by length (hash_row hash).buckets ≡ length hash.entries
   count_is =
-      let same : length (map shape entries) ≡ length (map entry_block hash.entries) = ap (λ (bs : List Block). length bs) shapes_are in
+      let same : length (map shape entries) ≡ length (map entry_block hash.entries) = ap (λ (bs : List UsedBlock). length bs) shapes_are in
       omega (
         arith,
         same,
@@ -182,7 +182,7 @@ by_kind heap addr P none some = by (heap.blocks addr) refl
     by (Some block) here = of_kind block block.kind here refl
 
 -- as many entries as its block tells are the world's at least
-pub entries_are : (heap : Heap) (w : World) (addr : ℕ) → HeapStandsFor heap w → IsServed w → IsSmall heap
+pub entries_are : (heap : Heap) (w : World) (addr : ℕ) → HeapStandsFor heap w → IsReady w → IsSmall heap
     → entries_in (heap.blocks addr) ≤ length (moves.entries_in (as_hash (thing_at w addr)))
 entries_are heap w addr s served small =
     by_kind heap addr (λ n. n ≤ length (moves.entries_in (as_hash (thing_at w addr)))) (omega arith) (λ kind.

@@ -3,7 +3,7 @@ use Rattle.std.proofs.Common.{◌≡◌, ◌∙◌, ◌<◌, ◌⊎◌, ℕ, Lis
 use Rattle.std.proofs.lemmas.Bool.Decides.{nat_tests}
 use Rattle.sdr_served.proofs.BucketChanges.{empty_is}
 use Rattle.sdr_answers.proofs.RowLemmas.{row_refused, short_refused, thing_made}
-use Rattle.sdr_answers.specs.Answering.{Answered, IsRefused, IsServed}
+use Rattle.sdr_answers.specs.Answering.{Answered, IsRefused, IsReady}
 use Rattle.sdr_audit.specs.Standing.{HeapStandsFor, with_taken_marked}
 use Rattle.sdr_base.specs.Hashes.{hash_entries}
 use Rattle.sdr_base.specs.Making.{MakesThing}
@@ -60,7 +60,7 @@ hash_made_row w key_length buckets addr shape =
     on_false _ _ _ (key_fits key_length shape.key) (on_false _ _ _ (count_fits buckets shape.count) (refl, (refl, refl)))
 
 -- a call on a heap that stands for a world in which it is served
-module _ (old new : Heap) (w : World) (unmoved : old.moves ≡ []) (s : HeapStandsFor old w) (served : IsServed w) where
+module _ (old new : Heap) (w : World) (unmoved : old.moves ≡ []) (s : HeapStandsFor old w) (served : IsReady w) where
   -- a hash was made
   pub hash_made : (key_length buckets addr : ℕ) → MakesHash key_length buckets addr old new
       → Answered w (calls.Hash key_length buckets) new [] (replies.At addr)

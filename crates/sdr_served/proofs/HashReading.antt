@@ -6,7 +6,7 @@ use Rattle.sdr_served.proofs.BucketChanges.{item_is}
 use Rattle.sdr_served.proofs.BucketLemmas.{IsKeyed, keyed_at, none_keyed}
 use Rattle.sdr_served.proofs.HashLemmas.{IsHashAt, count_is, hash_is_at, no_hash}
 use Rattle.sdr_answers.proofs.RowLemmas.{looked, misnamed_refused, row_refused, shows, unmoved_answered}
-use Rattle.sdr_answers.specs.Answering.{Answered, IsRefused, IsServed}
+use Rattle.sdr_answers.specs.Answering.{Answered, IsRefused, IsReady}
 use Rattle.sdr_audit.specs.Rows.{hash_row, item_row}
 use Rattle.sdr_audit.specs.Standing.{HeapStandsFor}
 use Rattle.sdr_base.specs.Hashes.{HashItem, HashRow}
@@ -16,7 +16,7 @@ use Rattle.sdr_base.specs.declared.refusal.Refusal.{Refusal}
 use Rattle.sdr_base.specs.declared.refusal.Refusal.TheVariants as refusals
 use Rattle.sdr_base.specs.declared.stop.Stop.TheVariants as stops
 use Rattle.sdr_hash.specs.Buckets.{item_of}
-use Rattle.sdr_hash.specs.Calls.{CountsEntries, FindStops, FindsKey, IsKeyOf, LacksBucket, LacksKey, told_of}
+use Rattle.sdr_hash.specs.Calls.{CountsEntries, FindStops, FindsKey, IsKeyOf, LacksBucket, LacksKey, item_told}
 use Rattle.sdr_hash.specs.Kept.{KeepsHash}
 use Rattle.sdr_lock.proofs.WorkLemmas.{on_false, on_none, on_some, on_true}
 use Rattle.sdr_model.specs.HashSteps.{OnHash, OnKey, as_hash, has_key, value_at, value_of}
@@ -36,11 +36,11 @@ pub record IsTold (hash : Hash) (key : List ℕ) (f : HashItem → ℕ) (n : ℕ
   pub told : f (item_row keyed.entry) ≡ n
 
 told_at : (hash : Hash) (key : List ℕ) (f : HashItem → ℕ) (n : ℕ) → 1 ≤ hash.buckets
-    → told_of f (item_of (hash_row hash) key) ≡ Some n → IsTold hash key f n
+    → item_told f (item_of (hash_row hash) key) ≡ Some n → IsTold hash key f n
 told_at hash key f n some told = by (position (has_key key) hash.entries) refl
   where
-    there : (found : Option HashEntry) → find (has_key key) hash.entries ≡ found → told_of f (option_map item_row found) ≡ Some n
-    there found is = sym (ap (told_of f) (item_is hash key some ∙ ap (option_map item_row) is)) ∙ told
+    there : (found : Option HashEntry) → find (has_key key) hash.entries ≡ found → item_told f (option_map item_row found) ≡ Some n
+    there found is = sym (ap (item_told f) (item_is hash key some ∙ ap (option_map item_row) is)) ∙ told
 
     by : (o : Option ℕ) → position (has_key key) hash.entries ≡ o → IsTold hash key f n
     by None at = absurd (let no : None ≡ Some n = there None (none_keyed hash key at) in cc)
@@ -76,9 +76,9 @@ pub record IsKeyAt (old : Heap) (w : World) (addr : ℕ) (key : List ℕ) (f : H
   pub is : IsKeyOf old.blocks addr key
   pub told : IsTold at.hash key f n
 
-pub key_at : (old : Heap) (w : World) (addr : ℕ) (key : List ℕ) (f : HashItem → ℕ) (n : ℕ) → HeapStandsFor old w → IsServed w
+pub key_at : (old : Heap) (w : World) (addr : ℕ) (key : List ℕ) (f : HashItem → ℕ) (n : ℕ) → HeapStandsFor old w → IsReady w
     → IsKeyOf old.blocks addr key
-    → ((row : HashRow) → KeepsHash old.blocks addr row → told_of f (item_of row key) ≡ Some n)
+    → ((row : HashRow) → KeepsHash old.blocks addr row → item_told f (item_of row key) ≡ Some n)
     → IsKeyAt old w addr key f n
 key_at old w addr key f n s served is told =
     let h = hash_is_at old w addr s served is.kind in
@@ -91,7 +91,7 @@ on_key old w addr key f n o goes k goes_on =
     (on_some _ _ (position (has_key key) k.at.hash.entries) k.told.place k.told.keyed.at goes_on)
 
 -- a call on a heap that stands for a world in which it is served
-module _ (old new : Heap) (w : World) (unmoved : old.moves ≡ []) (s : HeapStandsFor old w) (served : IsServed w) where
+module _ (old new : Heap) (w : World) (unmoved : old.moves ≡ []) (s : HeapStandsFor old w) (served : IsReady w) where
   -- the address of what is no hash is refused
   pub hash_missed : (call : Call) (addr : ℕ) (goes : Outcome → Hash → Type 0) (was : List ℕ) (refusal : Refusal) → new ≡ old
       → ((o : Outcome) → On w o addr (as_hash (thing_at w addr)) (goes o) → ByRow w o call)

@@ -7,7 +7,7 @@ use Rattle.std.specs.Option.{option_map}
 use Rattle.std.specs.Prelude.{slice_get}
 use Rattle.sdr_served.proofs.NameLemmas.{find_is, names_kept, names_roots, without_is}
 use Rattle.sdr_answers.proofs.RowLemmas.{full_refused, gave_has, marks_none, moved_answered, row_refused, short_refused, shows, took_has, unmoved_answered}
-use Rattle.sdr_answers.specs.Answering.{Answered, IsRefused, IsServed}
+use Rattle.sdr_answers.specs.Answering.{Answered, IsRefused, IsReady}
 use Rattle.sdr_audit.proofs.ChangeLemmas.{part_becomes}
 use Rattle.sdr_audit.proofs.PartLemmas.{names_part}
 use Rattle.sdr_audit.specs.Rows.{name_row}
@@ -20,8 +20,8 @@ use Rattle.sdr_base.specs.declared.moves.Move.TheVariants.{Gave, Took}
 use Rattle.sdr_base.specs.declared.refusal.Refusal.{Refusal}
 use Rattle.sdr_base.specs.declared.refusal.Refusal.TheVariants as refusals
 use Rattle.sdr_base.specs.declared.stop.Stop.TheVariants as stops
-use Rattle.sdr_cat.specs.Calls.{EntryStops, FindStops, FindsName, LacksName, ReadsEntry, told_of}
-use Rattle.sdr_cat.specs.Changes.{CataloguesName, CatlgStops, IsThere, Renamed, UncataloguesName, UncatlgStops, addr_of, object_of, with_last, with_names}
+use Rattle.sdr_cat.specs.Calls.{EntryStops, FindStops, FindsName, LacksName, ReadsEntry, row_told}
+use Rattle.sdr_cat.specs.Changes.{CataloguesName, CatlgStops, IsThere, Renamed, UncataloguesName, UncatlgStops, row_addr, object_of, with_last, with_names}
 use Rattle.sdr_cat.specs.Kept.{NameFits, SomeNames}
 use Rattle.sdr_cat.specs.Names as blocks
 use Rattle.sdr_cat.specs.Names.{IsBadName, IsName, is_named}
@@ -61,7 +61,7 @@ entry_short heap place value into some reads =
     omega (arith, has.read.length, fits.short)
 
 -- a call on a heap that stands for a world in which it is served
-module _ (old new : Heap) (w : World) (unmoved : old.moves ≡ []) (s : HeapStandsFor old w) (served : IsServed w) where
+module _ (old new : Heap) (w : World) (unmoved : old.moves ≡ []) (s : HeapStandsFor old w) (served : IsReady w) where
   -- a name that isn't there, and one that is
   module _ (o : Outcome) (name : List ℕ) (missing : Type 0) (there : Name → Type 0) where
     on_lacked : IsName name → name_of w.names name ≡ None → missing → OnName w o name missing there
@@ -100,7 +100,7 @@ module _ (old new : Heap) (w : World) (unmoved : old.moves ≡ []) (s : HeapStan
   pub find_answered : (name : List ℕ) (told : ℕ × ℕ) → new ≡ old → FindsName name old told
       → Answered w (calls.Find name) new [] (replies.Pair told.0 told.1)
   find_answered name told same finds =
-      let n = has_name name told_of told refl (finds.tells (map name_row w.names) (names_kept old w s served)) in
+      let n = has_name name row_told told refl (finds.tells (map name_row w.names) (names_kept old w s served)) in
       let is : (n.0.kind, n.0.object) ≡ told = some_is n.2 in
       unmoved_answered w (record w {
         shown =
@@ -211,7 +211,7 @@ module _ (old new : Heap) (w : World) (unmoved : old.moves ≡ []) (s : HeapStan
   -- the name that is there
   there_name : (name : List ℕ) (t : IsThere name old) → (n : Name) × (name_of w.names name ≡ Some n) × (n.block ≡ t.addr)
   there_name name t =
-      let n = has_name name addr_of t.addr refl (t.entry (map name_row w.names) (names_kept old w s served)) in
+      let n = has_name name row_addr t.addr refl (t.entry (map name_row w.names) (names_kept old w s served)) in
       (n.0, n.1, some_is n.2)
     where
       some_is : {A : Type 0} {x y : A} → Some x ≡ Some y → x ≡ y

@@ -6,7 +6,7 @@ use Rattle.std.specs.Prelude.{All, nat_eq, replicate}
 use Rattle.std.specs.List.{AllByRecursion}
 use Rattle.std.proofs.lemmas.Bool.Decides.{nat_tests}
 use Rattle.std.proofs.lemmas.List.Elements.{All-cons, All-head, All-nil, All-tail}
-use Rattle.sdr_answers.specs.Answering.{IsServed}
+use Rattle.sdr_answers.specs.Answering.{IsReady}
 use Rattle.sdr_audit.proofs.GroupLemmas.{each_of}
 use Rattle.sdr_audit.proofs.PartLemmas.{names_part}
 use Rattle.sdr_audit.specs.Rows.{name_row}
@@ -49,7 +49,7 @@ fit_names (n ∷ ns) fits short =
     (fit_names ns (All-tail FitsName n ns fits) short.1)
 
 -- the heap keeps the world's catalogue
-pub names_kept : (heap : Heap) (w : World) → HeapStandsFor heap w → IsServed w → KeepsNames heap (map name_row w.names)
+pub names_kept : (heap : Heap) (w : World) → HeapStandsFor heap w → IsReady w → KeepsNames heap (map name_row w.names)
 names_kept heap w s served =
     let swap = names_part w w.names in
     record {

@@ -18,7 +18,7 @@ use Rattle.sdr_model.specs.Accounts.{account_of, most_amount, pending_in, ticket
 use Rattle.sdr_model.specs.Amounts.{amounts_by, first_above, in_space, minus}
 use Rattle.sdr_model.specs.BondSteps.{bond_charge, bond_moves, bonded, capsules_of, with_bonded}
 use Rattle.sdr_model.specs.Charges.{bytes_charge, capsule_bytes, object_bytes, object_charge, rooms}
-use Rattle.sdr_model.specs.Charging.{Charges, grant_left, no_space, with_used}
+use Rattle.sdr_model.specs.Charging.{Charges, grant_left, no_space, with_covered}
 use Rattle.sdr_model.specs.Cuts.{placed}
 use Rattle.sdr_model.specs.Gone.{gone_things, without_things}
 use Rattle.sdr_model.specs.Limits.{is_no_capsule, is_no_path, longest_source}
@@ -30,7 +30,7 @@ use Rattle.sdr_model.specs.SourceSteps.{new_source}
 use Rattle.sdr_model.specs.Steps.{DoesWith, Outcome, RefusedFor, Takes, taken_at, with_thing, without_thing}
 use Rattle.sdr_model.specs.Things.{capsule_need, extent_need, object_need}
 use Rattle.sdr_model.specs.World.{World, as_raw, thing_at}
-use Rattle.sdr_model.specs.Zco.{empty_object, extents_length, object_at, owned_raw, source_at, source_on, space_of, uses_of}
+use Rattle.sdr_model.specs.Zco.{empty_object, extents_length, object_at, owned_raw, source_at, source_naming, space_of, uses_of}
 use Rattle.sdr_model.specs.declared.accounts.Accounts.{Accounts}
 use Rattle.sdr_model.specs.declared.accounts.Pending.{Pending}
 use Rattle.sdr_model.specs.declared.accounts.Ticket.{Ticket}
@@ -72,7 +72,8 @@ gone_next w p = by p.acct
     by accts.Inbound = refl
     by accts.Outbound = refl
 
-used_next : (w : World) (found : Option Pending) (amounts : Amounts) → next_of (with_used w found amounts) ≡ next_of w
+used_next : (w : World) (found : Option Pending) (amounts : Amounts) → next_of (with_covered w found amounts)
+    ≡ next_of w
 used_next w None amounts = refl
 used_next w (Some p) amounts = by p.acct
   where
@@ -108,7 +109,7 @@ module _ (w : World) (o : Outcome) where
       on : (p : Option Pending)
           → RefusedFor w o (barrier (minus (amounts_by charge) (grant_left p)) (tickets_of w.accounts acct)) (λ t. refusals.Queue t.number)
           (RefusedFor w o (first_above (minus (amounts_by charge) (grant_left p)) (rooms w acct))
-          (no_space w acct (minus (amounts_by charge) (grant_left p))) (goes (with_used w p (amounts_by charge))))
+          (no_space w acct (minus (amounts_by charge) (grant_left p))) (goes (with_covered w p (amounts_by charge))))
           → next_of w ≤ next_of o.after
       on p h =
           let uncovered = minus (amounts_by charge) (grant_left p) in
@@ -153,7 +154,7 @@ module _ (w : World) (o : Outcome) where
       (λ _ h. in_takes_one o.moves _ _ h (λ addr p. same_next _ p.0 refl))
   next_kept (calls.ObjRef raw) row =
       from_option (as_raw (thing_at w raw)) row (λ _ h. same_next _ h.1 refl) (λ bytes _ h.
-      from_option (source_on w raw) h (λ _ h. in_takes_one o.moves _ _ h (λ addr p. same_next _ p.0 refl))
+      from_option (source_naming w raw) h (λ _ h. in_takes_one o.moves _ _ h (λ addr p. same_next _ p.0 refl))
       (λ source _ h. same_next _ h.1 refl))
   next_kept (calls.DestroyRef addr) row =
       from_option (source_at w addr) row (λ _ h. same_next _ h.1 refl) (λ source _ h.
@@ -181,7 +182,7 @@ module _ (w : World) (o : Outcome) where
       from_option (object_at w addr) row (λ _ h. same_next _ h.1 refl) (λ z _ h.
       from_option (source_at w named) h (λ _ h.
       from_option (as_raw (thing_at w named)) h (λ _ h. same_next _ h.1 refl) (λ text _ h.
-      from_option (source_on w named) h (λ _ h.
+      from_option (source_naming w named) h (λ _ h.
       from_test (bytes == 0 || nat_lt (length text) (offset + bytes)) h (λ _ h. same_next _ h.1 refl) (λ _ h.
       charged_next z.account number (bytes_charge spaces.Heap bytes) _ h (λ used same h.
       does_next raw_append_moves

@@ -4,7 +4,7 @@ use Rattle.std.specs.Prelude.{replicate}
 use Rattle.std.proofs.lemmas.Bool.Decides.{nat_tests}
 use Rattle.sdr_answers.proofs.RowLemmas.{full_refused, gave_back, looked, marks_none, misnamed_refused, moved_nothing, row_refused, short_refused, shows, thing_changed, thing_made, thing_went, unmoved_answered}
 use Rattle.sdr_served.proofs.TableLemmas.{IsTableAt, no_table, table_is_at}
-use Rattle.sdr_answers.specs.Answering.{Answered, IsRefused, IsServed}
+use Rattle.sdr_answers.specs.Answering.{Answered, IsRefused, IsReady}
 use Rattle.sdr_audit.specs.Rows.{table_row}
 use Rattle.sdr_audit.specs.Standing.{HeapStandsFor, with_taken_marked}
 use Rattle.sdr_base.specs.Objects.{Heap, Misses}
@@ -83,7 +83,7 @@ above_row w rows size user length most first is =
     by false false false one two three here = absurd cc
 
 -- a call on a heap that stands for a world in which it is served
-module _ (old new : Heap) (w : World) (unmoved : old.moves ≡ []) (s : HeapStandsFor old w) (served : IsServed w) where
+module _ (old new : Heap) (w : World) (unmoved : old.moves ≡ []) (s : HeapStandsFor old w) (served : IsReady w) where
   pub table_made : (rows size user addr : ℕ) → MakesTable rows size user addr old new
       → Answered w (calls.Table rows size user) new [] (replies.At addr)
   table_made rows size user addr made =

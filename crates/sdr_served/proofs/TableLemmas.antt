@@ -3,7 +3,7 @@ use Rattle.std.proofs.Common.{◌≡◌, ◌∙◌, ◌≤◌, ◌*◌, ℕ, [],
 use Rattle.std.specs.Prelude.{IfSome}
 use Rattle.std.proofs.lemmas.Bool.Decides.{nat_tests}
 use Rattle.sdr_answers.proofs.KindLemmas.{own_in_use, thing_is_at}
-use Rattle.sdr_answers.specs.Answering.{IsServed}
+use Rattle.sdr_answers.specs.Answering.{IsReady}
 use Rattle.sdr_audit.proofs.ChangeLemmas.{apart}
 use Rattle.sdr_audit.specs.Rows.{table_row}
 use Rattle.sdr_audit.specs.Standing.{HeapStandsFor}
@@ -45,7 +45,7 @@ own_table addr (things.Table table) is = (table, refl)
 own_table addr thing is = absurd cc
 
 -- a block in use of the kind of tables is a table's
-pub table_is_at : (heap : Heap) (w : World) (addr : ℕ) → HeapStandsFor heap w → IsServed w → IsKind (heap.blocks addr) kinds.Table
+pub table_is_at : (heap : Heap) (w : World) (addr : ℕ) → HeapStandsFor heap w → IsReady w → IsKind (heap.blocks addr) kinds.Table
     → IsTableAt heap w addr
 table_is_at heap w addr s served kind =
     let t = thing_is_at heap w addr kinds.Table s served.whole.valid refl kind in

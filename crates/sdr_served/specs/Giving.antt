@@ -1,6 +1,6 @@
 -- What the answer to a call tells of media.
 use Rattle.std.specs.Prelude.{◌≡◌, ℕ, true, List, Result, Err}
-use Rattle.sdr_answers.specs.Answering.{IsServed}
+use Rattle.sdr_answers.specs.Answering.{IsReady}
 use Rattle.sdr_audit.specs.Standing.{HeapStandsFor}
 use Rattle.sdr_base.specs.Objects.{Heap}
 use Rattle.sdr_base.specs.declared.media.Media.{Ghosts}
@@ -23,4 +23,4 @@ pub record TellsMedia {M : Type 0} (m : Ghosts M) (w : World) (call : Call) (old
 -- so it is in each world in which calls are served and for which the heap stood
 pub record TellsInEach {M : Type 0} (m : Ghosts M) (call : Call) (old new : Heap) (was shown : List ℕ) (before now : M)
     (result : Result Reply Stop) : Type 0 where
-  pub each : (w : World) → HeapStandsFor old w → IsServed w → TellsMedia m w call old new was shown before now result
+  pub each : (w : World) → HeapStandsFor old w → IsReady w → TellsMedia m w call old new was shown before now result

@@ -1,10 +1,10 @@
 // The answer of each call but those that read media.
 ghost use Rattle.std.specs.Prelude.{◌≡◌, ◌≤◌, ◌+◌, ◌/◌, [], true, false};
 ghost use Rattle.sdr_answers.specs.Answering as answers;
-ghost use Rattle.sdr_answers.specs.Answering.{Comes, IsServed};
+ghost use Rattle.sdr_answers.specs.Answering.{ComesInEach, IsReady};
 ghost use Rattle.sdr_audit.specs.Standing.{HeapStandsFor};
 ghost use Rattle.sdr_base.specs.Moves.{KeepsSome};
-ghost use Rattle.sdr_base.specs.Works.{Works};
+ghost use Rattle.sdr_base.specs.Works.{Spends};
 ghost use Rattle.sdr_model.specs.Fields.{FitsCall};
 ghost use Rattle.sdr_model.specs.Reading.{reads_media};
 ghost use Rattle.sdr_model.specs.World.{World};
@@ -42,8 +42,8 @@ fn answer_other<O: Objects>(o: &mut O, call: &Call, page: &mut Page) -> Result<R
     requires no_part { is_part_call call.now ≡ false }
     requires no_cut { is_cut_call call.now ≡ false }
     requires no_bond { is_bond_call call.now ≡ false }
-    ensures comes { Comes call.now (O.heap o.old) (O.heap o.new) page.old page.new result }
-    ensures works { Works O.HasHeap
+    ensures comes { ComesInEach call.now (O.heap o.old) (O.heap o.new) page.old page.new result }
+    ensures works { Spends O.HasHeap
         (answers.call_lines (O.heap o.old) call.now) o.old o.new result }
     ensures fits { FitsCall call.now }
 {
@@ -80,9 +80,9 @@ pub fn answer<O: Objects, F: Notify>(
     requires good { IsGood (O.heap o.old) }
     requires unmoved { (O.heap o.old).moves ≡ [] }
     requires here { reads_media call.now ≡ false }
-    ensures comes { Comes call.now (O.heap o.old) (O.heap o.new) page.old page.new result }
-    ensures works { (w : World) → HeapStandsFor (O.heap o.old) w → IsServed w →
-        Works O.HasHeap (call_lines (O.heap o.old) w call.now) o.old o.new result }
+    ensures comes { ComesInEach call.now (O.heap o.old) (O.heap o.new) page.old page.new result }
+    ensures works { (w : World) → HeapStandsFor (O.heap o.old) w → IsReady w →
+        Spends O.HasHeap (call_lines (O.heap o.old) w call.now) o.old o.new result }
     ensures fits { FitsCall call.now }
 {
     if is_source_call(call) {

@@ -1,9 +1,9 @@
 // Bonding an object, as a step of the machine.
 ghost use Rattle.std.specs.Prelude.{[], true, ◌+◌, ◌/◌, ◌≡◌, ◌≤◌};
-ghost use Rattle.sdr_answers.specs.Answering.{Comes, IsServed};
+ghost use Rattle.sdr_answers.specs.Answering.{ComesInEach, IsReady};
 ghost use Rattle.sdr_audit.specs.Standing.{HeapStandsFor};
 ghost use Rattle.sdr_base.specs.Moves.{KeepsSome};
-ghost use Rattle.sdr_base.specs.Works.{Works};
+ghost use Rattle.sdr_base.specs.Works.{Spends};
 ghost use Rattle.sdr_model.specs.Fields.{FitsCall};
 ghost use Rattle.sdr_model.specs.World.{World};
 ghost use Rattle.sdr_served.specs.Serving.{IsGood, bonding_lines, is_bond_call};
@@ -26,9 +26,9 @@ pub fn answer<O: Objects>(o: &mut O, call: &Call, page: &mut Page) -> Result<Rep
     requires good { IsGood (O.heap o.old) }
     requires unmoved { (O.heap o.old).moves ≡ [] }
     requires one { is_bond_call call.now ≡ true }
-    ensures comes { Comes call.now (O.heap o.old) (O.heap o.new) page.old page.new result }
-    ensures works { (w : World) → HeapStandsFor (O.heap o.old) w → IsServed w →
-        Works O.HasHeap (bonding_lines w call.now) o.old o.new result }
+    ensures comes { ComesInEach call.now (O.heap o.old) (O.heap o.new) page.old page.new result }
+    ensures works { (w : World) → HeapStandsFor (O.heap o.old) w → IsReady w →
+        Spends O.HasHeap (bonding_lines w call.now) o.old o.new result }
     ensures fits { FitsCall call.now }
 {
     match call {

@@ -1,8 +1,8 @@
 // Giving a raw object or a string back, as a step of the machine.
 ghost use Rattle.std.specs.Prelude.{IfErr, OnOk, [], true, ◌+◌, ◌/◌, ◌≡◌, ◌≤◌};
-ghost use Rattle.sdr_answers.specs.Answering.{Comes, call_lines, is_free_call};
+ghost use Rattle.sdr_answers.specs.Answering.{ComesInEach, call_lines, is_free_call};
 ghost use Rattle.sdr_base.specs.Moves.{KeepsSome};
-ghost use Rattle.sdr_base.specs.Works.{Looks, Works};
+ghost use Rattle.sdr_base.specs.Works.{Looks, Spends};
 ghost use Rattle.sdr_model.specs.Fields.{FitsCall};
 ghost use Rattle.sdr_model.specs.declared.call.Call.TheVariants as calls;
 ghost use Rattle.sdr_served.specs.Freeing.{IsFree, NamedStops};
@@ -33,8 +33,8 @@ fn free<O: Objects>(o: &mut O, addr: Addr, page: &mut Page) -> Result<Reply, Sto
     requires spare { 1 ≤ (O.heap o.old).spare }
     requires raw { IsRaw (O.heap o.old).blocks addr }
     requires unmoved { (O.heap o.old).moves ≡ [] }
-    ensures comes { Comes (calls.Free addr) (O.heap o.old) (O.heap o.new) page.old page.new result }
-    ensures works { Works O.HasHeap 24 o.old o.new result }
+    ensures comes { ComesInEach (calls.Free addr) (O.heap o.old) (O.heap o.new) page.old page.new result }
+    ensures works { Spends O.HasHeap 24 o.old o.new result }
 {
     expect_free(o, addr)?;
     sdr_heap::free(o, addr)?;
@@ -49,8 +49,8 @@ pub fn answer<O: Objects>(o: &mut O, call: &Call, page: &mut Page) -> Result<Rep
     requires good { IsGood (O.heap o.old) }
     requires unmoved { (O.heap o.old).moves ≡ [] }
     requires one { is_free_call call.now ≡ true }
-    ensures comes { Comes call.now (O.heap o.old) (O.heap o.new) page.old page.new result }
-    ensures works { Works O.HasHeap (call_lines (O.heap o.old) call.now) o.old o.new result }
+    ensures comes { ComesInEach call.now (O.heap o.old) (O.heap o.new) page.old page.new result }
+    ensures works { Spends O.HasHeap (call_lines (O.heap o.old) call.now) o.old o.new result }
     ensures fits { FitsCall call.now }
 {
     match call {

@@ -1,9 +1,9 @@
 // The answer of each call, with the media that the heap's sources name.
 ghost use Rattle.std.specs.Prelude.{◌≡◌, ◌≤◌, ◌+◌, ◌/◌, [], false};
-ghost use Rattle.sdr_answers.specs.Answering.{Comes, IsServed};
+ghost use Rattle.sdr_answers.specs.Answering.{ComesInEach, IsReady};
 ghost use Rattle.sdr_audit.specs.Standing.{HeapStandsFor};
 ghost use Rattle.sdr_base.specs.Moves.{KeepsSome};
-ghost use Rattle.sdr_base.specs.Works.{Works};
+ghost use Rattle.sdr_base.specs.Works.{Spends};
 ghost use Rattle.sdr_model.specs.Fields.{FitsCall};
 ghost use Rattle.sdr_model.specs.World.{World};
 ghost use Rattle.sdr_served.specs.Giving.{TellsInEach};
@@ -32,9 +32,9 @@ pub fn answer<O: Objects, M: Media, F: Notify>(
     requires room { (O.heap o.old).size / 4 + 4 ≤ (O.heap o.old).spare }
     requires good { IsGood (O.heap o.old) }
     requires unmoved { (O.heap o.old).moves ≡ [] }
-    ensures comes { Comes call.now (O.heap o.old) (O.heap o.new) page.old page.new result }
-    ensures works { (w : World) → HeapStandsFor (O.heap o.old) w → IsServed w →
-        Works O.HasHeap (call_lines (O.heap o.old) w call.now) o.old o.new (past_media result) }
+    ensures comes { ComesInEach call.now (O.heap o.old) (O.heap o.new) page.old page.new result }
+    ensures works { (w : World) → HeapStandsFor (O.heap o.old) w → IsReady w →
+        Spends O.HasHeap (call_lines (O.heap o.old) w call.now) o.old o.new (past_media result) }
     ensures fits { FitsCall call.now }
     ensures tells { TellsInEach M.Media call.now (O.heap o.old) (O.heap o.new) page.old page.new
         media.old media.new result }

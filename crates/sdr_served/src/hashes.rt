@@ -1,8 +1,8 @@
 // The calls on hashes, as steps of the machine.
 ghost use Rattle.std.specs.Prelude.{[], length, true, ◌*◌, ◌+◌, ◌/◌, ◌≡◌, ◌≤◌};
-ghost use Rattle.sdr_answers.specs.Answering.{Comes, IsGood, call_lines, is_hash_call};
+ghost use Rattle.sdr_answers.specs.Answering.{ComesInEach, IsGood, call_lines, is_hash_call};
 ghost use Rattle.sdr_base.specs.Moves.{KeepsSome};
-ghost use Rattle.sdr_base.specs.Works.{Works};
+ghost use Rattle.sdr_base.specs.Works.{Spends};
 ghost use Rattle.sdr_hash.specs.Destroying.{entries_in};
 ghost use Rattle.sdr_hash.specs.Kept.{IsHash};
 ghost use Rattle.sdr_model.specs.Fields.{AreBytes, FitsCall, IsWord};
@@ -22,9 +22,9 @@ fn hash<O: Objects>(
     requires kept { KeepsSome (O.keeps o.old) }
     requires spare { 1 ≤ (O.heap o.old).spare }
     requires unmoved { (O.heap o.old).moves ≡ [] }
-    ensures comes { Comes (calls.Hash key_length buckets)
+    ensures comes { ComesInEach (calls.Hash key_length buckets)
         (O.heap o.old) (O.heap o.new) page.old page.new result }
-    ensures works { Works O.HasHeap (26 + (24 + 8 * buckets) / 64) o.old o.new result }
+    ensures works { Spends O.HasHeap (26 + (24 + 8 * buckets) / 64) o.old o.new result }
 {
     let addr = sdr_hash::create(o, key_length, buckets)?;
     page.clear();
@@ -43,9 +43,9 @@ fn insert<O: Objects>(
     requires spare { 1 ≤ (O.heap o.old).spare }
     requires hash { IsHash (O.heap o.old).blocks hash }
     requires unmoved { (O.heap o.old).moves ≡ [] }
-    ensures comes { Comes (calls.HashInsert hash key.now value)
+    ensures comes { ComesInEach (calls.HashInsert hash key.now value)
         (O.heap o.old) (O.heap o.new) page.old page.new result }
-    ensures works { Works O.HasHeap (30 + (16 + length key.now) / 32) o.old o.new result }
+    ensures works { Spends O.HasHeap (30 + (16 + length key.now) / 32) o.old o.new result }
     ensures bytes { AreBytes key.now }
     ensures word { IsWord value }
 {
@@ -59,9 +59,9 @@ fn retrieve<O: Objects>(o: &mut O, hash: Addr, key: &[u8], page: &mut Page) -> R
     requires kept { KeepsSome (O.keeps o.old) }
     requires hash { IsHash (O.heap o.old).blocks hash }
     requires unmoved { (O.heap o.old).moves ≡ [] }
-    ensures comes { Comes (calls.HashRetrieve hash key.now)
+    ensures comes { ComesInEach (calls.HashRetrieve hash key.now)
         (O.heap o.old) (O.heap o.new) page.old page.new result }
-    ensures works { Works O.HasHeap 0 o.old o.new result }
+    ensures works { Spends O.HasHeap 0 o.old o.new result }
 {
     let value = sdr_hash::retrieve(o, hash, key)?;
     page.clear();
@@ -79,9 +79,9 @@ fn revise<O: Objects>(
     requires kept { KeepsSome (O.keeps o.old) }
     requires hash { IsHash (O.heap o.old).blocks hash }
     requires unmoved { (O.heap o.old).moves ≡ [] }
-    ensures comes { Comes (calls.HashRevise hash key.now value)
+    ensures comes { ComesInEach (calls.HashRevise hash key.now value)
         (O.heap o.old) (O.heap o.new) page.old page.new result }
-    ensures works { Works O.HasHeap 2 o.old o.new result }
+    ensures works { Spends O.HasHeap 2 o.old o.new result }
     ensures bytes { AreBytes key.now }
     ensures word { IsWord value }
 {
@@ -96,9 +96,9 @@ fn remove<O: Objects>(o: &mut O, hash: Addr, key: &[u8], page: &mut Page) -> Res
     requires spare { 1 ≤ (O.heap o.old).spare }
     requires hash { IsHash (O.heap o.old).blocks hash }
     requires unmoved { (O.heap o.old).moves ≡ [] }
-    ensures comes { Comes (calls.HashRemove hash key.now)
+    ensures comes { ComesInEach (calls.HashRemove hash key.now)
         (O.heap o.old) (O.heap o.new) page.old page.new result }
-    ensures works { Works O.HasHeap 28 o.old o.new result }
+    ensures works { Spends O.HasHeap 28 o.old o.new result }
 {
     sdr_hash::remove(o, hash, key)?;
     page.clear();
@@ -110,9 +110,9 @@ fn count<O: Objects>(o: &mut O, hash: Addr, page: &mut Page) -> Result<Reply, St
     requires kept { KeepsSome (O.keeps o.old) }
     requires hash { IsHash (O.heap o.old).blocks hash }
     requires unmoved { (O.heap o.old).moves ≡ [] }
-    ensures comes { Comes (calls.HashCount hash)
+    ensures comes { ComesInEach (calls.HashCount hash)
         (O.heap o.old) (O.heap o.new) page.old page.new result }
-    ensures works { Works O.HasHeap 0 o.old o.new result }
+    ensures works { Spends O.HasHeap 0 o.old o.new result }
 {
     let value = sdr_hash::count(o, hash)?;
     page.clear();
@@ -125,9 +125,9 @@ fn hash_destroy<O: Objects>(o: &mut O, hash: Addr, page: &mut Page) -> Result<Re
     requires spare { (O.heap o.old).size / 4 + 4 ≤ (O.heap o.old).spare }
     requires hash { IsHash (O.heap o.old).blocks hash }
     requires unmoved { (O.heap o.old).moves ≡ [] }
-    ensures comes { Comes (calls.HashDestroy hash)
+    ensures comes { ComesInEach (calls.HashDestroy hash)
         (O.heap o.old) (O.heap o.new) page.old page.new result }
-    ensures works { Works O.HasHeap
+    ensures works { Spends O.HasHeap
         (24 * (entries_in ((O.heap o.old).blocks hash) + 1)) o.old o.new result }
 {
     sdr_hash::destroy(o, hash)?;
@@ -142,8 +142,8 @@ pub fn answer<O: Objects>(o: &mut O, call: &Call, page: &mut Page) -> Result<Rep
     requires good { IsGood (O.heap o.old) }
     requires unmoved { (O.heap o.old).moves ≡ [] }
     requires one { is_hash_call call.now ≡ true }
-    ensures comes { Comes call.now (O.heap o.old) (O.heap o.new) page.old page.new result }
-    ensures works { Works O.HasHeap (call_lines (O.heap o.old) call.now) o.old o.new result }
+    ensures comes { ComesInEach call.now (O.heap o.old) (O.heap o.new) page.old page.new result }
+    ensures works { Spends O.HasHeap (call_lines (O.heap o.old) call.now) o.old o.new result }
     ensures fits { FitsCall call.now }
 {
     match call {

@@ -1,8 +1,8 @@
 // The calls on the catalogue, as steps of the machine.
 ghost use Rattle.std.specs.Prelude.{[], true, ◌+◌, ◌/◌, ◌<◌, ◌^◌, ◌≡◌, ◌≤◌};
-ghost use Rattle.sdr_answers.specs.Answering.{Comes, IsGood, call_lines, is_name_call};
+ghost use Rattle.sdr_answers.specs.Answering.{ComesInEach, IsGood, call_lines, is_name_call};
 ghost use Rattle.sdr_base.specs.Moves.{KeepsSome};
-ghost use Rattle.sdr_base.specs.Works.{Works};
+ghost use Rattle.sdr_base.specs.Works.{Spends};
 ghost use Rattle.sdr_cat.specs.Kept.{SomeNames};
 ghost use Rattle.sdr_model.specs.Fields.{AreBytes, FitsCall, IsWord};
 ghost use Rattle.sdr_model.specs.declared.call.Call.TheVariants as calls;
@@ -23,9 +23,9 @@ fn catlg<O: Objects>(
     requires spare { 1 ≤ (O.heap o.old).spare }
     requires names { SomeNames (O.heap o.old) }
     requires unmoved { (O.heap o.old).moves ≡ [] }
-    ensures comes { Comes (calls.Catlg name.now kind object) (O.heap o.old) (O.heap o.new) page.old
+    ensures comes { ComesInEach (calls.Catlg name.now kind object) (O.heap o.old) (O.heap o.new) page.old
         page.new result }
-    ensures works { Works O.HasHeap 30 o.old o.new result }
+    ensures works { Spends O.HasHeap 30 o.old o.new result }
     ensures bytes { AreBytes name.now }
     ensures kind { kind < 2 ^ 32 }
     ensures word { IsWord object }
@@ -40,9 +40,9 @@ fn find<O: Objects>(o: &mut O, name: &[u8], page: &mut Page) -> Result<Reply, St
     requires kept { KeepsSome (O.keeps o.old) }
     requires names { SomeNames (O.heap o.old) }
     requires unmoved { (O.heap o.old).moves ≡ [] }
-    ensures comes { Comes (calls.Find name.now) (O.heap o.old) (O.heap o.new) page.old page.new
+    ensures comes { ComesInEach (calls.Find name.now) (O.heap o.old) (O.heap o.new) page.old page.new
         result }
-    ensures works { Works O.HasHeap 0 o.old o.new result }
+    ensures works { Spends O.HasHeap 0 o.old o.new result }
 {
     let (kind, second) = sdr_cat::find(o, name)?;
     page.clear();
@@ -58,9 +58,9 @@ fn uncatlg<O: Objects>(o: &mut O, name: &[u8], page: &mut Page) -> Result<Reply,
     requires spare { 1 ≤ (O.heap o.old).spare }
     requires names { SomeNames (O.heap o.old) }
     requires unmoved { (O.heap o.old).moves ≡ [] }
-    ensures comes { Comes (calls.Uncatlg name.now) (O.heap o.old) (O.heap o.new) page.old page.new
+    ensures comes { ComesInEach (calls.Uncatlg name.now) (O.heap o.old) (O.heap o.new) page.old page.new
         result }
-    ensures works { Works O.HasHeap 27 o.old o.new result }
+    ensures works { Spends O.HasHeap 27 o.old o.new result }
 {
     sdr_cat::uncatlg(o, name)?;
     page.clear();
@@ -72,9 +72,9 @@ fn entry<O: Objects>(o: &mut O, place: u64, page: &mut Page) -> Result<Reply, St
     requires kept { KeepsSome (O.keeps o.old) }
     requires names { SomeNames (O.heap o.old) }
     requires unmoved { (O.heap o.old).moves ≡ [] }
-    ensures comes { Comes (calls.Entry place) (O.heap o.old) (O.heap o.new) page.old page.new
+    ensures comes { ComesInEach (calls.Entry place) (O.heap o.old) (O.heap o.new) page.old page.new
         result }
-    ensures works { Works O.HasHeap 0 o.old o.new result }
+    ensures works { Spends O.HasHeap 0 o.old o.new result }
 {
     let mut name = [0; 255];
     let (count, kind, addr) = sdr_cat::entry(o, place, &mut name)?;
@@ -89,8 +89,8 @@ pub fn answer<O: Objects>(o: &mut O, call: &Call, page: &mut Page) -> Result<Rep
     requires good { IsGood (O.heap o.old) }
     requires unmoved { (O.heap o.old).moves ≡ [] }
     requires one { is_name_call call.now ≡ true }
-    ensures comes { Comes call.now (O.heap o.old) (O.heap o.new) page.old page.new result }
-    ensures works { Works O.HasHeap (call_lines (O.heap o.old) call.now) o.old o.new result }
+    ensures comes { ComesInEach call.now (O.heap o.old) (O.heap o.new) page.old page.new result }
+    ensures works { Spends O.HasHeap (call_lines (O.heap o.old) call.now) o.old o.new result }
     ensures fits { FitsCall call.now }
 {
     match call {

@@ -1,8 +1,8 @@
 // The calls on tables, as steps of the machine.
 ghost use Rattle.std.specs.Prelude.{[], length, true, ◌*◌, ◌+◌, ◌/◌, ◌≡◌, ◌≤◌};
-ghost use Rattle.sdr_answers.specs.Answering.{Comes, IsGood, call_lines, is_table_call};
+ghost use Rattle.sdr_answers.specs.Answering.{ComesInEach, IsGood, call_lines, is_table_call};
 ghost use Rattle.sdr_base.specs.Moves.{KeepsSome};
-ghost use Rattle.sdr_base.specs.Works.{Works};
+ghost use Rattle.sdr_base.specs.Works.{Spends};
 ghost use Rattle.sdr_model.specs.Fields.{AreBytes, FitsCall, IsWord};
 ghost use Rattle.sdr_model.specs.declared.call.Call.TheVariants as calls;
 ghost use Rattle.sdr_table.specs.Kept.{IsTable};
@@ -22,9 +22,9 @@ fn table<O: Objects>(
     requires kept { KeepsSome (O.keeps o.old) }
     requires spare { 1 ≤ (O.heap o.old).spare }
     requires unmoved { (O.heap o.old).moves ≡ [] }
-    ensures comes { Comes (calls.Table rows size user) (O.heap o.old) (O.heap o.new) page.old
+    ensures comes { ComesInEach (calls.Table rows size user) (O.heap o.old) (O.heap o.new) page.old
         page.new result }
-    ensures works { Works O.HasHeap (26 + (24 + rows * size) / 64) o.old o.new result }
+    ensures works { Spends O.HasHeap (26 + (24 + rows * size) / 64) o.old o.new result }
     ensures word { IsWord user }
 {
     let addr = sdr_table::create(o, rows, size, user)?;
@@ -37,9 +37,9 @@ fn row<O: Objects>(o: &mut O, table: Addr, row: u64, page: &mut Page) -> Result<
     requires kept { KeepsSome (O.keeps o.old) }
     requires table { IsTable ((O.heap o.old).blocks table) }
     requires unmoved { (O.heap o.old).moves ≡ [] }
-    ensures comes { Comes (calls.Row table row) (O.heap o.old) (O.heap o.new) page.old page.new
+    ensures comes { ComesInEach (calls.Row table row) (O.heap o.old) (O.heap o.new) page.old page.new
         result }
-    ensures works { Works O.HasHeap 0 o.old o.new result }
+    ensures works { Spends O.HasHeap 0 o.old o.new result }
 {
     let mut bytes = [0; PAGE];
     let count = sdr_table::row(o, table, row, &mut bytes)?;
@@ -58,9 +58,9 @@ fn set_row<O: Objects>(
     requires kept { KeepsSome (O.keeps o.old) }
     requires table { IsTable ((O.heap o.old).blocks table) }
     requires unmoved { (O.heap o.old).moves ≡ [] }
-    ensures comes { Comes (calls.SetRow table row from.now) (O.heap o.old) (O.heap o.new) page.old
+    ensures comes { ComesInEach (calls.SetRow table row from.now) (O.heap o.old) (O.heap o.new) page.old
         page.new result }
-    ensures works { Works O.HasHeap (2 + length from.now / 64) o.old o.new result }
+    ensures works { Spends O.HasHeap (2 + length from.now / 64) o.old o.new result }
     ensures bytes { AreBytes from.now }
 {
     sdr_table::set_row(o, table, row, from)?;
@@ -73,9 +73,9 @@ fn dimensions<O: Objects>(o: &mut O, table: Addr, page: &mut Page) -> Result<Rep
     requires kept { KeepsSome (O.keeps o.old) }
     requires table { IsTable ((O.heap o.old).blocks table) }
     requires unmoved { (O.heap o.old).moves ≡ [] }
-    ensures comes { Comes (calls.Dimensions table) (O.heap o.old) (O.heap o.new) page.old page.new
+    ensures comes { ComesInEach (calls.Dimensions table) (O.heap o.old) (O.heap o.new) page.old page.new
         result }
-    ensures works { Works O.HasHeap 0 o.old o.new result }
+    ensures works { Spends O.HasHeap 0 o.old o.new result }
 {
     let (first, second) = sdr_table::dimensions(o, table)?;
     page.clear();
@@ -87,9 +87,9 @@ fn table_user<O: Objects>(o: &mut O, table: Addr, page: &mut Page) -> Result<Rep
     requires kept { KeepsSome (O.keeps o.old) }
     requires table { IsTable ((O.heap o.old).blocks table) }
     requires unmoved { (O.heap o.old).moves ≡ [] }
-    ensures comes { Comes (calls.TableUser table) (O.heap o.old) (O.heap o.new) page.old page.new
+    ensures comes { ComesInEach (calls.TableUser table) (O.heap o.old) (O.heap o.new) page.old page.new
         result }
-    ensures works { Works O.HasHeap 0 o.old o.new result }
+    ensures works { Spends O.HasHeap 0 o.old o.new result }
 {
     let value = sdr_table::user_data(o, table)?;
     page.clear();
@@ -102,9 +102,9 @@ fn table_destroy<O: Objects>(o: &mut O, table: Addr, page: &mut Page) -> Result<
     requires spare { 1 ≤ (O.heap o.old).spare }
     requires table { IsTable ((O.heap o.old).blocks table) }
     requires unmoved { (O.heap o.old).moves ≡ [] }
-    ensures comes { Comes (calls.TableDestroy table) (O.heap o.old) (O.heap o.new) page.old page.new
+    ensures comes { ComesInEach (calls.TableDestroy table) (O.heap o.old) (O.heap o.new) page.old page.new
         result }
-    ensures works { Works O.HasHeap 24 o.old o.new result }
+    ensures works { Spends O.HasHeap 24 o.old o.new result }
 {
     sdr_table::destroy(o, table)?;
     page.clear();
@@ -118,8 +118,8 @@ pub fn answer<O: Objects>(o: &mut O, call: &Call, page: &mut Page) -> Result<Rep
     requires good { IsGood (O.heap o.old) }
     requires unmoved { (O.heap o.old).moves ≡ [] }
     requires one { is_table_call call.now ≡ true }
-    ensures comes { Comes call.now (O.heap o.old) (O.heap o.new) page.old page.new result }
-    ensures works { Works O.HasHeap (call_lines (O.heap o.old) call.now) o.old o.new result }
+    ensures comes { ComesInEach call.now (O.heap o.old) (O.heap o.new) page.old page.new result }
+    ensures works { Spends O.HasHeap (call_lines (O.heap o.old) call.now) o.old o.new result }
     ensures fits { FitsCall call.now }
 {
     match call {

@@ -68,7 +68,7 @@ shown_stands told P x is shown =
 
 -- what an inspection came to gives its answers
 pub inspect_answers : {D : Type 0} (d : DiskGhosts D) (status : ℕ) (disk disk' : D) (sink sink' : Seen) → InspectsTo d status disk disk' sink sink'
-    → Reads d.bytes d.moment d.may_leave disk disk' → AnswersInspect d status disk disk' sink sink'
+    → Reads d.bytes d.moment d.may_hold_after disk disk' → AnswersInspect d status disk disk' sink sink'
 inspect_answers d status disk disk' sink sink' comes reads = record {
   comes = comes;
   reads = reads;
@@ -86,7 +86,7 @@ inspect_answers d status disk disk' sink sink' comes reads = record {
 
 -- a world that was printed, or a part of it, answers so; and where memory was wanting, its one line
 pub shown_answers : {D : Type 0} (d : DiskGhosts D) (status : ℕ) (disk disk' : D) (sink sink' : Seen) (world : World) (census : Census)
-    → Reads d.bytes d.moment d.may_leave disk disk' → IfTold (d.bytes disk) (GivesThis world census)
+    → Reads d.bytes d.moment d.may_hold_after disk disk' → IfTold (d.bytes disk) (GivesThis world census)
     → (status ≡ DONE) ⊎ (status ≡ OUTPUT_FAULT) ⊎ (status ≡ NO_MEMORY)
     → (status ≡ DONE → Appends sink.bytes sink'.bytes (world_text world census))
     → (status ≡ OUTPUT_FAULT → AppendsPart sink.bytes sink'.bytes (world_text world census))

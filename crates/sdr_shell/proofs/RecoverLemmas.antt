@@ -18,7 +18,7 @@ use Rattle.sdr_station.specs.Opening.{ExplainsOpen, IsOpen, LeavesBytes, first_o
 use Rattle.sdr_station.specs.declared.error.OpenError.{OpenError}
 
 -- a heap that was opened is put back
-pub opened_recovered : {D M : Type 0} (d : DiskGhosts D) (disk : D) (g : Grounded D M) → IsOpen d.bytes d.moment d.may_leave disk g
+pub opened_recovered : {D M : Type 0} (d : DiskGhosts D) (disk : D) (g : Grounded D M) → IsOpen d.bytes d.moment d.may_hold_after disk g
     → IsRecovered d disk g.heap.cells.disk g.restored
 opened_recovered d disk g o = record {
   frame = g.heap.cells.frame;
@@ -35,7 +35,7 @@ opened_recovered d disk g o = record {
 
 -- what a recovery came to gives its answers
 pub recover_answers : {D : Type 0} (d : DiskGhosts D) (status : ℕ) (disk disk' : D) (sink sink' : Seen) → RecoversTo d status disk disk' sink sink'
-    → IfTold (d.bytes disk) (λ x. MayBeOpened x (d.may_leave disk (d.moment disk)) → AtEach d.moment d.may_leave disk disk' (GivesSame x))
+    → IfTold (d.bytes disk) (λ x. MayBeOpened x (d.may_hold_after disk (d.moment disk)) → AtEach d.moment d.may_hold_after disk disk' (GivesSame x))
     → AnswersRecover d status disk disk' sink sink'
 recover_answers d status disk disk' sink sink' comes moments = record {
   comes = comes;
@@ -54,9 +54,9 @@ recover_answers d status disk disk' sink sink' comes moments = record {
 
 -- a heap that was opened answers so, where the line that tells of it was written, or the output failed
 pub opened_answers : {D M : Type 0} (d : DiskGhosts D) (status : ℕ) (disk disk' : D) (sink sink' : Seen) (g : Grounded D M) (count : ℕ)
-    → count ≡ g.restored → disk' ≡ g.heap.cells.disk → IsOpen d.bytes d.moment d.may_leave disk g
-    → IfTold (d.bytes disk) (λ x. MayBeOpened x (d.may_leave disk (d.moment disk))
-    → AtEach d.moment d.may_leave disk g.heap.cells.disk (GivesSame x))
+    → count ≡ g.restored → disk' ≡ g.heap.cells.disk → IsOpen d.bytes d.moment d.may_hold_after disk g
+    → IfTold (d.bytes disk) (λ x. MayBeOpened x (d.may_hold_after disk (d.moment disk))
+    → AtEach d.moment d.may_hold_after disk g.heap.cells.disk (GivesSame x))
     → (status ≡ DONE) ⊎ (status ≡ OUTPUT_FAULT)
     → (status ≡ DONE → Appends sink.bytes sink'.bytes (line_recovered count))
     → (status ≡ OUTPUT_FAULT → AppendsPart sink.bytes sink'.bytes (line_recovered count))
@@ -72,7 +72,7 @@ opened_answers {D} d status disk disk' sink sink' g count count_is same opened m
 -- one that wasn't opened answers so, where the last line tells why
 pub shut_answers : {D : Type 0} (d : DiskGhosts D) (status : ℕ) (disk disk' : D) (why : OpenError) (sink sink' : Seen) → status ≡ status_shut why
     → ExplainsOpen (d.bytes disk) (d.faults disk) (d.faults disk') why → LeavesBytes (d.bytes disk) (d.bytes disk') why
-    → IfTold (d.bytes disk) (λ x. MayBeOpened x (d.may_leave disk (d.moment disk)) → AtEach d.moment d.may_leave disk disk' (GivesSame x))
+    → IfTold (d.bytes disk) (λ x. MayBeOpened x (d.may_hold_after disk (d.moment disk)) → AtEach d.moment d.may_hold_after disk disk' (GivesSame x))
     → Wrote sink sink' (line_shut why) → AnswersRecover d status disk disk' sink sink'
 shut_answers d status disk disk' why sink sink' is explained bytes moments written =
     recover_answers d status disk disk' sink sink' (RecoversTo.shut why is (record { explained = explained; bytes = bytes }) written) moments

@@ -13,7 +13,7 @@ use Rattle.sdr_log.specs.Log.{put_back_of}
 use Rattle.sdr_model.specs.World.{World}
 use Rattle.sdr_model.specs.declared.event.Leave.{Leave}
 use Rattle.sdr_model.specs.declared.journal.Entry.{Entry}
-use Rattle.sdr_model.specs.declared.script.Step.{Step}
+use Rattle.sdr_model.specs.declared.script.ScriptStep.{ScriptStep}
 use Rattle.sdr_replay.specs.Playing.{IsPrinted, leave_of}
 use Rattle.sdr_shell.proofs.ShutLemmas.{by_shut, shut_status}
 use Rattle.sdr_shell.proofs.StillLemmas.{none_refused, spells_none, writes_behind}
@@ -44,7 +44,7 @@ not_true false is = is
 module _ {D M : Type 0} (d : DiskGhosts D) (m : MediaGhosts M) (source source' sink sink' : Seen) (disk disk' : D) (files files' : M)
     (journal : List Entry) where
   -- what was run is told of more weakly
-  had_weaker : {leave : Leave} (P Q : List Step → List ℕ → Type 0) → ((rest : List Step) (text : List ℕ) → P rest text → Q rest text)
+  had_weaker : {leave : Leave} (P Q : List ScriptStep → List ℕ → Type 0) → ((rest : List ScriptStep) (text : List ℕ) → P rest text → Q rest text)
       → HadReplay d m source.bytes disk disk' files files' journal leave P → HadReplay d m source.bytes disk disk' files files' journal leave Q
   had_weaker P Q more h = record {
     script = h.script;
@@ -200,7 +200,7 @@ tell_answers d m source source' sink sink' disk files r error status is same tel
 
 -- a script that was run, or not, on the heap of the disk is what the input spelled
 pub script_answers : {D M : Type 0} (d : DiskGhosts D) (m : MediaGhosts M) (source source' sink sink' : Seen) (disk : D) (files : M)
-    (script : List Step) (r : Replayed D M) → IsAtEnd source'.bytes → HadScript source.bytes script
+    (script : List ScriptStep) (r : Replayed D M) → IsAtEnd source'.bytes → HadScript source.bytes script
     → RunsOrNot d m disk files script sink sink' r → AnswersReplay d m r.status source source' disk r.disk files r.media r.journal sink sink'
 script_answers d m source source' sink sink' disk files script r read had (inl not) =
     answers_of d m source source' sink sink' disk r.disk files r.media r.journal r.status

@@ -10,7 +10,7 @@ use Rattle.sdr_words.specs.Script.{Reading, ◌>>=◌, nothing_read, input_lines
 use Rattle.sdr_shell.specs.Still.{Had, HadScript, HadBadLine, NamesBadLine}
 use Rattle.sdr_words.specs.declared.error.ScriptError.{ScriptError}
 use Rattle.sdr_words.specs.declared.error.ScriptError.TheVariants as errors
-use Rattle.sdr_model.specs.declared.script.Step.{Step}
+use Rattle.sdr_model.specs.declared.script.ScriptStep.{ScriptStep}
 
 -- what two results that are Ok hold is the same
 one_result : {A B : Type 0} {x y : A} → (r : Result A B) → r ≡ Ok x → r ≡ Ok y → x ≡ y
@@ -23,7 +23,7 @@ had_all (Some xs) None bytes taken end = absurd taken
 had_all (Some xs) (Some ys) bytes taken end = taken ∙ ap (λ l. bytes ++ l) end ∙ append-nil bytes
 
 -- what was read as a script is one
-pub had_script : (old new : Option (List ℕ)) (steps : List Step) → ReadsScript old new steps → HadScript old steps
+pub had_script : (old new : Option (List ℕ)) (steps : List ScriptStep) → ReadsScript old new steps → HadScript old steps
 had_script old new steps reads = record {
   input = reads.bytes;
   had = had_all old new reads.bytes reads.taken reads.at_end;
@@ -45,7 +45,7 @@ bad_line_of old new (errors.Line line) names = had_bad_line old new line names
 bad_line_of old new errors.NoMemory names = tt
 
 -- a line gives one step at most
-steps_of_line : (reading : Reading) (says : Result (Option Step) ℕ) (now : Reading)
+steps_of_line : (reading : Reading) (says : Result (Option ScriptStep) ℕ) (now : Reading)
     → (says >>= λ says. Ok (record { steps = reading.steps ++ option_to_list says; next = reading.next + 1 })) ≡ Ok now
     → length now.steps ≤ length reading.steps + 1
 steps_of_line reading (Ok None) now e =
@@ -65,7 +65,8 @@ steps_of_lines reading (line ∷ lines) now =
     ] refl
 
 -- bytes are lines, and a line more, at most
-pub few_steps : (bytes : List ℕ) (steps : List Step) → script_of bytes ≡ Ok steps → length steps ≤ length bytes + 1
+pub few_steps : (bytes : List ℕ) (steps : List ScriptStep) → script_of bytes ≡ Ok steps → length steps ≤ length bytes
+    + 1
 few_steps bytes steps =
     elim (read_lines nothing_read (input_lines bytes)) as (λ r. read_lines nothing_read (input_lines bytes) ≡ r → (r >>= λ all. Ok all.steps) ≡ Ok steps → length steps ≤ length bytes + 1) [
       | Ok all ↦ λ here e. subst (λ l. length l ≤ length bytes + 1) (one_result _ refl e)
@@ -74,10 +75,10 @@ few_steps bytes steps =
     ] refl
 
 -- a read script is no longer than an input may be
-pub read_steps_are_few : (old new : Option (List ℕ)) (steps : List Step) → ReadsScript old new steps → length steps ≤ 1048577
+pub read_steps_are_few : (old new : Option (List ℕ)) (steps : List ScriptStep) → ReadsScript old new steps → length steps ≤ 1048577
 read_steps_are_few old new steps reads = omega (arith, few_steps reads.bytes steps reads.script, reads.within)
 
-pub read_to_the_end : (old new : Option (List ℕ)) (steps : List Step) → ReadsScript old new steps → IsAtEnd new
+pub read_to_the_end : (old new : Option (List ℕ)) (steps : List ScriptStep) → ReadsScript old new steps → IsAtEnd new
 read_to_the_end old new steps reads = reads.at_end
 
 pub ruleset read_scripts = (had_script, bad_line_of, read_steps_are_few, read_to_the_end)

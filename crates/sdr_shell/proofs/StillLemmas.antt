@@ -14,7 +14,7 @@ use Rattle.sdr_words.specs.Script.{input_script}
 use Rattle.sdr_words.specs.declared.error.ScriptError.{ScriptError}
 use Rattle.sdr_words.specs.declared.error.ScriptError.TheVariants as errors
 use Rattle.sdr_shell.specs.declared.status.TheConstants.{DONE, INPUT_FAULT, OUTPUT_FAULT, DISK_FAULT, REFUSED_LINE, NO_MEMORY, TOO_SMALL}
-use Rattle.sdr_model.specs.declared.script.Step.{Step}
+use Rattle.sdr_model.specs.declared.script.ScriptStep.{ScriptStep}
 use Rattle.sdr_text.proofs.TextLemmas.{part_later}
 use Rattle.sdr_dry.proofs.ScheduleLemmas.{some_weaker}
 
@@ -26,7 +26,7 @@ writes_behind old mid new before between now text line a later (inr f) =
     inr (rose_later before between now later f.0, part_later old mid new text line a f.1)
 
 -- a last line behind the answers of a run
-pub some_behind : (media : MediaChange) (script : List Step) (old mid new : Option (List ℕ)) (before between now : ℕ) (line : List ℕ)
+pub some_behind : (media : MediaChange) (script : List ScriptStep) (old mid new : Option (List ℕ)) (before between now : ℕ) (line : List ℕ)
     → SomeRun media script (λ rest text. Appends old mid text) → before ≤ between → WritesOut mid new between now line
     → SomeRun media script (λ rest text. WritesOut old new before now (text ++ line))
 some_behind media script old mid new before between now line r later w =
@@ -34,17 +34,17 @@ some_behind media script old mid new before between now line r later w =
     (λ rest text h. writes_behind old mid new before between now text line h later w) r
 
 -- what a told input spells
-pub told_script : (left : Option (List ℕ)) (bytes : List ℕ) (script : List Step) → left ≡ Some bytes → HadScript left script → input_script bytes ≡ Ok script
+pub told_script : (left : Option (List ℕ)) (bytes : List ℕ) (script : List ScriptStep) → left ≡ Some bytes → HadScript left script → input_script bytes ≡ Ok script
 told_script None bytes script told h = cc
 told_script (Some input) bytes script told h = cc (told, h.had, h.spells)
 
 -- an input that is refused spells no script
-pub spells_none : (left : Option (List ℕ)) (bytes : List ℕ) (script : List Step) → left ≡ Some bytes → IsErr (input_script bytes)
+pub spells_none : (left : Option (List ℕ)) (bytes : List ℕ) (script : List ScriptStep) → left ≡ Some bytes → IsErr (input_script bytes)
     → HadScript left script → ⊥
 spells_none left bytes script told refused had = absurd (true≢false (sym (subst IsErr (told_script left bytes script told had) refused)))
 
 -- so it was not run
-pub not_run : (left : Option (List ℕ)) (bytes : List ℕ) (media : MediaChange) (P : List Step → List ℕ → Type 0)
+pub not_run : (left : Option (List ℕ)) (bytes : List ℕ) (media : MediaChange) (P : List ScriptStep → List ℕ → Type 0)
     → left ≡ Some bytes → IsErr (input_script bytes) → HadRun left media P → ⊥
 not_run left bytes media P told refused run = spells_none left bytes run.script told refused run.input
 
@@ -90,7 +90,8 @@ format_completes status size need disk disk' before now known small fault output
     ]
 
 -- the script that was read is the one that ran
-pub had_run : (left : Option (List ℕ)) (media : MediaChange) (script ran : List Step) (P : List Step → List ℕ → Type 0)
+pub had_run : (left : Option (List ℕ)) (media : MediaChange) (script ran : List ScriptStep)
+    (P : List ScriptStep → List ℕ → Type 0)
     → HadScript left script → ran ≡ script → SomeRun media ran P → HadRun left media P
 had_run left media script ran P had same run = record {
   script = script;

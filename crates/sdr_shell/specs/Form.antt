@@ -6,7 +6,7 @@ use Rattle.std.specs.Cmp.Lexicographic.{pointwise}
 use Rattle.std.specs.Rc.{rc_str_bytes}
 use Rattle.sdr_log.specs.Frame.{is_in_limits}
 use Rattle.sdr_log.specs.declared.frame.Frame.{Frame}
-use Rattle.sdr_words.specs.Words.{number_of}
+use Rattle.sdr_words.specs.Words.{as_number}
 use Rattle.sdr_shell.specs.declared.form.Form.{Form}
 use Rattle.sdr_shell.specs.declared.form.Form.TheVariants as forms
 
@@ -15,9 +15,9 @@ abbrev pub allowed : Frame → Option Frame
 allowed frame = if is_in_limits frame then Some frame else None
 
 -- the regions of so many lines of log and heap, where both are numbers and are allowed
-abbrev pub frame_of : Option ℕ → Option ℕ → Option Frame
-frame_of (Some log) (Some heap) = allowed (record { log_lines = log; heap_lines = heap })
-frame_of log heap = None
+abbrev pub frame_from : Option ℕ → Option ℕ → Option Frame
+frame_from (Some log) (Some heap) = allowed (record { log_lines = log; heap_lines = heap })
+frame_from log heap = None
 
 -- the form `format` with these regions, where there are any
 abbrev pub format_of : Option Frame → Option Form
@@ -33,7 +33,7 @@ form_of (word ∷ []) =
     else (if pointwise nat_eq (rc_str_bytes word) (codes "inspect") then Some forms.Inspect else None)))
 form_of (word ∷ log ∷ heap ∷ []) =
     if pointwise nat_eq (rc_str_bytes word) (codes "format")
-    then format_of (frame_of (number_of (rc_str_bytes log)) (number_of (rc_str_bytes heap)))
+    then format_of (frame_from (as_number (rc_str_bytes log)) (as_number (rc_str_bytes heap)))
     else None
 form_of words = None
 

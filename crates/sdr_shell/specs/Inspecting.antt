@@ -50,7 +50,7 @@ pub data InspectsTo {D : Type 0} (d : DiskGhosts D) (status : ℕ) (disk disk' :
 -- What `inspect` answers. Whatever its status, the disk was only read.
 pub record AnswersInspect {D : Type 0} (d : DiskGhosts D) (status : ℕ) (disk disk' : D) (sink sink' : Seen) : Type 0 where
   pub comes : InspectsTo d status disk disk' sink sink'
-  pub reads : Reads d.bytes d.moment d.may_leave disk disk'
+  pub reads : Reads d.bytes d.moment d.may_hold_after disk disk'
   -- unless there is a fault, the status is by the heap that the disk gives, where it tells its bytes
   pub complete :
       ¬ Rose (d.faults disk) (d.faults disk') → ¬ Rose sink.faults sink'.faults

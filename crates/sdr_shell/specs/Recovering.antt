@@ -50,8 +50,8 @@ pub record IsRecovered {D : Type 0} (d : DiskGhosts D) (disk disk' : D) (count :
   pub frame : Frame
   pub back : Both (d.bytes disk) (d.bytes disk') (PutsBack frame count)
   pub world : IfTold (d.bytes disk) GivesWorld
-  pub synced : IfTold (d.bytes disk) (λ x. MayBeOpened x (d.may_leave disk (d.moment disk)))
-      → IsSynced d.bytes d.moment d.may_leave disk'
+  pub synced : IfTold (d.bytes disk) (λ x. MayBeOpened x (d.may_hold_after disk (d.moment disk)))
+      → IsSynced d.bytes d.moment d.may_hold_after disk'
 
 -- The heap of the disk isn't opened, for this reason. The disk's bytes are the same, where it gives no heap; and the open batches are
 -- put back and closed, where no world stands for it.
@@ -76,7 +76,7 @@ pub data RecoversTo {D : Type 0} (d : DiskGhosts D) (status : ℕ) (disk disk' :
 pub record AnswersRecover {D : Type 0} (d : DiskGhosts D) (status : ℕ) (disk disk' : D) (sink sink' : Seen) : Type 0 where
   pub comes : RecoversTo d status disk disk' sink sink'
   pub any_moment : IfTold (d.bytes disk) (λ x.
-      MayBeOpened x (d.may_leave disk (d.moment disk)) → AtEach d.moment d.may_leave disk disk' (GivesSame x))
+      MayBeOpened x (d.may_hold_after disk (d.moment disk)) → AtEach d.moment d.may_hold_after disk disk' (GivesSame x))
   -- unless there is a fault, the status is by the heap that the disk gives, where it tells its bytes
   pub complete :
       ¬ Rose (d.faults disk) (d.faults disk') → ¬ Rose sink.faults sink'.faults

@@ -15,7 +15,7 @@ use Rattle.sdr_model.specs.World.{World}
 use Rattle.sdr_model.specs.declared.event.Leave.{Leave}
 use Rattle.sdr_model.specs.declared.event.Leave.TheVariants as leaves
 use Rattle.sdr_model.specs.declared.journal.Entry.{Entry}
-use Rattle.sdr_model.specs.declared.script.Step.{Step}
+use Rattle.sdr_model.specs.declared.script.ScriptStep.{ScriptStep}
 use Rattle.sdr_replay.specs.Playing.{Output, Replays, leave_of}
 use Rattle.sdr_replay.specs.Replaying.{IsNotRun, LeavesJournal, ReplaysOn}
 use Rattle.sdr_replay.specs.declared.playing.Ran.{Ran}
@@ -37,7 +37,7 @@ output_of sink = record { taken = sink.bytes; faults = sink.faults }
 -- media weren't read.
 pub record WasShut {D M : Type 0} (d : DiskGhosts D) (left : Option (List ℕ)) (disk disk' : D) (files files' : M) (journal : List Entry)
     (sink sink' : Seen) (why : OpenError) : Type 0 where
-  pub script : List Step
+  pub script : List ScriptStep
   pub input : HadScript left script
   pub not_run : IsNotRun d disk disk' why
   pub unread : files' ≡ files
@@ -47,13 +47,13 @@ pub record WasShut {D M : Type 0} (d : DiskGhosts D) (left : Option (List ℕ)) 
 -- The script that the source's input spelled was run on the heap of the disk with these media, behind whose steps all daemons made
 -- this leave. P tells of the steps that are left and the text of the answers.
 pub record HadReplay {D M : Type 0} (d : DiskGhosts D) (m : MediaGhosts M) (left : Option (List ℕ)) (disk disk' : D) (files files' : M)
-    (journal : List Entry) (leave : Leave) (P : List Step → List ℕ → Type 0) : Type 0 where
-  pub script : List Step
+    (journal : List Entry) (leave : Leave) (P : List ScriptStep → List ℕ → Type 0) : Type 0 where
+  pub script : List ScriptStep
   pub input : HadScript left script
   -- what was opened
   pub ground : Grounded D M
   pub with_media : ground.media ≡ files
-  pub open_so : IsOpen d.bytes d.moment d.may_leave disk ground
+  pub open_so : IsOpen d.bytes d.moment d.may_hold_after disk ground
   -- the answers and the journal are those of the run of the script, from the world on it; media tell the same, and the answers that tell
   -- of faults of theirs, and of too few bytes, are caused
   pub replays : Replays (media_change m.told m.faults m.short files files') (first_on ground) script leave journal P
@@ -84,7 +84,7 @@ pub record WasNotRun {D M : Type 0} (d : DiskGhosts D) (disk : D) (files : M) (s
   pub written : Wrote sink sink' (line_shut why)
 
 -- A script was run on the heap of the disk, and what stopped it was told behind its text.
-pub record WasRun {D M : Type 0} (d : DiskGhosts D) (m : MediaGhosts M) (disk : D) (files : M) (script : List Step) (sink sink' : Seen)
+pub record WasRun {D M : Type 0} (d : DiskGhosts D) (m : MediaGhosts M) (disk : D) (files : M) (script : List ScriptStep) (sink sink' : Seen)
     (r : Replayed D M) : Type 0 where
   pub ran : Ran (D × M)
   pub mid : Seen
@@ -96,11 +96,11 @@ pub record WasRun {D M : Type 0} (d : DiskGhosts D) (m : MediaGhosts M) (disk : 
   pub tells : TellsRan ran r.status mid sink'
 
 -- A script was run on the heap of the disk, or not.
-abbrev pub RunsOrNot : {D M : Type 0} → DiskGhosts D → MediaGhosts M → D → M → List Step → Seen → Seen → Replayed D M → Type 0
+abbrev pub RunsOrNot : {D M : Type 0} → DiskGhosts D → MediaGhosts M → D → M → List ScriptStep → Seen → Seen → Replayed D M → Type 0
 RunsOrNot d m disk files script sink sink' r = WasNotRun d disk files sink sink' r ⊎ WasRun d m disk files script sink sink' r
 
 -- All steps of the script were made, in none of which the disk failed, and all of the input was read. P tells of the text.
-pub record IsWhole {D M : Type 0} (d : DiskGhosts D) (m : MediaGhosts M) (left left' : Option (List ℕ)) (disk disk' : D) (files files' : M)
+pub record IsWholeRun {D M : Type 0} (d : DiskGhosts D) (m : MediaGhosts M) (left left' : Option (List ℕ)) (disk disk' : D) (files files' : M)
     (journal : List Entry) (P : List ℕ → Type 0) : Type 0 where
   pub read : IsAtEnd left'
   pub sound : is_sound journal ≡ true
@@ -127,11 +127,11 @@ IsUntouched disk disk' files files' journal = (disk' ≡ disk) × (files' ≡ fi
 pub data ComesTo {D M : Type 0} (d : DiskGhosts D) (m : MediaGhosts M) (status : ℕ) (source source' : Seen) (disk disk' : D) (files files' : M)
     (journal : List Entry) (sink sink' : Seen) : Type 0 where
   -- all steps were made, and their answers written
-  done : status ≡ DONE → IsWhole d m source.bytes source'.bytes disk disk' files files' journal (Appends sink.bytes sink'.bytes)
+  done : status ≡ DONE → IsWholeRun d m source.bytes source'.bytes disk disk' files files' journal (Appends sink.bytes sink'.bytes)
       → ComesTo d m status source source' disk disk' files files' journal sink sink'
   -- the same, but the output failed
   unwritten : status ≡ OUTPUT_FAULT → Rose sink.faults sink'.faults
-      → IsWhole d m source.bytes source'.bytes disk disk' files files' journal (AppendsPart sink.bytes sink'.bytes)
+      → IsWholeRun d m source.bytes source'.bytes disk disk' files files' journal (AppendsPart sink.bytes sink'.bytes)
       → ComesTo d m status source source' disk disk' files files' journal sink sink'
   -- the disk failed in an entry
   failed : status ≡ DISK_FAULT → HasFailed d m source.bytes disk disk' files files' journal (Wrote sink sink')

@@ -1,13 +1,13 @@
 -- How it is told why a heap isn't opened: by a status and a last line.
 use Rattle.std.specs.Prelude.{ℕ, List, ◌++◌, codes, decimal}
-use Rattle.sdr_check.specs.declared.error.Why.{Why}
-use Rattle.sdr_check.specs.declared.error.Why.TheVariants as whys
+use Rattle.sdr_check.specs.declared.error.Check.{Check}
+use Rattle.sdr_check.specs.declared.error.Check.TheVariants as whys
 use Rattle.sdr_shell.specs.declared.status.TheConstants.{DISK_FAULT, NOT_FORMATTED, DAMAGED, NO_MEMORY}
 use Rattle.sdr_station.specs.declared.error.OpenError.{OpenError}
 use Rattle.sdr_station.specs.declared.error.OpenError.TheVariants as errors
 
 -- what is wrong at a place, in a word
-abbrev pub why_text : Why → List ℕ
+abbrev pub why_text : Check → List ℕ
 why_text whys.Control = codes "control"
 why_text whys.Block = codes "block"
 why_text whys.Bits = codes "bits"

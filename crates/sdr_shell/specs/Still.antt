@@ -7,7 +7,7 @@ use Rattle.sdr_dry.specs.Schedule.{MediaChange, SomeRun}
 use Rattle.sdr_words.specs.Script.{input_script}
 use Rattle.sdr_words.specs.declared.error.ScriptError.{ScriptError}
 use Rattle.sdr_words.specs.declared.error.ScriptError.TheVariants as errors
-use Rattle.sdr_model.specs.declared.script.Step.{Step}
+use Rattle.sdr_model.specs.declared.script.ScriptStep.{ScriptStep}
 use Rattle.sdr_shell.specs.declared.status.TheConstants.{DONE, INPUT_FAULT, OUTPUT_FAULT, REFUSED_LINE, NO_MEMORY}
 
 -- the text was written whole, or a part of it from the front where the sink's count of faults rose
@@ -20,7 +20,7 @@ Had None input = ⊤
 Had (Some left) input = left ≡ input
 
 -- the source's input spells the script
-pub record HadScript (left : Option (List ℕ)) (script : List Step) : Type 0 where
+pub record HadScript (left : Option (List ℕ)) (script : List ScriptStep) : Type 0 where
   pub input : List ℕ
   pub had : Had left input
   pub spells : input_script input ≡ Ok script
@@ -38,8 +38,8 @@ NamesBadLine left (errors.Line line) = HadBadLine left line
 NamesBadLine left errors.NoMemory = ⊤
 
 -- The source's input spelled a script, of which some run of the first steps went so.
-pub record HadRun (left : Option (List ℕ)) (media : MediaChange) (P : List Step → List ℕ → Type 0) : Type 0 where
-  pub script : List Step
+pub record HadRun (left : Option (List ℕ)) (media : MediaChange) (P : List ScriptStep → List ℕ → Type 0) : Type 0 where
+  pub script : List ScriptStep
   pub input : HadScript left script
   pub run : SomeRun media script P
 

@@ -15,12 +15,12 @@ use Rattle.sdr_shell.specs.Replaying.{AnswersReplay}
 use Rattle.sdr_shell.specs.Formatting.{HasFormatted, LeavesDisk}
 use Rattle.sdr_dry.specs.Schedule.{HaveFailed, media_change}
 use Rattle.sdr_shell.specs.declared.form.Form.TheVariants as forms
-use Rattle.sdr_shell.specs.declared.outcome.Outcome.{Outcome}
+use Rattle.sdr_shell.specs.declared.outcome.RunOutcome.{RunOutcome}
 use Rattle.sdr_shell.specs.declared.status.TheConstants.{USAGE}
 
 -- What is answered to the words, given a disk and media: what was read and written, and what is given back.
 pub record AnswersWords {D M S K : Type 0} (d : DiskGhosts D) (m : MediaGhosts M) (s : SourceGhosts S) (k : SinkGhosts K) (words : List (RcStr Global))
-    (disk : D) (files : M) (input input' : S) (output output' : K) (result : Outcome D M) : Type 0 where
+    (disk : D) (files : M) (input input' : S) (output output' : K) (result : RunOutcome D M) : Type 0 where
   -- the status tells that the words are no form just where they are none
   pub usage : (result.status ≡ USAGE) ↔ (form_of words ≡ None)
   -- and then the output is the one line that tells so
@@ -36,7 +36,7 @@ pub record AnswersWords {D M S K : Type 0} (d : DiskGhosts D) (m : MediaGhosts M
       × AnswersFormat result.status frame (d.size disk) (seen d.bytes d.faults disk) (seen d.bytes d.faults result.disk)
       (seen k.taken k.faults output) (seen k.taken k.faults output'))
   -- on a disk that was formatted nothing is left to be synced
-  pub synced : OnFormat (form_of words) (λ _. HasFormatted result.status → IsSynced d.bytes d.moment d.may_leave result.disk)
+  pub synced : OnFormat (form_of words) (λ _. HasFormatted result.status → IsSynced d.bytes d.moment d.may_hold_after result.disk)
   -- no count of faults falls, and the input is read so often at most
   pub counts :
       (s.faults input ≤ s.faults input') × (k.faults output ≤ k.faults output') × (d.faults disk ≤ d.faults result.disk)

@@ -11,7 +11,7 @@ ghost use Rattle.sdr_base.specs.Written.{AppendsPart};
 ghost use Rattle.sdr_replay.specs.Replaying.{IsSettled};
 ghost use Rattle.sdr_shell.specs.Words.{AnswersWords};
 
-use crate::Outcome;
+use crate::RunOutcome;
 use crate::form::{Form, form_of};
 use crate::formatting::format_disk;
 use crate::inspecting::inspect_disk;
@@ -24,7 +24,7 @@ use crate::status::{
 use sdr_base::{Media, Sink, Source};
 use sdr_disk::Disk;
 use sdr_dry::{RunError, run};
-use sdr_model::{Journal, Step};
+use sdr_model::{Journal, ScriptStep};
 use sdr_text::Line;
 use sdr_words::{ScriptError, read_script};
 use std::alloc::Global;
@@ -47,7 +47,7 @@ fn refuse_line<K: Sink>(output: &mut K, line: u64)
 // Runs a script.
 fn run_script<M: Media, K: Sink>(
     alloc: Global,
-    script: &[Step],
+    script: &[ScriptStep],
     media: &mut M,
     output: &mut K,
 ) -> u8
@@ -137,14 +137,14 @@ fn dry<M: Media, S: Source, K: Sink>(
 }
 
 // What is given back where there is no journal.
-fn outcome<D, M>(alloc: Global, status: u8, disk: D, media: M) -> Outcome<D, M>
+fn outcome<D, M>(alloc: Global, status: u8, disk: D, media: M) -> RunOutcome<D, M>
     ensures status { result.status ≡ status }
     ensures journal { result.journal ≡ [] }
     ensures disk { result.disk ≡ disk }
     ensures media { result.media ≡ media }
 {
     let journal = Journal::new(alloc);
-    Outcome {
+    RunOutcome {
         status,
         journal,
         disk,
@@ -160,7 +160,7 @@ pub fn still<D: Disk, M: Media, S: Source, K: Sink>(
     mut media: M,
     input: &mut S,
     output: &mut K,
-) -> Outcome<D, M>
+) -> RunOutcome<D, M>
     requires settled { form_of words.now ≡ Some Form.Replay → IsSettled D.Disk disk }
     ensures { AnswersWords D.Disk M.Media S.Source K.Sink words.now disk media
         input.old input.new output.old output.new result }
@@ -177,7 +177,7 @@ pub fn still<D: Disk, M: Media, S: Source, K: Sink>(
                 disk,
                 media,
             } = replay_input(alloc, disk, media, input, output);
-            Outcome {
+            RunOutcome {
                 status,
                 journal,
                 disk,

@@ -2,8 +2,8 @@
 ghost use Rattle.std.specs.Prelude.{◌≡◌, IfSome};
 ghost use Rattle.std.specs.Rc.{rc_str_bytes};
 ghost use Rattle.sdr_log.specs.Frame.{IsInLimits};
-ghost use Rattle.sdr_shell.specs.Form.{frame_of, form_of, OnFormat};
-ghost use Rattle.sdr_words.specs.Words.{number_of};
+ghost use Rattle.sdr_shell.specs.Form.{frame_from, form_of, OnFormat};
+ghost use Rattle.sdr_words.specs.Words.{as_number};
 
 use sdr_log::Frame;
 use sdr_words::number_of;
@@ -26,7 +26,7 @@ pub enum Form {
 
 // The regions that two words ask for.
 fn frame_of(log: &[u8], heap: &[u8]) -> Option<Frame>
-    ensures frame { result ≡ frame_of (number_of log.now) (number_of heap.now) }
+    ensures frame { result ≡ frame_from (as_number log.now) (as_number heap.now) }
     ensures limits { IfSome result (λ frame. IsInLimits frame) }
 {
     let log_lines = number_of(log)?;

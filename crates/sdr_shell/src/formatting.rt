@@ -63,7 +63,7 @@ pub fn format_disk<D: Disk, K: Sink>(frame: Frame, disk: &mut D, output: &mut K)
     // done
     ensures formatted { HasFormatted result →
         IsFormatted frame (D.bytes disk.old) (D.bytes disk.new) }
-    ensures synced { HasFormatted result → IsSynced D.bytes D.moment D.may_leave disk.new }
+    ensures synced { HasFormatted result → IsSynced D.bytes D.moment D.may_hold_after disk.new }
     ensures text { result ≡ DONE →
         Appends (K.taken output.old) (K.taken output.new) (line_formatted frame) }
     ensures part { result ≡ OUTPUT_FAULT →

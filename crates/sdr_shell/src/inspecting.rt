@@ -55,7 +55,7 @@ fn survey_disk<D: Disk>(alloc: Global, disk: &mut D) -> Result<Survey, OpenError
         (D.faults disk.old) (D.faults disk.new)) }
     ensures later { D.faults disk.old ≤ D.faults disk.new }
     ensures size { D.size disk.new ≡ D.size disk.old }
-    ensures reads { Reads D.bytes D.moment D.may_leave disk.old disk.new }
+    ensures reads { Reads D.bytes D.moment D.may_hold_after disk.old disk.new }
 {
     let mut still = match peek(alloc, disk) {
         Ok(still) => still,

@@ -29,7 +29,7 @@ mod top_call;
 
 pub use commands::still;
 pub use form::{Form, form_of};
-pub use outcome::Outcome;
+pub use outcome::RunOutcome;
 pub use status::{
     DAMAGED, DISK_FAULT, DONE, INPUT_FAULT, NO_MEMORY, NOT_FORMATTED, OUTPUT_FAULT, REFUSED_LINE,
     TOO_SMALL, USAGE,

@@ -3,7 +3,7 @@ use sdr_model::Journal;
 
 /// What the top call gives back.
 #[derive(Drop)]
-pub struct Outcome<D, M> {
+pub struct RunOutcome<D, M> {
     /// The status: 0 where all was done.
     pub status: u8,
     /// The entries by rising lock number, none where the words ask for no journal.

@@ -12,7 +12,7 @@ use crate::shutting::tell_shut;
 use crate::status::{DISK_FAULT, DONE, NO_MEMORY, OUTPUT_FAULT};
 use sdr_base::{Media, Sink, Source};
 use sdr_disk::Disk;
-use sdr_model::{Journal, Step};
+use sdr_model::{Journal, ScriptStep};
 use sdr_replay::{Ran, replay};
 use sdr_words::read_script;
 use std::alloc::Global;
@@ -63,7 +63,7 @@ fn unrun<D, M>(alloc: Global, status: u8, disk: D, media: M) -> Replayed<D, M>
 // Replays a schedule that was read.
 fn replay_script<D: Disk, M: Media, K: Sink>(
     alloc: Global,
-    script: &[Step],
+    script: &[ScriptStep],
     disk: D,
     media: M,
     output: &mut K,

@@ -6,23 +6,23 @@ ghost use Rattle.sdr_shell.specs.Shutting.{line_shut, status_shut, why_text};
 use crate::last_line::last_line;
 use crate::status::{DAMAGED, DISK_FAULT, NO_MEMORY, NOT_FORMATTED};
 use sdr_base::Sink;
-use sdr_check::Why;
+use sdr_check::Check;
 use sdr_station::OpenError;
 use sdr_text::Line;
 
 // What is wrong at a place, in a word.
-fn why_text(why: Why) -> &'static [u8]
+fn why_text(why: Check) -> &'static [u8]
     ensures { result.now ≡ why_text why }
 {
     match why {
-        Why::Control => b"control",
-        Why::Block => b"block",
-        Why::Bits => b"bits",
-        Why::Free => b"free",
-        Why::Content => b"content",
-        Why::Owner => b"owner",
-        Why::Count => b"count",
-        Why::Queue => b"queue",
+        Check::Control => b"control",
+        Check::Block => b"block",
+        Check::Bits => b"bits",
+        Check::Free => b"free",
+        Check::Content => b"content",
+        Check::Owner => b"owner",
+        Check::Count => b"count",
+        Check::Queue => b"queue",
     }
 }
 

@@ -5,7 +5,7 @@ ghost use Rattle.sdr_shell.specs.Form.{form_of};
 ghost use Rattle.sdr_shell.specs.Words.{AnswersWords};
 ghost use Rattle.sdr_shell.specs.declared.form.Form.{Form};
 
-use crate::Outcome;
+use crate::RunOutcome;
 use crate::commands::still;
 use sdr_base::{Gate, Media, Sink, Source};
 use sdr_disk::Disk;
@@ -32,7 +32,7 @@ pub fn top<
     input: &mut S,
     output: &mut K,
     _gate: &G,
-) -> Outcome<D, M>
+) -> RunOutcome<D, M>
     requires settled { form_of words.now ≡ Some Form.Replay → IsSettled D.Disk disk }
     ensures { AnswersWords D.Disk M.Media S.Source K.Sink words.now disk media
         input.old input.new output.old output.new result }

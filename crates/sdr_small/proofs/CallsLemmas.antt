@@ -7,11 +7,11 @@ use Rattle.std.proofs.lemmas.Bool.{le-ltb, lt-ltb}
 use Rattle.sdr_base.specs.Pools.{Pools, IsUsed, is_of}
 use Rattle.sdr_base.specs.SmallPool.{Taken, take_small, take_from, with_front_taken, with_new_small, give_small}
 use Rattle.sdr_base.specs.SmallPool.{words_at}
-use Rattle.sdr_base.specs.KeptPools.{Chain, KeepsSmall, KeepsSomeSmall, list_place}
+use Rattle.sdr_base.specs.KeptPools.{ChainFrom, KeepsSmall, KeepsSomeSmall, list_place}
 use Rattle.sdr_base.specs.Stored.{number_at, with_number, leader_words, with_bare_leader, SetsStartBit}
 use Rattle.sdr_base.proofs.SmallPoolLemmas.{words_at-is}
 use Rattle.sdr_base.proofs.KeptPoolsLemmas.{in_order, is_block, free_is, front_free}
-use Rattle.sdr_small.specs.Calls.{TakesBlock, TakesBy, TakesSmall, TakesListed, TakesNew, KeepsUsedSmall, IsGiveable, Gives}
+use Rattle.sdr_small.specs.Calls.{TakesBlock, TakesBy, TakesSmall, TakesListed, TakesNew, KeepsUsedSmall, IsGiveable, GivesSmall}
 use Rattle.sdr_small.specs.Calls.{PutsFront}
 use Rattle.sdr_small.proofs.TakeLemmas.{takes_listed}
 use Rattle.sdr_small.proofs.NewLemmas.{takes_new}
@@ -25,10 +25,10 @@ pub record HasFront (P : Pools) (words front : ℕ) : Type 0 where
 -- a list whose control word is 0 is empty
 pub empty_list : (x : List ℕ) (P : Pools) (words : ℕ) → KeepsSmall x P → 1 ≤ words → words ≤ 64 →
     number_at (list_place words) x ≡ 0 → P.small_lists words ≡ []
-unfolding Chain
+unfolding ChainFrom
 empty_list x P words keeps some most none = cases (P.small_lists words) refl (keeps.lists words some most)
   where
-    cases : (l : List ℕ) → P.small_lists words ≡ l → Chain x (list_place words) l → P.small_lists words ≡ []
+    cases : (l : List ℕ) → P.small_lists words ≡ l → ChainFrom x (list_place words) l → P.small_lists words ≡ []
     cases [] is chain = is
     cases (a ∷ l) is chain =
         let block = is_block x P words a keeps (free_is P words a (front_free x P words a l keeps is)) in
@@ -37,10 +37,10 @@ empty_list x P words keeps some most none = cases (P.small_lists words) refl (ke
 -- any other is the front of its list
 pub has_front : (x : List ℕ) (P : Pools) (words front : ℕ) → KeepsSmall x P → 1 ≤ words → words ≤ 64 →
     front ≡ number_at (list_place words) x → front ≢ 0 → HasFront P words front
-unfolding Chain
+unfolding ChainFrom
 has_front x P words front keeps some most given there = cases (P.small_lists words) refl (keeps.lists words some most)
   where
-    cases : (l : List ℕ) → P.small_lists words ≡ l → Chain x (list_place words) l → HasFront P words front
+    cases : (l : List ℕ) → P.small_lists words ≡ l → ChainFrom x (list_place words) l → HasFront P words front
     cases [] is chain = absurd (there (given ∙ chain))
     cases (a ∷ l) is chain = record { rest = l; is = is ∙ ap (λ (n : ℕ). n ∷ l) (sym chain.0 ∙ sym given) }
 
@@ -157,7 +157,7 @@ can_give x z words addr same k given =
 
 -- the block was given back
 pub gives_back : (x z y : List ℕ) (words addr : ℕ) → z ≡ x → words ≡ leader_words (addr - 8) x →
-    PutsFront words addr z y → Gives addr x y
+    PutsFront words addr z y → GivesSmall addr x y
 gives_back x z y words addr same given puts = record {
   rule = λ P keeps used.
       gives_block x y P addr keeps used
@@ -188,8 +188,8 @@ TakesSmall-used x y words (Some addr) k takes = cases (take_small k.pools words)
         (record { pools = taken.pools; keeps = by.keeps; used = by.used })
 
 -- after a give the bytes keep a pool
-pub Gives-kept : (x y : List ℕ) (addr : ℕ) → KeepsUsedSmall addr x → Gives addr x y → KeepsSomeSmall y
-Gives-kept x y addr k gives =
+pub GivesSmall-kept : (x y : List ℕ) (addr : ℕ) → KeepsUsedSmall addr x → GivesSmall addr x y → KeepsSomeSmall y
+GivesSmall-kept x y addr k gives =
     record { pools = give_small k.pools addr; keeps = (gives.rule k.pools k.keeps k.used).keeps }
 
 -- what holds of the value in an Ok says this

@@ -5,7 +5,7 @@ use Rattle.std.specs.List.{count_by}
 use Rattle.std.proofs.lemmas.Bool.{cases_eq}
 use Rattle.sdr_base.specs.Pools.{Pools, IsUsed, is_of, is_free_of, is_used_at, TilesSmall}
 use Rattle.sdr_base.specs.SmallPool.{with_used, with_list, words_at}
-use Rattle.sdr_base.specs.KeptPools.{Chain, KeepsSmall, StaysBeside, list_place}
+use Rattle.sdr_base.specs.KeptPools.{ChainFrom, KeepsSmall, StaysBeside, list_place}
 use Rattle.sdr_base.specs.Stored.{number_at, with_number, leader_kind, leader_words, leader_length, with_bare_leader}
 use Rattle.sdr_base.specs.Stored.{start_bit}
 use Rattle.sdr_base.proofs.PoolsLemmas.{apart, free-used-le-at}
@@ -19,7 +19,7 @@ use Rattle.sdr_base.proofs.StoredLemmas.{leader_words-same, leader_kind-same, le
 use Rattle.sdr_base.proofs.StoredLemmas.{get_or-with_bare_leader, length-with_bare_leader}
 use Rattle.sdr_base.proofs.StoredLemmas.{leader_words-with_bare_leader, leader_kind-with_bare_leader}
 use Rattle.sdr_base.proofs.StoredLemmas.{leader_length-with_bare_leader}
-use Rattle.sdr_base.proofs.KeptPoolsLemmas.{Chain-moved, IsInOrder, in_order, IsBlock, is_block, free_is, listed_is}
+use Rattle.sdr_base.proofs.KeptPoolsLemmas.{ChainFrom-moved, IsInOrder, in_order, IsBlock, is_block, free_is, listed_is}
 use Rattle.sdr_base.proofs.KeptPoolsLemmas.{next_fits}
 use Rattle.sdr_small.proofs.GivenLemmas.{given, tiles_given}
 use Rattle.sdr_small.specs.Calls.{PutsFront, GivesBlock}
@@ -168,26 +168,26 @@ module _ (x y : List ℕ) (P : Pools) (words addr : ℕ) (keeps : KeepsSmall x P
       (led x words addr) list_in
       (omega (arith, block.last, order.order, order.end, order.most))
 
-  chain : Chain y (list_place words) (addr ∷ P.small_lists words)
-  unfolding Chain
+  chain : ChainFrom y (list_place words) (addr ∷ P.small_lists words)
+  unfolding ChainFrom
   chain = (
     front,
-    Chain-moved x y (list_place words) addr (P.small_lists words) next (link words)
+    ChainFrom-moved x y (list_place words) addr (P.small_lists words) next (link words)
         (keeps.lists words block.some block.most),
   )
 
   lists : (other : ℕ) → 1 ≤ other → other ≤ 64 →
-      Chain y (list_place other) (with_list words (addr ∷ P.small_lists words) P.small_lists other)
+      ChainFrom y (list_place other) (with_list words (addr ∷ P.small_lists words) P.small_lists other)
   lists other some_other most_other = elim (cases_eq other words) [
     | inl same ↦
-        subst (λ (w : ℕ). Chain y (list_place w) (with_list words (addr ∷ P.small_lists words) P.small_lists w))
+        subst (λ (w : ℕ). ChainFrom y (list_place w) (with_list words (addr ∷ P.small_lists words) P.small_lists w))
         (sym same)
-        (subst (λ (l : List ℕ). Chain y (list_place words) l)
+        (subst (λ (l : List ℕ). ChainFrom y (list_place words) l)
         (sym (with_list-here words (addr ∷ P.small_lists words) P.small_lists)) chain)
     | inr differ ↦
-        subst (λ (l : List ℕ). Chain y (list_place other) l)
+        subst (λ (l : List ℕ). ChainFrom y (list_place other) l)
         (sym (with_list-other words other (addr ∷ P.small_lists words) P.small_lists differ))
-        (Chain-moved x y (list_place other) (list_place other) (P.small_lists other)
+        (ChainFrom-moved x y (list_place other) (list_place other) (P.small_lists other)
         (control (list_place other) (omega arith) (sides other differ)) (link other)
         (keeps.lists other some_other most_other))
   ]

@@ -8,7 +8,7 @@ use Rattle.std.proofs.lemmas.Bool.{cases_eq, cases_Bool}
 use Rattle.std.proofs.lemmas.Bool.Decides.{nat_tests}
 use Rattle.sdr_base.specs.Pools.{PoolBlock, Pools, is_of, is_free_of, is_used_at, TilesSmall}
 use Rattle.sdr_base.specs.SmallPool.{with_new_small}
-use Rattle.sdr_base.specs.KeptPools.{Chain, KeepsSmall, list_place}
+use Rattle.sdr_base.specs.KeptPools.{ChainFrom, KeepsSmall, list_place}
 use Rattle.sdr_base.specs.Stored.{number_at, with_number, leader_kind, leader_words, leader_length, with_bare_leader}
 use Rattle.sdr_base.specs.Stored.{start_bit, SetsStartBit}
 use Rattle.sdr_base.proofs.PoolsLemmas.{count_by-append, is_of-true, used-le-at, at-last, Follows-whole}
@@ -19,7 +19,7 @@ use Rattle.sdr_base.proofs.StoredLemmas.{leader_words-same, leader_kind-same, le
 use Rattle.sdr_base.proofs.StoredLemmas.{get_or-with_bare_leader, length-with_bare_leader}
 use Rattle.sdr_base.proofs.StoredLemmas.{leader_words-with_bare_leader, leader_kind-with_bare_leader}
 use Rattle.sdr_base.proofs.StoredLemmas.{leader_length-with_bare_leader}
-use Rattle.sdr_base.proofs.KeptPoolsLemmas.{Chain-moved, IsInOrder, in_order, is_block, free_is, listed_is}
+use Rattle.sdr_base.proofs.KeptPoolsLemmas.{ChainFrom-moved, IsInOrder, in_order, is_block, free_is, listed_is}
 use Rattle.sdr_small.specs.Calls.{TakesBlock}
 
 -- the new block
@@ -109,9 +109,9 @@ module _ (x y : List ℕ) (P : Pools) (words : ℕ) (keeps : KeepsSmall x P) (so
       number_at-same a x y (λ i ge lt. above i (omega (arith, ge, there.first))
       (omega (arith, lt, there.last, there.some)))
 
-  lists : (other : ℕ) → 1 ≤ other → other ≤ 64 → Chain y (list_place other) (P.small_lists other)
+  lists : (other : ℕ) → 1 ≤ other → other ≤ 64 → ChainFrom y (list_place other) (P.small_lists other)
   lists other some_other most_other =
-      Chain-moved x y (list_place other) (list_place other) (P.small_lists other)
+      ChainFrom-moved x y (list_place other) (list_place other) (P.small_lists other)
       (control (list_place other) (omega arith) (inr (omega arith))) (link other)
       (keeps.lists other some_other most_other)
 

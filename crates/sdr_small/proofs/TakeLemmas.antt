@@ -7,7 +7,7 @@ use Rattle.std.proofs.lemmas.Bool.{cases_eq}
 use Rattle.std.proofs.lemmas.Bool.Decides.{nat_tests}
 use Rattle.sdr_base.specs.Pools.{Pools, is_of, is_free_of, is_used_at, TilesSmall}
 use Rattle.sdr_base.specs.SmallPool.{with_used, with_list, with_front_taken}
-use Rattle.sdr_base.specs.KeptPools.{Chain, KeepsSmall, list_place}
+use Rattle.sdr_base.specs.KeptPools.{ChainFrom, KeepsSmall, list_place}
 use Rattle.sdr_base.specs.Stored.{number_at, with_number, start_bit}
 use Rattle.sdr_base.proofs.PoolsLemmas.{count_by-append, of-le-at, free-le-of, free-free-le-at, count_by-no}
 use Rattle.sdr_base.proofs.SmallPoolLemmas.{with_list-here, with_list-other, Follows-with_used, of-with_used}
@@ -16,7 +16,7 @@ use Rattle.sdr_base.proofs.SmallPoolLemmas.{used-with_used_taken}
 use Rattle.sdr_base.proofs.StartBitsLemmas.{start_bit-same}
 use Rattle.sdr_base.proofs.StoredLemmas.{number_at-with_number, number_at-same, get_or-with_number, length-with_number}
 use Rattle.sdr_base.proofs.StoredLemmas.{leader_words-same, leader_kind-same, leader_length-same}
-use Rattle.sdr_base.proofs.KeptPoolsLemmas.{Chain-moved, IsInOrder, in_order, IsBlock, is_block, free_is, listed_is}
+use Rattle.sdr_base.proofs.KeptPoolsLemmas.{ChainFrom-moved, IsInOrder, in_order, IsBlock, is_block, free_is, listed_is}
 use Rattle.sdr_base.proofs.KeptPoolsLemmas.{front_is, front_free, next_fits}
 use Rattle.sdr_small.specs.Calls.{TakesListed, TakesBlock}
 
@@ -69,9 +69,9 @@ module _ (x y : List ℕ) (P : Pools) (words addr : ℕ) (rest : List ℕ) (keep
       side i ge lt (inr behind) = inr (omega (arith, ge, behind))
 
   -- the list behind its front
-  chain : Chain x addr rest
-  unfolding Chain
-  chain = (subst (λ (l : List ℕ). Chain x (list_place words) l) is (keeps.lists words some most)).1
+  chain : ChainFrom x addr rest
+  unfolding ChainFrom
+  chain = (subst (λ (l : List ℕ). ChainFrom x (list_place words) l) is (keeps.lists words some most)).1
 
   -- an address behind the front is that of a free block
   in_rest : (a : ℕ) → 0 < count_by (λ b. b == a) rest → 0 < count_by (λ b. b == a) (P.small_lists words)
@@ -98,16 +98,16 @@ module _ (x y : List ℕ) (P : Pools) (words addr : ℕ) (rest : List ℕ) (keep
       (omega (arith, order.control, order.small, order.order, order.end)) fits
 
   lists : (other : ℕ) → 1 ≤ other → other ≤ 64 →
-      Chain y (list_place other) (with_list words rest P.small_lists other)
+      ChainFrom y (list_place other) (with_list words rest P.small_lists other)
   lists other some_other most_other = elim (cases_eq other words) [
     | inl same ↦
-        subst (λ (w : ℕ). Chain y (list_place w) (with_list words rest P.small_lists w)) (sym same)
-        (subst (λ (l : List ℕ). Chain y (list_place words) l) (sym (with_list-here words rest P.small_lists))
-        (Chain-moved x y addr (list_place words) rest front (λ a there. link words a (in_rest a there)) chain))
+        subst (λ (w : ℕ). ChainFrom y (list_place w) (with_list words rest P.small_lists w)) (sym same)
+        (subst (λ (l : List ℕ). ChainFrom y (list_place words) l) (sym (with_list-here words rest P.small_lists))
+        (ChainFrom-moved x y addr (list_place words) rest front (λ a there. link words a (in_rest a there)) chain))
     | inr differ ↦
-        subst (λ (l : List ℕ). Chain y (list_place other) l)
+        subst (λ (l : List ℕ). ChainFrom y (list_place other) l)
         (sym (with_list-other words other rest P.small_lists differ))
-        (Chain-moved x y (list_place other) (list_place other) (P.small_lists other)
+        (ChainFrom-moved x y (list_place other) (list_place other) (P.small_lists other)
         (control (list_place other) (omega arith) (sides other differ)) (link other)
         (keeps.lists other some_other most_other))
   ]

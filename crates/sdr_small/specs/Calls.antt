@@ -43,7 +43,7 @@ pub record GivesBlock (P : Pools) (addr : ℕ) (old new : List ℕ) : Type 0 whe
   pub others : StaysBeside P.start addr (words_at addr P.small) old new
 
 -- so it is for whatever pools the bytes keep
-pub record Gives (addr : ℕ) (old new : List ℕ) : Type 0 where
+pub record GivesSmall (addr : ℕ) (old new : List ℕ) : Type 0 where
   pub rule : (P : Pools) → KeepsSmall old P → IsUsed P.small addr → GivesBlock P addr old new
 
 -- the front of the list for so many words goes, and its start bit is set

@@ -4,7 +4,7 @@ ghost use Rattle.sdr_base.specs.Objects.{OnlyFull};
 ghost use Rattle.sdr_base.specs.declared.line.TheConstants.{START_BITS};
 ghost use Rattle.sdr_base.specs.Transaction.{HasReason, TouchesAtMost};
 ghost use Rattle.sdr_base.specs.KeptPools.{KeepsSomeSmall};
-ghost use Rattle.sdr_small.specs.Calls.{PutsFront, KeepsUsedSmall, Gives};
+ghost use Rattle.sdr_small.specs.Calls.{PutsFront, KeepsUsedSmall, GivesSmall};
 
 use sdr_base::control::{MOST_SMALL, SMALL_LISTS};
 use sdr_base::{
@@ -16,7 +16,7 @@ use sdr_base::{
 /// words. It costs 3 reads and 4 writes.
 pub fn give<C: Cells>(c: &mut C, addr: Addr) -> Result<(), Stop>
     requires used { KeepsUsedSmall addr (C.bytes c.old) }
-    ensures given { OnOk result (Gives addr (C.bytes c.old) (C.bytes c.new)) }
+    ensures given { OnOk result (GivesSmall addr (C.bytes c.old) (C.bytes c.new)) }
     ensures kept { OnOk result (KeepsSomeSmall (C.bytes c.new)) }
     ensures refused { IfErr result OnlyFull }
     ensures size { length (C.bytes c.new) ≡ length (C.bytes c.old) }

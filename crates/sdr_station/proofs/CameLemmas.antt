@@ -2,7 +2,7 @@
 use Rattle.std.proofs.Common.{◌≡◌, ◌∙◌, ◌≤◌, ◌⊎◌, ℕ, List, [], Bool, true, false, not, Option, Result, Ok, Err, true≢false, refl, sym, ap, subst, arith}
 use Rattle.sdr_base.specs.KeptHeap.{KeepsRegion}
 use Rattle.sdr_base.specs.Moves.{KeepsSome}
-use Rattle.sdr_base.specs.Works.{Works}
+use Rattle.sdr_base.specs.Works.{Spends}
 use Rattle.sdr_base.specs.declared.media.Media.{Ghosts as MediaGhosts}
 use Rattle.sdr_base.specs.declared.refusal.Refusal.{Refusal}
 use Rattle.sdr_base.specs.declared.stop.Stop.{Stop}
@@ -12,7 +12,7 @@ use Rattle.sdr_heap.specs.Noted.{Held}
 use Rattle.sdr_image.specs.Opened.{IsQuiet, Opened}
 use Rattle.sdr_lock.proofs.GroundLemmas.{keeps_more}
 use Rattle.sdr_lock.specs.Crash.{LeavesBefore}
-use Rattle.sdr_lock.specs.Gaps.{GapsLast, HasGapCause}
+use Rattle.sdr_lock.specs.Lapses.{LapsesLast, HasLapseCause}
 use Rattle.sdr_lock.specs.Serving.{Brings, Calls, KeepsGround}
 use Rattle.sdr_model.specs.Fields.{FitsCall}
 use Rattle.sdr_model.specs.Reading.{is_reading}
@@ -23,34 +23,34 @@ use Rattle.sdr_model.specs.declared.answer.Reply.{Reply}
 use Rattle.sdr_model.specs.declared.answer.Reply.TheVariants as replies
 use Rattle.sdr_model.specs.declared.call.Call.{Call}
 use Rattle.sdr_station.proofs.GivingLemmas.{gives_shown}
-use Rattle.sdr_station.proofs.GroundLemmas.{gaps_of, ground_brought, heap_ground, keeps_read}
+use Rattle.sdr_station.proofs.GroundLemmas.{lapses_of, ground_brought, heap_ground, keeps_read}
 use Rattle.sdr_station.proofs.MediaLemmas.{answered_gap, answered_reads, refused_gap, refused_reads}
 use Rattle.sdr_station.proofs.ServingLemmas.{AsksIn, WorksIn, answers_no_doom, brings_answered, brings_missed, brings_quiet, brings_refused, going_ground, good_in, image_heap, leaves_quiet, no_fault, quiet_of, refused_ground, served_in}
-use Rattle.sdr_answers.specs.Answering.{Comes, IsServed, dooms}
+use Rattle.sdr_answers.specs.Answering.{ComesInEach, IsReady, dooms}
 use Rattle.sdr_served.specs.Giving.{TellsInEach}
 use Rattle.sdr_served.specs.Serving.{IsGood, call_lines}
 use Rattle.zco_wire.specs.Stopping.{KeepsTold, past_media, past_stop}
 use Rattle.sdr_station.specs.Closing.{moves_left}
-use Rattle.sdr_station.specs.Giving.{Gives, reads_by}
+use Rattle.sdr_station.specs.Giving.{GivesReply, reads_by}
 use Rattle.zco_given.specs.Giving.{may_read}
 use Rattle.sdr_station.specs.Grounded.{Grounded, IsGround, StandsForBoth, StandsInMemory, StandsSome, StandsWithin, heap_in}
 
 -- what a call came to on a ground
-pub record CameTo {D M : Type 0} (told : D → Option (List ℕ)) (moment faults : D → ℕ) (may_leave : D → ℕ → List ℕ → Type 0)
+pub record CameTo {D M : Type 0} (told : D → Option (List ℕ)) (moment faults : D → ℕ) (may_hold_after : D → ℕ → List ℕ → Type 0)
     (media : MediaGhosts M) (call : Call) (reply : Reply) (old new : Grounded D M) : Type 0 where
   pub memory : Brings StandsInMemory old new (Calls (media.told old.media) call reply)
-  pub answered : Brings (λ g v. StandsForBoth told moment may_leave g v) old new (Calls (media.told old.media) call reply)
+  pub answered : Brings (λ g v. StandsForBoth told moment may_hold_after g v) old new (Calls (media.told old.media) call reply)
   pub stopped : new.stopped ≡ dooms call reply
-  pub gives : Gives reply new
-  pub gap : HasGapCause (answers.Reply reply) (gaps_of media old.media) (gaps_of media new.media)
+  pub gives : GivesReply reply new
+  pub gap : HasLapseCause (answers.Reply reply) (lapses_of media old.media) (lapses_of media new.media)
   pub unread : reads_by call reply ≡ false → new.media ≡ old.media
   pub sound : new.heap.cells.failed ≡ false
-  pub keeps : KeepsGround (heap_ground told moment faults may_leave media) true old new
-  pub any_moment : LeavesBefore (heap_ground told moment faults may_leave media) old new
+  pub keeps : KeepsGround (heap_ground told moment faults may_hold_after media) true old new
+  pub any_moment : LeavesBefore (heap_ground told moment faults may_hold_after media) old new
   pub is_ground : IsGround moment new
 
 -- A call on a ground in which none was stopped, from this heap before it, without moves.
-module _ {D M : Type 0} (told : D → Option (List ℕ)) (moment faults : D → ℕ) (may_leave : D → ℕ → List ℕ → Type 0)
+module _ {D M : Type 0} (told : D → Option (List ℕ)) (moment faults : D → ℕ) (may_hold_after : D → ℕ → List ℕ → Type 0)
     (media : MediaGhosts M) (old : Grounded D M) (ground : IsGround moment old) (going : old.stopped ≡ false) (call : Call) (fit : FitsCall call)
     (before : Held (Opened D)) (from : before ≡ record old.heap { moves = []; spare = before.spare })
     (heap : Held (Opened D)) (files : M) (lasts : KeepsTold media old.media files) (page : List ℕ) where
@@ -60,8 +60,8 @@ module _ {D M : Type 0} (told : D → Option (List ℕ)) (moment faults : D → 
   -- what the call works, in each world that the heap before it stood for
   abbrev pub WorksFrom : Result Reply Stop → Type 0
   WorksFrom result =
-      (w : World) → HeapStandsFor (heap_in before) w → IsServed w
-      → Works (image_heap faults) (call_lines (heap_in before) w call) before heap (past_media result)
+      (w : World) → HeapStandsFor (heap_in before) w → IsReady w
+      → Spends (image_heap faults) (call_lines (heap_in before) w call) before heap (past_media result)
 
   -- what it tells of media
   abbrev pub AsksFrom : Result Reply Stop → Type 0
@@ -73,16 +73,16 @@ module _ {D M : Type 0} (told : D → Option (List ℕ)) (moment faults : D → 
 
   works_from : (result : Result Reply Stop) → WorksFrom result → WorksIn faults media old going call fit before.spare heap files page result
   works_from result works =
-      subst (λ (h : Held (Opened D)). (w : World) → HeapStandsFor (heap_in h) w → IsServed w
-      → Works (image_heap faults) (call_lines (heap_in h) w call) h heap (past_media result)) from works
+      subst (λ (h : Held (Opened D)). (w : World) → HeapStandsFor (heap_in h) w → IsReady w
+      → Spends (image_heap faults) (call_lines (heap_in h) w call) h heap (past_media result)) from works
 
   asks_from : (result : Result Reply Stop) → AsksFrom result → AsksIn faults media old going call fit before.spare heap files page result
   asks_from result asks =
       subst (λ (h : Held (Opened D)). TellsInEach media call (heap_in h) (heap_in heap) old.shown page old.media files result) from asks
 
-  comes_from : (result : Result Reply Stop) → Comes call (heap_in before) (heap_in heap) old.shown page result
-      → Comes call (heap_in fresh) (heap_in heap) old.shown page result
-  comes_from result comes = subst (λ (h : Held (Opened D)). Comes call (heap_in h) (heap_in heap) old.shown page result) from comes
+  comes_from : (result : Result Reply Stop) → ComesInEach call (heap_in before) (heap_in heap) old.shown page result
+      → ComesInEach call (heap_in fresh) (heap_in heap) old.shown page result
+  comes_from result comes = subst (λ (h : Held (Opened D)). ComesInEach call (heap_in h) (heap_in heap) old.shown page result) from comes
 
   -- the ground stands for a world, in which calls are served
   some : StandsSome old
@@ -105,22 +105,22 @@ module _ {D M : Type 0} (told : D → Option (List ℕ)) (moment faults : D → 
 
   -- what it brings in memory, it comes to
   comes_to : (reply : Reply) (new : Grounded D M) → IsQuiet old.heap.cells new.heap.cells → new.moment ≡ old.moment → new.media ≡ files
-      → faults old.heap.cells.disk ≤ faults new.heap.cells.disk → new.stopped ≡ dooms call reply → new.idle ≡ false → Gives reply new
-      → HasGapCause (answers.Reply reply) (gaps_of media old.media) (gaps_of media files) → (reads_by call reply ≡ false → files ≡ old.media)
-      → Brings StandsInMemory old new (Calls (media.told old.media) call reply) → CameTo told moment faults may_leave media call reply old new
+      → faults old.heap.cells.disk ≤ faults new.heap.cells.disk → new.stopped ≡ dooms call reply → new.idle ≡ false → GivesReply reply new
+      → HasLapseCause (answers.Reply reply) (lapses_of media old.media) (lapses_of media files) → (reads_by call reply ≡ false → files ≡ old.media)
+      → Brings StandsInMemory old new (Calls (media.told old.media) call reply) → CameTo told moment faults may_hold_after media call reply old new
   comes_to reply new quiet same read later stopped made gives gap unread memory = record {
     memory = memory;
-    answered = brings_quiet told moment may_leave old new quiet same memory;
+    answered = brings_quiet told moment may_hold_after old new quiet same memory;
     stopped = stopped;
     gives = gives;
-    gap = subst (λ (f : M). HasGapCause (answers.Reply reply) (gaps_of media old.media) (gaps_of media f)) (sym read) gap;
+    gap = subst (λ (f : M). HasLapseCause (answers.Reply reply) (lapses_of media old.media) (lapses_of media f)) (sym read) gap;
     unread = λ none. read ∙ unread none;
     sound = quiet.failed ∙ sound;
-    keeps = keeps_more (heap_ground told moment faults may_leave media)
-        (keeps_read told moment faults may_leave media old new (ap media.told read ∙ lasts.told)
-        (subst (λ (f : M). GapsLast (gaps_of media old.media) (gaps_of media f)) (sym read) (record { faults = lasts.faults; short = lasts.short }))
+    keeps = keeps_more (heap_ground told moment faults may_hold_after media)
+        (keeps_read told moment faults may_hold_after media old new (ap media.told read ∙ lasts.told)
+        (subst (λ (f : M). LapsesLast (lapses_of media old.media) (lapses_of media f)) (sym read) (record { faults = lasts.faults; short = lasts.short }))
         later);
-    any_moment = leaves_quiet told moment faults may_leave media old new quiet.disk same;
+    any_moment = leaves_quiet told moment faults may_hold_after media old new quiet.disk same;
     is_ground = ground_brought moment old new ground (omega (arith, ap moment quiet.disk, same, ground.seen)) sound (quiet.failed ∙ sound)
         (λ idle. absurd (true≢false (sym idle ∙ made))) memory;
   }
@@ -130,9 +130,9 @@ module _ {D M : Type 0} (told : D → Option (List ℕ)) (moment faults : D → 
   going_on = going_ground faults media old going call fit before.spare heap files page
 
   -- an answered call
-  pub came_answered : (reply : Reply) → Comes call (heap_in before) (heap_in heap) old.shown page (Ok reply)
+  pub came_answered : (reply : Reply) → ComesInEach call (heap_in before) (heap_in heap) old.shown page (Ok reply)
       → WorksFrom (Ok reply) → AsksFrom (Ok reply) → (may_read call (Ok reply) ≡ false → files ≡ old.media)
-      → CameTo told moment faults may_leave media call reply old going_on
+      → CameTo told moment faults may_hold_after media call reply old going_on
   came_answered reply comes' works asks unread =
       let comes = comes_from (Ok reply) comes' in
       let ans = comes.each some.for.now.world stands (served_in within) in
@@ -140,13 +140,13 @@ module _ {D M : Type 0} (told : D → Option (List ℕ)) (moment faults : D → 
       comes_to reply going_on (quiet_from (Ok reply) works) refl refl (later_from (Ok reply) works)
       (going ∙ sym (answers_no_doom call reply ans.answered)) refl
       (gives_shown going_on some.for.now.world call outcome within.whole ans.row ans.gave (λ _. going) reply refl)
-      (answered_gap (gaps_of media old.media) (gaps_of media files) reply ans.answered)
+      (answered_gap (lapses_of media old.media) (lapses_of media files) reply ans.answered)
       (λ none. unread (answered_reads call reply ans.answered none))
       (brings_answered faults media old going call fit before.spare heap files page reply comes (works_from (Ok reply) works) (asks_from (Ok reply) asks))
 
   -- a call that media failed
   pub came_missed : (stop : Stop) → stop ≡ stops.MediaFault → WorksFrom (Err stop) → AsksFrom (Err stop)
-      → (may_read call (Err stop) ≡ false → files ≡ old.media) → CameTo told moment faults may_leave media call replies.MediaFault old going_on
+      → (may_read call (Err stop) ≡ false → files ≡ old.media) → CameTo told moment faults may_hold_after media call replies.MediaFault old going_on
   came_missed stop is works' asks' unread =
       let works = subst (λ (s : Stop). WorksFrom (Err s)) is works' in
       let asks = asks_from (Err stops.MediaFault) (subst (λ (s : Stop). AsksFrom (Err s)) is asks') in
@@ -158,23 +158,23 @@ module _ {D M : Type 0} (told : D → Option (List ℕ)) (moment faults : D → 
   -- a refused call, which tells these moves, and dooms where it doesn't read
   pub came_refused : (refusal : Refusal) (stop : Stop) → stop ≡ stops.Refused refusal → (left : Held (Opened D))
       → left ≡ record heap { moves = moves_left refusal heap.moves; spare = left.spare } → (reads : Bool) → reads ≡ is_reading call
-      → Comes call (heap_in before) (heap_in heap) old.shown page (Err stop) → WorksFrom (Err stop) → AsksFrom (Err stop)
+      → ComesInEach call (heap_in before) (heap_in heap) old.shown page (Err stop) → WorksFrom (Err stop) → AsksFrom (Err stop)
       → (may_read call (Err stop) ≡ false → files ≡ old.media)
-      → CameTo told moment faults may_leave media call (replies.Refused refusal) old
+      → CameTo told moment faults may_hold_after media call (replies.Refused refusal) old
       (record { heap = left; media = files; shown = page; stopped = not reads; idle = false; moment = old.moment; restored = old.restored })
   came_refused refusal stop is left left_is reads reads_is comes' works' asks' unread =
       let comes = comes_from (Err (stops.Refused refusal))
-      (subst (λ (s : Stop). Comes call (heap_in before) (heap_in heap) old.shown page (Err s)) is comes') in
+      (subst (λ (s : Stop). ComesInEach call (heap_in before) (heap_in heap) old.shown page (Err s)) is comes') in
       let works = subst (λ (s : Stop). WorksFrom (Err s)) is works' in
       let asks = asks_from (Err (stops.Refused refusal)) (subst (λ (s : Stop). AsksFrom (Err s)) is asks') in
       let new = refused_ground faults media old going call fit before.spare heap files page refusal left.spare in
-      let came : CameTo told moment faults may_leave media call (replies.Refused refusal) old new =
+      let came : CameTo told moment faults may_hold_after media call (replies.Refused refusal) old new =
       comes_to (replies.Refused refusal) new (quiet_from (Err (stops.Refused refusal)) works) refl refl (later_from (Err (stops.Refused refusal)) works) refl refl tt
       (refused_gap media some.for.now.world call old.media files refusal (asks.each some.for.now.world stands (served_in within)).misses)
       (λ none. subst (λ (s : Stop). may_read call (Err s) ≡ false → files ≡ old.media) is unread (refused_reads call refusal none))
       (brings_refused faults media old going call fit before.spare heap files page refusal left.spare comes
       (works_from (Err (stops.Refused refusal)) works) asks) in
-      subst (λ (g : Grounded D M). CameTo told moment faults may_leave media call (replies.Refused refusal) old g)
+      subst (λ (g : Grounded D M). CameTo told moment faults may_hold_after media call (replies.Refused refusal) old g)
       (λ i. record { heap = sym left_is i; media = files; shown = page; stopped = not (sym reads_is i); idle = false; moment = old.moment; restored = old.restored }) came
 
 -- The heap before a call on a ground in which none was stopped, without moves.
@@ -196,8 +196,8 @@ module _ {D M : Type 0} (moment : D → ℕ) (old : Grounded D M) (ground : IsGr
 
   -- no call on it meets a disk fault
   pub faults_never : (faults : D → ℕ) (call : Call) (new : Held (Opened D)) (stop : Stop)
-      → ((w : World) → HeapStandsFor (heap_in before) w → IsServed w
-      → Works (image_heap faults) (call_lines (heap_in before) w call) before new (past_stop stop))
+      → ((w : World) → HeapStandsFor (heap_in before) w → IsReady w
+      → Spends (image_heap faults) (call_lines (heap_in before) w call) before new (past_stop stop))
       → (stop ≡ stops.DiskFault) ⊎ (stop ≡ stops.Failed) → ⊥
   faults_never faults call new stop works is =
       let some = ground.stands (ground.sound going) in

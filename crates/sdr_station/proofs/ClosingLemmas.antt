@@ -17,20 +17,20 @@ use Rattle.sdr_image.specs.Changed.{GivesEither}
 use Rattle.sdr_image.specs.Opened.{Opened, Rests, transaction_of}
 use Rattle.sdr_lock.specs.Crash.{LeavesBefore, LeavesEither, LeavesOr}
 use Rattle.sdr_lock.specs.Demand.{most_lines}
-use Rattle.sdr_lock.specs.Ground.{Ground, HasHeap, State, kept, put_back}
-use Rattle.sdr_lock.specs.Serving.{Brings, Keeps, KeepsGround, MeetsFault, PutsBack, StandsStill}
-use Rattle.sdr_lock.specs.Standing.{Standing}
+use Rattle.sdr_lock.specs.Ground.{Ground, HasHeap, State, committed, rolled_back}
+use Rattle.sdr_lock.specs.Serving.{Brings, Commits, KeepsGround, MeetsFault, RollsBack, SameStates}
+use Rattle.sdr_lock.specs.Standing.{GroundState}
 use Rattle.sdr_log.specs.Frame.{room_of}
-use Rattle.sdr_log.specs.Logged.{Gives}
+use Rattle.sdr_log.specs.Logged.{GivesHeap}
 use Rattle.sdr_station.specs.Closing as closing
-use Rattle.sdr_station.specs.Grounded.{Grounded, IsGround, Opens, StandsAtRest, StandsForBoth, StandsInMemory, StandsWithin, heap_in}
+use Rattle.sdr_station.specs.Grounded.{Grounded, IsGround, OpensAs, StandsAtRest, StandsForBoth, StandsInMemory, StandsWithin, heap_in}
 use Rattle.sdr_station.proofs.GroundLemmas.{ground_brought, heap_ground, keeps_later, unmarked}
 use Rattle.sdr_station.proofs.RestLemmas.{fits_rest, put_back_is, whole_rest}
 use Rattle.sdr_station.proofs.StoodLemmas.{stood_of}
 
 -- what the heap stands for within a transaction, its bytes stand for at rest
 pub at_rest_of : {D : Type 0} (h : Held (Opened D)) (shown : List ℕ) (s : State) → s.world.taken ≡ 0 → StandsWithin h shown s
-    → StandsAtRest (room_of h.cells.frame) h.cells.bytes (kept s)
+    → StandsAtRest (room_of h.cells.frame) h.cells.bytes (committed s)
 at_rest_of h shown s taken w = record {
   pools = w.pools;
   base = w.base;
@@ -66,7 +66,7 @@ within_of h n s none untouched size at = record {
 -- the ground whose transaction was kept on a disk
 abbrev pub kept_ground : {D M : Type 0} → Grounded D M → D → ℕ → Grounded D M
 kept_ground old disk now = record {
-  heap = closing.committed old.heap disk;
+  heap = closing.heap_committed old.heap disk;
   media = old.media;
   shown = [];
   stopped = false;
@@ -78,7 +78,7 @@ kept_ground old disk now = record {
 -- and the one whose transaction was put back
 abbrev pub back_ground : {D M : Type 0} → Grounded D M → D → ℕ → Grounded D M
 back_ground old disk now = record {
-  heap = closing.put_back old.heap disk;
+  heap = closing.heap_rolled_back old.heap disk;
   media = old.media;
   shown = [];
   stopped = false;
@@ -88,14 +88,14 @@ back_ground old disk now = record {
 }
 
 -- what is kept in memory
-pub memory_kept : {D M : Type 0} (old : Grounded D M) (disk : D) (now : ℕ) → old.stopped ≡ false → Brings StandsInMemory old (kept_ground old disk now) Keeps
+pub memory_kept : {D M : Type 0} (old : Grounded D M) (disk : D) (now : ℕ) → old.stopped ≡ false → Brings StandsInMemory old (kept_ground old disk now) Commits
 memory_kept old disk now going = record {
   each = λ v at.
       let w = at.now going in
       let after = at_rest_of old.heap old.shown v.now at.taken w in
-      let within = within_of (kept_ground old disk now).heap (length old.heap.marks) (kept v.now) refl refl w.keeps.size after in
+      let within = within_of (kept_ground old disk now).heap (length old.heap.marks) (committed v.now) refl refl w.keeps.size after in
       record {
-        for = record { before = kept v.now; now = kept v.now; moves = v.moves };
+        for = record { before = committed v.now; now = committed v.now; moves = v.moves };
         holds = record {
           sound = at.sound;
           size = w.keeps.size;
@@ -112,10 +112,10 @@ memory_kept old disk now going = record {
 }
 
 -- what is put back in memory
-pub memory_back : {D M : Type 0} (old : Grounded D M) (disk : D) (now : ℕ) → Brings StandsInMemory old (back_ground old disk now) PutsBack
+pub memory_back : {D M : Type 0} (old : Grounded D M) (disk : D) (now : ℕ) → Brings StandsInMemory old (back_ground old disk now) RollsBack
 memory_back old disk now = record {
   each = λ v at.
-      let next = put_back v.before v.now in
+      let next = rolled_back v.before v.now in
       let after : StandsAtRest (room_of old.heap.cells.frame) old.heap.cells.begun next =
       subst (λ (s : State). StandsAtRest (room_of old.heap.cells.frame) old.heap.cells.begun s)
       (put_back_is v.before v.now at.before.stands.stands.taken at.taken) at.before in
@@ -140,7 +140,7 @@ memory_back old disk now = record {
 -- the one whose transaction was dropped: its lines were put back, and it can only be put back
 abbrev pub dropped_ground : {D M : Type 0} → Grounded D M → D → ℕ → Grounded D M
 dropped_ground old disk now = record {
-  heap = closing.put_back old.heap disk;
+  heap = closing.heap_rolled_back old.heap disk;
   media = old.media;
   shown = old.shown;
   stopped = true;
@@ -151,7 +151,7 @@ dropped_ground old disk now = record {
 
 -- what is dropped in memory: the states stay
 pub memory_dropped : {D M : Type 0} (old : Grounded D M) (disk : D) (now : ℕ)
-    → Brings StandsInMemory old (dropped_ground old disk now) StandsStill
+    → Brings StandsInMemory old (dropped_ground old disk now) SameStates
 memory_dropped old disk now = record {
   each = λ v at. record {
     for = v;
@@ -171,13 +171,14 @@ memory_dropped old disk now = record {
 }
 
 -- what a close that was answered leaves of a ground
-pub record ClosesTo {D M : Type 0} (told : D → Option (List ℕ)) (moment faults : D → ℕ) (may_leave : D → ℕ → List ℕ → Type 0)
-    (media : MediaGhosts M) (may_keep : Bool) (P : Standing → Standing → Type 0) (old new : Grounded D M) : Type 0 where
+pub record ClosesTo {D M : Type 0} (told : D → Option (List ℕ)) (moment faults : D → ℕ) (may_hold_after : D → ℕ → List ℕ → Type 0)
+    (media : MediaGhosts M) (may_keep : Bool) (P : GroundState → GroundState → Type 0) (old new : Grounded D M) : Type
+        0 where
   pub memory : Brings StandsInMemory old new P
-  pub brings : Brings (λ g v. StandsForBoth told moment may_leave g v) old new P
+  pub brings : Brings (λ g v. StandsForBoth told moment may_hold_after g v) old new P
   pub sound : new.heap.cells.failed ≡ false
-  pub keeps : KeepsGround (heap_ground told moment faults may_leave media) false old new
-  pub any_moment : LeavesOr may_keep (heap_ground told moment faults may_leave media) old new
+  pub keeps : KeepsGround (heap_ground told moment faults may_hold_after media) false old new
+  pub any_moment : LeavesOr may_keep (heap_ground told moment faults may_hold_after media) old new
   pub is_ground : IsGround moment new
 
 some_of : (o : Option (List ℕ)) → is_some o ≡ true → (x : List ℕ) × (o ≡ Some x)
@@ -185,16 +186,17 @@ some_of None is = absurd (true≢false (sym is))
 some_of (Some x) is = (x, refl)
 
 -- A transaction closes on a disk, at each moment of which a crash leaves what P tells of.
-module _ {D M : Type 0} (told : D → Option (List ℕ)) (moment : D → ℕ) (faults : D → ℕ) (may_leave : D → ℕ → List ℕ → Type 0)
+module _ {D M : Type 0} (told : D → Option (List ℕ)) (moment : D → ℕ) (faults : D → ℕ) (may_hold_after : D → ℕ → List ℕ → Type 0)
     (media : MediaGhosts M) (old : Grounded D M) (disk : D) (now : ℕ) (is : now ≡ max old.moment (moment disk)) (sound : old.heap.cells.failed ≡ false)
     (tells : is_some (told disk) ≡ is_some (told old.heap.cells.disk)) (P : List ℕ → Type 0)
-    (each : Rests told moment may_leave old.heap.cells
-    → IfTold (told old.heap.cells.disk) (λ _. AtEach moment may_leave old.heap.cells.disk disk P)) where
+    (each : Rests told moment may_hold_after old.heap.cells
+    → IfTold (told old.heap.cells.disk) (λ _. AtEach moment may_hold_after old.heap.cells.disk disk P)) where
   told_old : (y : List ℕ) → told disk ≡ Some y → (x : List ℕ) × (told old.heap.cells.disk ≡ Some x)
   told_old y t = some_of (told old.heap.cells.disk) (sym tells ∙ ap is_some t)
 
   -- the ground's moment is the disk's
-  pub here : (v : Standing) → StandsForBoth told moment may_leave old v → IfTold (told disk) (λ _. now ≡ moment disk)
+  pub here : (v : GroundState) → StandsForBoth told moment may_hold_after old v →
+      IfTold (told disk) (λ _. now ≡ moment disk)
   here v at y t =
       let x = told_old y t in
       let e = each at.rests x.0 x.1 in
@@ -202,9 +204,9 @@ module _ {D M : Type 0} (told : D → Option (List ℕ)) (moment : D → ℕ) (f
       omega (arith, is, was, e.later)
 
   -- what closes in memory closes on a disk that rests
-  pub brings_closed : {P : Standing → Standing → Type 0} (new : Grounded D M) → new.heap.cells.disk ≡ disk → new.moment ≡ now
-      → (Rests told moment may_leave old.heap.cells → Rests told moment may_leave new.heap.cells)
-      → Brings StandsInMemory old new P → Brings (λ g v. StandsForBoth told moment may_leave g v) old new P
+  pub brings_closed : {P : GroundState → GroundState → Type 0} (new : Grounded D M) → new.heap.cells.disk ≡ disk → new.moment ≡ now
+      → (Rests told moment may_hold_after old.heap.cells → Rests told moment may_hold_after new.heap.cells)
+      → Brings StandsInMemory old new P → Brings (λ g v. StandsForBoth told moment may_hold_after g v) old new P
   brings_closed new on at_now rests brings = record {
     each = λ v at.
         let s = brings.each v at.memory in
@@ -220,9 +222,9 @@ module _ {D M : Type 0} (told : D → Option (List ℕ)) (moment : D → ℕ) (f
   }
 
   -- each image gives what Q tells of, on a ground with this disk and moment
-  at_each : (new : Grounded D M) → new.heap.cells.disk ≡ disk → new.moment ≡ now → (v : Standing) → (Q : List ℕ → Type 0)
-      → StandsForBoth told moment may_leave old v → ((image : List ℕ) → P image → Q image)
-      → AtEach (heap_ground told moment faults may_leave media).moment (heap_ground told moment faults may_leave media).left old new Q
+  at_each : (new : Grounded D M) → new.heap.cells.disk ≡ disk → new.moment ≡ now → (v : GroundState) → (Q : List ℕ → Type 0)
+      → StandsForBoth told moment may_hold_after old v → ((image : List ℕ) → P image → Q image)
+      → AtEach (heap_ground told moment faults may_hold_after media).moment (heap_ground told moment faults may_hold_after media).left old new Q
   at_each new on at_now v Q at also = record {
     later = omega (arith, is, at_now);
     each = λ m image ge le l.
@@ -230,23 +232,23 @@ module _ {D M : Type 0} (told : D → Option (List ℕ)) (moment : D → ℕ) (f
         let e = each at.rests x.0 x.1 in
         let was = at.moment_is x.0 x.1 in
         also image (e.each m image (omega (arith, ge, was)) (omega (arith, le, is, at_now, was, e.later))
-        (subst (λ (d : D). may_leave d m image) on l.left));
+        (subst (λ (d : D). may_hold_after d m image) on l.left));
     past = λ m image le l.
         let x = told_old l.bytes (ap told (sym on) ∙ l.tells) in
         let e = each at.rests x.0 x.1 in
         record {
           bytes = x.0;
           tells = x.1;
-          left = e.past m image (omega (arith, le, at.moment_is x.0 x.1)) (subst (λ (d : D). may_leave d m image) on l.left);
+          left = e.past m image (omega (arith, le, at.moment_is x.0 x.1)) (subst (λ (d : D). may_hold_after d m image) on l.left);
         };
   }
 
   -- where each image gives the bytes at begin, a crash leaves the state before
   pub leaves_back : (new : Grounded D M) → new.heap.cells.disk ≡ disk → new.moment ≡ now
-      → ((image : List ℕ) → P image → Gives old.heap.cells.begun image)
-      → LeavesBefore (heap_ground told moment faults may_leave media) old new
+      → ((image : List ℕ) → P image → GivesHeap old.heap.cells.begun image)
+      → LeavesBefore (heap_ground told moment faults may_hold_after media) old new
   leaves_back new on at_now also = record {
-    each = λ v at. at_each new on at_now v (λ image. Opens image v.before) at (λ image p. record {
+    each = λ v at. at_each new on at_now v (λ image. OpensAs image v.before) at (λ image p. record {
       heap = old.heap.cells.begun;
       back = also image p;
       room = room_of old.heap.cells.frame;
@@ -257,9 +259,9 @@ module _ {D M : Type 0} (told : D → Option (List ℕ)) (moment : D → ℕ) (f
   -- where each image gives those or the bytes now, it leaves the state before, or the one that is kept
   pub leaves_either : (new : Grounded D M) → new.heap.cells.disk ≡ disk → new.moment ≡ now → old.stopped ≡ false
       → ((image : List ℕ) → P image → GivesEither old.heap.cells.begun old.heap.cells.bytes image)
-      → LeavesEither (heap_ground told moment faults may_leave media) old new
+      → LeavesEither (heap_ground told moment faults may_hold_after media) old new
   leaves_either new on at_now going also = record {
-    each = λ v at. at_each new on at_now v (λ image. Opens image v.before ⊎ Opens image (kept v.now)) at
+    each = λ v at. at_each new on at_now v (λ image. OpensAs image v.before ⊎ OpensAs image (committed v.now)) at
         (λ image p. elim (also image p) [
           | inl begun ↦ inl (record { heap = old.heap.cells.begun; back = begun; room = room_of old.heap.cells.frame; stands = at.memory.before })
           | inr bytes ↦ inr (record {
@@ -272,16 +274,16 @@ module _ {D M : Type 0} (told : D → Option (List ℕ)) (moment : D → ℕ) (f
   }
 
   -- what a close leaves of a ground on which it was brought
-  closes_to : {keeps : Bool} {Q : Standing → Standing → Type 0} (new : Grounded D M) → new.heap.cells.disk ≡ disk → new.moment ≡ now → new.media ≡ old.media
+  closes_to : {keeps : Bool} {Q : GroundState → GroundState → Type 0} (new : Grounded D M) → new.heap.cells.disk ≡ disk → new.moment ≡ now → new.media ≡ old.media
       → new.heap.cells.failed ≡ false → (new.idle ≡ true → new.stopped ≡ false) → IsGround moment old
       → faults old.heap.cells.disk ≤ faults disk
-      → (Rests told moment may_leave old.heap.cells → Rests told moment may_leave new.heap.cells) → Brings StandsInMemory old new Q
-      → LeavesOr keeps (heap_ground told moment faults may_leave media) old new → ClosesTo told moment faults may_leave media keeps Q old new
+      → (Rests told moment may_hold_after old.heap.cells → Rests told moment may_hold_after new.heap.cells) → Brings StandsInMemory old new Q
+      → LeavesOr keeps (heap_ground told moment faults may_hold_after media) old new → ClosesTo told moment faults may_hold_after media keeps Q old new
   closes_to new on at_now unread still going ground later rests brings leaves = record {
     memory = brings;
     brings = brings_closed new on at_now rests brings;
     sound = still;
-    keeps = keeps_later told moment faults may_leave media old new unread (subst (λ (d : D). faults old.heap.cells.disk ≤ faults d) (sym on) later);
+    keeps = keeps_later told moment faults may_hold_after media old new unread (subst (λ (d : D). faults old.heap.cells.disk ≤ faults d) (sym on) later);
     any_moment = leaves;
     is_ground = ground_brought moment old new ground (omega (arith, ap moment on, at_now, is)) sound still going brings;
   }
@@ -289,31 +291,33 @@ module _ {D M : Type 0} (told : D → Option (List ℕ)) (moment : D → ℕ) (f
   -- a transaction that is kept
   pub closes_kept : (new : Grounded D M) → new ≡ kept_ground old disk now → IsGround moment old → old.stopped ≡ false
       → faults old.heap.cells.disk ≤ faults disk
-      → (Rests told moment may_leave old.heap.cells → Rests told moment may_leave (kept_ground old disk now).heap.cells)
+      → (Rests told moment may_hold_after old.heap.cells → Rests told moment may_hold_after
+          (kept_ground old disk now).heap.cells)
       → ((image : List ℕ) → P image → GivesEither old.heap.cells.begun old.heap.cells.bytes image)
-      → ClosesTo told moment faults may_leave media true Keeps old new
+      → ClosesTo told moment faults may_hold_after media true Commits old new
   closes_kept new same ground going later rests also =
-      subst (λ (n : Grounded D M). ClosesTo told moment faults may_leave media true Keeps old n) (sym same)
+      subst (λ (n : Grounded D M). ClosesTo told moment faults may_hold_after media true Commits old n) (sym same)
       (closes_to (kept_ground old disk now) refl refl refl sound (λ _. refl) ground later rests (memory_kept old disk now going)
       (leaves_either (kept_ground old disk now) refl refl going also))
 
   -- a transaction that is put back
   pub closes_back : (new : Grounded D M) → new ≡ back_ground old disk now → IsGround moment old → faults old.heap.cells.disk ≤ faults disk
-      → (Rests told moment may_leave old.heap.cells → Rests told moment may_leave (back_ground old disk now).heap.cells)
-      → ((image : List ℕ) → P image → Gives old.heap.cells.begun image) → ClosesTo told moment faults may_leave media false PutsBack old new
+      → (Rests told moment may_hold_after old.heap.cells → Rests told moment may_hold_after
+          (back_ground old disk now).heap.cells)
+      → ((image : List ℕ) → P image → GivesHeap old.heap.cells.begun image) → ClosesTo told moment faults may_hold_after media false RollsBack old new
   closes_back new same ground later rests also =
-      subst (λ (n : Grounded D M). ClosesTo told moment faults may_leave media false PutsBack old n) (sym same)
+      subst (λ (n : Grounded D M). ClosesTo told moment faults may_hold_after media false RollsBack old n) (sym same)
       (closes_to (back_ground old disk now) refl refl refl sound (λ _. refl) ground later rests (memory_back old disk now)
       (leaves_back (back_ground old disk now) refl refl also))
 
   -- a transaction that is dropped
   pub closes_dropped : (new : Grounded D M) → new ≡ dropped_ground old disk now → IsGround moment old
       → faults old.heap.cells.disk ≤ faults disk
-      → (Rests told moment may_leave old.heap.cells → Rests told moment may_leave (dropped_ground old disk now).heap.cells)
-      → ((image : List ℕ) → P image → Gives old.heap.cells.begun image)
-      → ClosesTo told moment faults may_leave media false StandsStill old new
+      → (Rests told moment may_hold_after old.heap.cells → Rests told moment may_hold_after (dropped_ground old disk now).heap.cells)
+      → ((image : List ℕ) → P image → GivesHeap old.heap.cells.begun image)
+      → ClosesTo told moment faults may_hold_after media false SameStates old new
   closes_dropped new same ground later rests also =
-      subst (λ (n : Grounded D M). ClosesTo told moment faults may_leave media false StandsStill old n) (sym same)
+      subst (λ (n : Grounded D M). ClosesTo told moment faults may_hold_after media false SameStates old n) (sym same)
       (closes_to (dropped_ground old disk now) refl refl refl sound (λ idle. absurd (true≢false (sym idle))) ground later rests
       (memory_dropped old disk now)
       (leaves_back (dropped_ground old disk now) refl refl also))
@@ -327,11 +331,12 @@ stop_fails old new stops.MediaFault explained none = absurd explained
 stop_fails old new stops.Failed explained none = explained.1
 
 -- where a close is stopped on a disk that hasn't failed, the disk fails in it
-pub meets_fault : {D M : Type 0} (told : D → Option (List ℕ)) (moment faults : D → ℕ) (may_leave : D → ℕ → List ℕ → Type 0)
+pub meets_fault : {D M : Type 0} (told : D → Option (List ℕ)) (moment faults : D → ℕ) (may_hold_after : D → ℕ → List ℕ → Type 0)
     (media : MediaGhosts M) (old new : Grounded D M) (cells : Opened D) (s : Stop) → new.heap.cells.disk ≡ cells.disk → old.heap.cells.failed ≡ false
     → Explains {T = Unit {0}} (transaction_of faults old.heap.cells) (transaction_of faults cells) (Err s)
-    → IfRefused {T = Unit {0}} (Err s) (λ _. ⊥) → MeetsFault (heap_ground told moment faults may_leave media) old new
-meets_fault {D} told moment faults may_leave media old new cells s same sound explained none = record {
+    → IfRefused {T = Unit {0}} (Err s) (λ _. ⊥) → MeetsFault (heap_ground told moment faults may_hold_after media) old
+        new
+meets_fault {D} told moment faults may_hold_after media old new cells s same sound explained none = record {
   heap = λ v at. subst (λ (b : Ground). HasHeap b) (sym at.memory.before.base) tt;
   cause = subst (λ (d : D). Rose (faults old.heap.cells.disk) (faults d)) (sym same) (rose s explained none);
 }
@@ -344,10 +349,10 @@ meets_fault {D} told moment faults may_leave media old new cells s same sound ex
     rose stops.Failed explained none = absurd (true≢false (sym explained.0 ∙ sound))
 
 -- a ground whose disk has failed stands for nothing in memory, and so anything is brought and left
-pub brings_failed : {D M : Type 0} {P : Standing → Standing → Type 0} (old new : Grounded D M) → old.heap.cells.failed ≡ true
+pub brings_failed : {D M : Type 0} {P : GroundState → GroundState → Type 0} (old new : Grounded D M) → old.heap.cells.failed ≡ true
     → Brings StandsInMemory old new P
 brings_failed old new failed = record { each = λ v at. absurd (true≢false (sym failed ∙ at.sound)) }
 
-pub leaves_failed : {D M : Type 0} (told : D → Option (List ℕ)) (moment faults : D → ℕ) (may_leave : D → ℕ → List ℕ → Type 0)
-    (media : MediaGhosts M) (old new : Grounded D M) → old.heap.cells.failed ≡ true → LeavesBefore (heap_ground told moment faults may_leave media) old new
-leaves_failed told moment faults may_leave media old new failed = record { each = λ v at. absurd (true≢false (sym failed ∙ at.memory.sound)) }
+pub leaves_failed : {D M : Type 0} (told : D → Option (List ℕ)) (moment faults : D → ℕ) (may_hold_after : D → ℕ → List ℕ → Type 0)
+    (media : MediaGhosts M) (old new : Grounded D M) → old.heap.cells.failed ≡ true → LeavesBefore (heap_ground told moment faults may_hold_after media) old new
+leaves_failed told moment faults may_hold_after media old new failed = record { each = λ v at. absurd (true≢false (sym failed ∙ at.memory.sound)) }

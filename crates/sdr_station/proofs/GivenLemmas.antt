@@ -27,7 +27,7 @@ use Rattle.sdr_model.specs.Accounts.{account_of, most_amount, pending_in, ticket
 use Rattle.sdr_model.specs.Amounts.{amount, amounts_by, first_above, in_space, minus}
 use Rattle.sdr_model.specs.BondSteps.{bond_charge, bond_moves, bonded, capsules_of, with_bonded}
 use Rattle.sdr_model.specs.Charges.{bytes_charge, capsule_bytes, object_bytes, object_charge, rooms}
-use Rattle.sdr_model.specs.Charging.{Charges, grant_left, no_space, with_used}
+use Rattle.sdr_model.specs.Charging.{Charges, grant_left, no_space, with_covered}
 use Rattle.sdr_model.specs.Cuts.{placed}
 use Rattle.sdr_model.specs.HashSteps.{OnHash, OnKey, as_hash, has_key, is_no_count, is_no_key_length, value_at}
 use Rattle.sdr_model.specs.Hashes.{Hash}
@@ -40,7 +40,7 @@ use Rattle.sdr_model.specs.PartSteps.{asked_extents, clone_moves, object_of, par
 use Rattle.sdr_model.specs.Queue.{barrier}
 use Rattle.sdr_model.specs.RawSteps.{FreesThing}
 use Rattle.sdr_model.specs.Rows.{ByRow}
-use Rattle.sdr_model.specs.Steps.{DoesWith, On, Outcome, Reads, RefusedFor, Refuses, Takes, taken_at, with_thing}
+use Rattle.sdr_model.specs.Steps.{DoesWith, On, Outcome, ReadsBytes, RefusedFor, Refuses, Takes, taken_at, with_thing}
 use Rattle.sdr_model.specs.TableSteps.{as_table}
 use Rattle.sdr_model.specs.Tables.{Table}
 use Rattle.sdr_model.specs.Valid.{IsBetween, IsValidTable, IsValidThing, names_of}
@@ -49,7 +49,7 @@ use Rattle.sdr_model.specs.Wire.{GivesOf, ToldBytes, extents_told, headers_part,
 use Rattle.sdr_model.specs.World.{World, as_raw, as_text, block_at, is_marked, misnamed, spot_of, thing_at}
 use Rattle.sdr_model.specs.SourceSteps.{OnUnnamed, new_source}
 use Rattle.sdr_model.specs.Things.{capsule_need, extent_need, object_need}
-use Rattle.sdr_model.specs.Zco.{empty_object, extents_length, object_at, owned_raw, source_at, source_on, space_of, uses_of}
+use Rattle.sdr_model.specs.Zco.{empty_object, extents_length, object_at, owned_raw, source_at, source_naming, space_of, uses_of}
 use Rattle.sdr_model.specs.declared.accounts.Pending.{Pending}
 use Rattle.sdr_model.specs.declared.answer.Answer.TheVariants as answers
 use Rattle.sdr_model.specs.declared.answer.Reply.{Reply}
@@ -161,7 +161,7 @@ module _ (w : World) (o : Outcome) where
   shows_none after is shown untold = Given.none (ap (λ (x : World). x.shown) after ∙ shown) (ap bytes_told is ∙ untold)
 
   shows : {most : ℕ} {reply : Reply} (v : World) (bytes : List ℕ) (n : ℕ) → bytes_told reply ≡ Some n → length bytes ≡ n
-      → n ≤ most → Reads v o bytes reply → Given o most
+      → n ≤ most → ReadsBytes v o bytes reply → Given o most
   shows v bytes n told long few h = Given.gives n (ap bytes_told h.2 ∙ told) (ap (λ (x : World). length x.shown) h.1 ∙ long) few
 
   on : {X : Type 0} {goes : X → Type 0} {most : ℕ} (addr : ℕ) (named : Option X) → On w o addr named goes
@@ -178,7 +178,7 @@ module _ (w : World) (o : Outcome) where
 
   on_unnamed : {P : Type 0} {most : ℕ} (raw : ℕ) → OnUnnamed w o raw P → (P → Given o most) → Given o most
   on_unnamed raw h f =
-      from_option (source_on w raw) h (λ _ h. f h) (λ source _ h. refused (refusals.InUse raw (uses_of w source)) h)
+      from_option (source_naming w raw) h (λ _ h. f h) (λ source _ h. refused (refusals.InUse raw (uses_of w source)) h)
 
   -- a charge that is allowed gives what goes on gives
   charged : {most : ℕ} (acct : Acct) (number : ℕ) (charge : Space → ℕ) (goes : World → Type 0) → Charges w o acct number charge goes
@@ -191,12 +191,12 @@ module _ (w : World) (o : Outcome) where
       on_used : (p : Option Pending)
           → RefusedFor w o (barrier (minus (amounts_by charge) (grant_left p)) (tickets_of w.accounts acct)) (λ t. refusals.Queue t.number)
           (RefusedFor w o (first_above (minus (amounts_by charge) (grant_left p)) (rooms w acct))
-          (no_space w acct (minus (amounts_by charge) (grant_left p))) (goes (with_used w p (amounts_by charge))))
+          (no_space w acct (minus (amounts_by charge) (grant_left p))) (goes (with_covered w p (amounts_by charge))))
           → Given o most
       on_used p h =
           let uncovered = minus (amounts_by charge) (grant_left p) in
           from_option (barrier uncovered (tickets_of w.accounts acct)) h (λ _ h.
-          from_option (first_above uncovered (rooms w acct)) h (λ _ h. f (with_used w p (amounts_by charge)) h)
+          from_option (first_above uncovered (rooms w acct)) h (λ _ h. f (with_covered w p (amounts_by charge)) h)
           (λ space _ h. refused (no_space w acct uncovered space) h))
           (λ t _ h. refused (refusals.Queue t.number) h)
 

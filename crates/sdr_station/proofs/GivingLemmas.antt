@@ -10,7 +10,7 @@ use Rattle.sdr_model.specs.declared.answer.Reply.{Reply}
 use Rattle.sdr_model.specs.declared.answer.Reply.TheVariants as replies
 use Rattle.sdr_model.specs.declared.call.Call.{Call}
 use Rattle.sdr_station.proofs.GivenLemmas.{given_row, given_told, most_given}
-use Rattle.sdr_station.specs.Giving.{Gives, bytes_told}
+use Rattle.sdr_station.specs.Giving.{GivesReply, bytes_told}
 use Rattle.sdr_station.specs.Grounded.{Grounded}
 
 -- a reply that tells of bytes dooms nothing
@@ -22,7 +22,7 @@ undoomed call reply count told = refl
 pub gives_shown : {D M : Type 0} (g : Grounded D M) (w : World) (call : Call) (o : Outcome) → IsWhole w
     → ByRow w o call
     → o.after.shown ≡ g.shown → (dooms call o.reply ≡ false → g.stopped ≡ false) → (reply : Reply) → o.reply ≡ reply
-    → Gives reply g
+    → GivesReply reply g
 gives_shown g w call o whole row shown going reply told = by (bytes_told reply) refl
   where
     by : (b : Option ℕ) → bytes_told reply ≡ b → IfSome b (λ count. (length g.shown ≡ count) × (g.stopped ≡ false))

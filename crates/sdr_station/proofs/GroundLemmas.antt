@@ -4,31 +4,31 @@ use Rattle.std.specs.Prelude.{replicate, get_or, ⊤}
 use Rattle.sdr_base.specs.declared.line.TheConstants.{WORD}
 use Rattle.sdr_base.specs.declared.media.Media.{Ghosts as MediaGhosts}
 use Rattle.sdr_heap.specs.Noted.{marked_in}
-use Rattle.sdr_lock.proofs.GroundLemmas.{gaps_same}
-use Rattle.sdr_lock.specs.Gaps.{Gaps, GapsLast}
+use Rattle.sdr_lock.proofs.GroundLemmas.{lapses_same}
+use Rattle.sdr_lock.specs.Lapses.{Lapses, LapsesLast}
 use Rattle.sdr_lock.specs.Serving.{Brings, KeepsGround}
-use Rattle.sdr_lock.specs.Standing.{Standing}
+use Rattle.sdr_lock.specs.Standing.{GroundState}
 use Rattle.sdr_lock.specs.declared.has_ground.HasGround.{Ghosts}
 use Rattle.sdr_station.specs.CrashNow.{crash_now}
-use Rattle.sdr_station.specs.Grounded.{Grounded, IsGround, Leaves, Opens, StandsForBoth, StandsInMemory}
+use Rattle.sdr_station.specs.Grounded.{Grounded, IsGround, Leaves, OpensAs, StandsForBoth, StandsInMemory}
 
 -- how often media have failed, and have given fewer bytes than were asked for
-abbrev pub gaps_of : {M : Type 0} → MediaGhosts M → M → Gaps
-gaps_of media files = record { faults = media.faults files; short = media.short files }
+abbrev pub lapses_of : {M : Type 0} → MediaGhosts M → M → Lapses
+lapses_of media files = record { faults = media.faults files; short = media.short files }
 
 -- a heap on an image as a ground, where the disk and media are told so
 abbrev pub heap_ground : {D M : Type 0} → (D → Option (List ℕ)) → (D → ℕ) → (D → ℕ) → (D → ℕ → List ℕ → Type 0) → MediaGhosts M
     → Ghosts (Grounded D M)
-heap_ground told moment faults may_leave media = record {
-  stands = λ g v. StandsForBoth told moment may_leave g v;
+heap_ground told moment faults may_hold_after media = record {
+  stands = λ g v. StandsForBoth told moment may_hold_after g v;
   moment = λ g. g.moment;
   faults = λ g. faults g.heap.cells.disk;
-  gaps = λ g. gaps_of media g.media;
+  lapses = λ g. lapses_of media g.media;
   told = λ g. media.told g.media;
   lasts = λ g _. ⊤;
-  left = λ g m image. Leaves told may_leave g.heap.cells.disk m image;
-  opens = λ image s. Opens image s;
-  crash_now = λ g v image at left. crash_now told moment may_leave g v image at left;
+  left = λ g m image. Leaves told may_hold_after g.heap.cells.disk m image;
+  opens = λ image s. OpensAs image s;
+  crash_now = λ g v image at left. crash_now told moment may_hold_after g v image at left;
   lasts_less = λ g n lasts. lasts;
 }
 
@@ -46,7 +46,7 @@ pub unmarked : (n addr : ℕ) → marked_in (replicate n false) addr ≡ false
 unmarked n addr = ap (λ b. (addr % WORD == 0) && b) (none_of n (addr / WORD)) ∙ never (addr % WORD == 0)
 
 -- where the heap in memory stood for something, and what it stands for follows, the new one is a ground
-pub ground_brought : {D M : Type 0} {P : Standing → Standing → Type 0} (moment : D → ℕ) (old new : Grounded D M) → IsGround moment old
+pub ground_brought : {D M : Type 0} {P : GroundState → GroundState → Type 0} (moment : D → ℕ) (old new : Grounded D M) → IsGround moment old
     → moment new.heap.cells.disk ≤ new.moment → old.heap.cells.failed ≡ false → new.heap.cells.failed ≡ false
     → (new.idle ≡ true → new.stopped ≡ false) → Brings StandsInMemory old new P → IsGround moment new
 ground_brought moment old new is seen was sound going brings =
@@ -65,21 +65,21 @@ ground_failed moment g seen stopped made failed = record {
 }
 
 -- what a ground keeps whose disk counts no fewer faults, whose media tell the same, and no count of theirs falls
-pub keeps_read : {D M : Type 0} (told : D → Option (List ℕ)) (moment faults : D → ℕ) (may_leave : D → ℕ → List ℕ → Type 0)
+pub keeps_read : {D M : Type 0} (told : D → Option (List ℕ)) (moment faults : D → ℕ) (may_hold_after : D → ℕ → List ℕ → Type 0)
     (media : MediaGhosts M) (old new : Grounded D M) → media.told new.media ≡ media.told old.media
-    → GapsLast (gaps_of media old.media) (gaps_of media new.media) → faults old.heap.cells.disk ≤ faults new.heap.cells.disk
-    → KeepsGround (heap_ground told moment faults may_leave media) false old new
-keeps_read told moment faults may_leave media old new same gaps later = record {
+    → LapsesLast (lapses_of media old.media) (lapses_of media new.media) → faults old.heap.cells.disk ≤ faults new.heap.cells.disk
+    → KeepsGround (heap_ground told moment faults may_hold_after media) false old new
+keeps_read told moment faults may_hold_after media old new same gaps later = record {
   later = later;
-  gaps = gaps;
+  lapses = gaps;
   media = same;
   lasts = λ n lasts. tt;
 }
 
 -- so it is where media are the same
-pub keeps_later : {D M : Type 0} (told : D → Option (List ℕ)) (moment faults : D → ℕ) (may_leave : D → ℕ → List ℕ → Type 0)
+pub keeps_later : {D M : Type 0} (told : D → Option (List ℕ)) (moment faults : D → ℕ) (may_hold_after : D → ℕ → List ℕ → Type 0)
     (media : MediaGhosts M) (old new : Grounded D M) → new.media ≡ old.media → faults old.heap.cells.disk ≤ faults new.heap.cells.disk
-    → KeepsGround (heap_ground told moment faults may_leave media) false old new
-keeps_later {M = M} told moment faults may_leave media old new unread later =
-    keeps_read told moment faults may_leave media old new (ap media.told unread)
-    (subst (λ (files : M). GapsLast (gaps_of media old.media) (gaps_of media files)) (sym unread) (gaps_same (gaps_of media old.media))) later
+    → KeepsGround (heap_ground told moment faults may_hold_after media) false old new
+keeps_later {M = M} told moment faults may_hold_after media old new unread later =
+    keeps_read told moment faults may_hold_after media old new (ap media.told unread)
+    (subst (λ (files : M). LapsesLast (lapses_of media old.media) (lapses_of media files)) (sym unread) (lapses_same (lapses_of media old.media))) later

@@ -17,8 +17,8 @@ use Rattle.sdr_image.specs.Opened.{IsQuiet, Opened}
 use Rattle.sdr_lock.specs.Crash.{LeavesBefore}
 use Rattle.sdr_lock.specs.Demand.{most_lines}
 use Rattle.sdr_lock.specs.Ground.{Ground, State}
-use Rattle.sdr_lock.specs.Serving.{Brings, Shows, StandsStill, shown_in}
-use Rattle.sdr_lock.specs.Standing.{Standing}
+use Rattle.sdr_lock.specs.Serving.{Brings, Shows, SameStates, shown_in}
+use Rattle.sdr_lock.specs.Standing.{GroundState}
 use Rattle.sdr_log.specs.Frame.{room_of}
 use Rattle.sdr_log.specs.declared.frame.Frame.{Frame}
 use Rattle.sdr_station.proofs.ClosingLemmas.{dropped_ground, within_of}
@@ -93,7 +93,7 @@ module _ {D M T : Type 0} (faults : D → ℕ) (old : Grounded D M) (heap : Held
       }
 
   -- the ground stands for what it did
-  pub looked_still : (v : Standing) → StandsInMemory old v → StandsInMemory (record old { heap = heap }) v
+  pub looked_still : (v : GroundState) → StandsInMemory old v → StandsInMemory (record old { heap = heap }) v
   looked_still v at =
       let q = looked_quiet in
       record {
@@ -147,8 +147,8 @@ looks_never faults old heap stops.MediaFault looks sound fault = fault
 looks_never faults old heap stops.Failed looks sound fault = true≢false (sym looks.cause.explained.0 ∙ sound)
 
 -- what stands still is shown as what follows is
-pub shows_later : {D M : Type 0} {S : Grounded D M → Standing → Type 0} (old mid new : Grounded D M) (ticket : ℕ) (granted : Option Bool)
-    → Brings S old mid StandsStill → Brings S mid new (Shows ticket granted) → Brings S old new (Shows ticket granted)
+pub shows_later : {D M : Type 0} {S : Grounded D M → GroundState → Type 0} (old mid new : Grounded D M) (ticket : ℕ) (granted : Option Bool)
+    → Brings S old mid SameStates → Brings S mid new (Shows ticket granted) → Brings S old new (Shows ticket granted)
 shows_later old mid new ticket granted first second = record {
   each = λ v at.
       let s = first.each v at in
@@ -167,25 +167,27 @@ shows_later old mid new ticket granted first second = record {
 }
 
 -- a ground whose disk has failed stands for nothing, and so anything is shown
-pub shows_failed : {D M : Type 0} (told : D → Option (List ℕ)) (moment : D → ℕ) (may_leave : D → ℕ → List ℕ → Type 0)
+pub shows_failed : {D M : Type 0} (told : D → Option (List ℕ)) (moment : D → ℕ)
+    (may_hold_after : D → ℕ → List ℕ → Type 0)
     (old new : Grounded D M) (ticket : ℕ) → old.heap.cells.failed ≡ true
-    → Brings (λ g v. StandsForBoth told moment may_leave g v) old new (Shows ticket None)
-shows_failed told moment may_leave old new ticket failed = record {
+    → Brings (λ g v. StandsForBoth told moment may_hold_after g v) old new (Shows ticket None)
+shows_failed told moment may_hold_after old new ticket failed = record {
   each = λ v at. absurd (true≢false (sym failed ∙ at.memory.sound));
 }
 
 -- a crash leaves what it did where the disk and the moment stay
-pub leaves_later : {D M : Type 0} (told : D → Option (List ℕ)) (moment faults : D → ℕ) (may_leave : D → ℕ → List ℕ → Type 0)
+pub leaves_later : {D M : Type 0} (told : D → Option (List ℕ)) (moment faults : D → ℕ) (may_hold_after : D → ℕ → List ℕ → Type 0)
     (media : MediaGhosts M) (old mid new : Grounded D M) → new.heap.cells.disk ≡ mid.heap.cells.disk → new.moment ≡ mid.moment
-    → LeavesBefore (heap_ground told moment faults may_leave media) old mid
-    → LeavesBefore (heap_ground told moment faults may_leave media) old new
-leaves_later {D} told moment faults may_leave media old mid new disk same leaves = record {
+    → LeavesBefore (heap_ground told moment faults may_hold_after media) old mid
+    → LeavesBefore (heap_ground told moment faults may_hold_after media) old new
+leaves_later {D} told moment faults may_hold_after media old mid new disk same leaves = record {
   each = λ v at.
       let e = leaves.each v at in
       record {
         later = omega (arith, e.later, same);
         each = λ m image ge le l.
-            e.each m image ge (omega (arith, le, same)) (subst (λ (d : D). Leaves told may_leave d m image) disk l);
-        past = λ m image le l. e.past m image le (subst (λ (d : D). Leaves told may_leave d m image) disk l);
+            e.each m image ge (omega (arith, le, same))
+                (subst (λ (d : D). Leaves told may_hold_after d m image) disk l);
+        past = λ m image le l. e.past m image le (subst (λ (d : D). Leaves told may_hold_after d m image) disk l);
       };
 }

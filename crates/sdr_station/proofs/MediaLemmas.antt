@@ -4,7 +4,7 @@ use Rattle.sdr_base.specs.declared.media.Media.{Ghosts as MediaGhosts}
 use Rattle.sdr_base.specs.declared.refusal.Refusal.{Refusal}
 use Rattle.sdr_base.specs.declared.refusal.Refusal.TheVariants as refusals
 use Rattle.sdr_base.specs.declared.stop.Stop.TheVariants as stops
-use Rattle.sdr_lock.specs.Gaps.{Gaps, HasGapCause}
+use Rattle.sdr_lock.specs.Lapses.{Lapses, HasLapseCause}
 use Rattle.sdr_lock.specs.Ground.{MayMissMedia}
 use Rattle.sdr_model.specs.Reading.{reads_media}
 use Rattle.sdr_model.specs.Step.{is_answer}
@@ -13,7 +13,7 @@ use Rattle.sdr_model.specs.declared.answer.Answer.TheVariants as answers
 use Rattle.sdr_model.specs.declared.answer.Reply.{Reply}
 use Rattle.sdr_model.specs.declared.answer.Reply.TheVariants as replies
 use Rattle.sdr_model.specs.declared.call.Call.{Call}
-use Rattle.sdr_station.proofs.GroundLemmas.{gaps_of}
+use Rattle.sdr_station.proofs.GroundLemmas.{lapses_of}
 use Rattle.sdr_station.specs.Giving.{reads_by}
 use Rattle.zco_given.specs.Giving.{MissesMedia, may_read}
 
@@ -23,7 +23,7 @@ answered_misses w call replies.MediaFault is = absurd (true≢false (sym is))
 answered_misses w call (replies.Refused refusal) is = absurd (true≢false (sym is))
 answered_misses w call reply is = tt
 
-pub answered_gap : (before now : Gaps) (reply : Reply) → is_answer reply ≡ true → HasGapCause (answers.Reply reply) before now
+pub answered_gap : (before now : Lapses) (reply : Reply) → is_answer reply ≡ true → HasLapseCause (answers.Reply reply) before now
 answered_gap before now replies.MediaFault is = absurd (true≢false (sym is))
 answered_gap before now (replies.Refused refusal) is = absurd (true≢false (sym is))
 answered_gap before now reply is = tt
@@ -47,6 +47,6 @@ module _ {M : Type 0} (m : MediaGhosts M) (w : World) (call : Call) (before now 
 
   -- whose count rose
   pub refused_gap : (refusal : Refusal) → MissesMedia m w call before now (Err (stops.Refused refusal))
-      → HasGapCause (answers.Reply (replies.Refused refusal)) (gaps_of m before) (gaps_of m now)
+      → HasLapseCause (answers.Reply (replies.Refused refusal)) (lapses_of m before) (lapses_of m now)
   refused_gap (refusals.SourceShort have want) is = is.2
   refused_gap refusal is = tt

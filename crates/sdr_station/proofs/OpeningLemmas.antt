@@ -24,10 +24,11 @@ use Rattle.sdr_station.specs.Opening.{ArePutBack, IsOfAudit, IsOfImage, IsOpen, 
 use Rattle.sdr_station.specs.declared.error.OpenError.{OpenError}
 
 -- an image that was opened, and for whose bytes a world was found to stand, stands for it
-pub open_stands : {D M : Type 0} (told : D → Option (List ℕ)) (moment : D → ℕ) (may_leave : D → ℕ → List ℕ → Type 0) (disk : D) (files : M) (i j : Opened D)
-    (count spare : ℕ) → IsOpened told moment may_leave disk i → IsQuiet i j → j.bytes ≡ i.bytes → j.touched ≡ i.touched
+pub open_stands : {D M : Type 0} (told : D → Option (List ℕ)) (moment : D → ℕ) (may_hold_after : D → ℕ → List ℕ → Type 0) (disk : D) (files : M) (i j : Opened D)
+    (count spare : ℕ) → IsOpened told moment may_hold_after disk i → IsQuiet i j → j.bytes ≡ i.bytes → j.touched
+        ≡ i.touched
     → StandsAsTold i.bytes
-    → IsOpen {M = M} told moment may_leave disk (record {
+    → IsOpen {M = M} told moment may_hold_after disk (record {
       heap = record { cells = j; size = length j.bytes; marks = replicate count false; moves = []; spare = spare };
       media = files;
       shown = [];
@@ -36,7 +37,7 @@ pub open_stands : {D M : Type 0} (told : D → Option (List ℕ)) (moment : D �
       moment = moment j.disk;
       restored = i.restored;
     })
-open_stands {D} {M} told moment may_leave disk files i j count spare o q bytes touched told_stands =
+open_stands {D} {M} told moment may_hold_after disk files i j count spare o q bytes touched told_stands =
     let room = room_of j.frame in
     let s : State = resting (world_of j.begun) (Ground.OnHeap room (pools_of j.begun)) in
     let begun : j.begun ≡ j.bytes = q.begun ∙ o.begun ∙ sym bytes in
@@ -78,16 +79,16 @@ open_stands {D} {M} told moment may_leave disk files i j count spare o q bytes t
           subst (λ (r : Frame). PutsBack r i.restored x y) (sym q.frame) (o.back x is y (sym (ap told q.disk) ∙ tells));
       memory = memory;
       stands = λ may. record {
-        rests = rests_same told moment may_leave i j q (o.rests may);
+        rests = rests_same told moment may_hold_after i j q (o.rests may);
         moment_is = λ x is. refl;
         memory = memory;
       };
     }
 
 -- what was opened is a ground
-pub open_ground : {D M : Type 0} (told : D → Option (List ℕ)) (moment : D → ℕ) (may_leave : D → ℕ → List ℕ → Type 0) (disk : D) (g : Grounded D M)
-    → moment g.heap.cells.disk ≤ g.moment → IsOpen told moment may_leave disk g → IsGround moment g
-open_ground told moment may_leave disk g seen o = record { seen = seen; sound = λ _. o.sound; going = λ _. o.going; stands = λ _. record { for = _; holds = o.memory } }
+pub open_ground : {D M : Type 0} (told : D → Option (List ℕ)) (moment : D → ℕ) (may_hold_after : D → ℕ → List ℕ → Type 0) (disk : D) (g : Grounded D M)
+    → moment g.heap.cells.disk ≤ g.moment → IsOpen told moment may_hold_after disk g → IsGround moment g
+open_ground told moment may_hold_after disk g seen o = record { seen = seen; sound = λ _. o.sound; going = λ _. o.going; stands = λ _. record { for = _; holds = o.memory } }
 
 -- where an image isn't opened, the disk's bytes are the same unless it failed
 pub image_leaves : (old new : Option (List ℕ)) (error : ImageError) (why : OpenError) → IsOfImage error why → UnlessFault error (new ≡ old)

@@ -1,7 +1,7 @@
 -- A world as a transaction leaves it.
 use Rattle.std.proofs.Common.{◌≡◌, ◌∙◌, ℕ, refl, sym, ap}
 use Rattle.sdr_laws.proofs.WholeLaws.{whole_same}
-use Rattle.sdr_lock.specs.Ground.{State, put_back}
+use Rattle.sdr_lock.specs.Ground.{State, rolled_back}
 use Rattle.sdr_model.specs.Fields.{FitsFields}
 use Rattle.sdr_model.specs.Whole.{IsWhole}
 use Rattle.sdr_model.specs.World.{World, at_rest}
@@ -21,6 +21,6 @@ pub fits_rest : (w : World) → FitsFields w → FitsFields (at_rest w)
 fits_rest w fits = record { things = fits.things; names = fits.names; inbound = fits.inbound; outbound = fits.outbound }
 
 -- where no block is counted as taken, what is put back is what was before
-pub put_back_is : (before now : State) → before.world.taken ≡ 0 → now.world.taken ≡ 0 → before ≡ put_back before now
+pub put_back_is : (before now : State) → before.world.taken ≡ 0 → now.world.taken ≡ 0 → before ≡ rolled_back before now
 put_back_is before now none zero =
     ap (λ (t : ℕ). record before { world = record before.world { taken = t } }) (none ∙ sym zero)

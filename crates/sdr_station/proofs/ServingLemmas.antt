@@ -4,9 +4,9 @@ use Rattle.sdr_audit.specs.Standing.{HeapStandsFor}
 use Rattle.sdr_base.proofs.MovesLemmas.{Moves-none}
 use Rattle.sdr_base.specs.KeptHeap.{KeepsRegion}
 use Rattle.sdr_base.specs.Transaction.{Explains}
-use Rattle.sdr_base.specs.Moves.{Leads, Moves, MovesPools}
+use Rattle.sdr_base.specs.Moves.{LeadsPools, Moves, MovesPools}
 use Rattle.sdr_base.specs.Objects.{Heap}
-use Rattle.sdr_base.specs.Works.{Works}
+use Rattle.sdr_base.specs.Works.{Spends}
 use Rattle.sdr_base.specs.declared.has_heap.HasHeap.{Ghosts as HeapGhosts}
 use Rattle.sdr_base.specs.Media.{Told}
 use Rattle.sdr_base.specs.declared.media.Media.{Ghosts as MediaGhosts}
@@ -24,7 +24,7 @@ use Rattle.sdr_lock.specs.Crash.{LeavesBefore}
 use Rattle.sdr_lock.specs.Demand.{Demand, MayFillLog, demand_after}
 use Rattle.sdr_lock.specs.Ground.{Ground, MayMissMedia, State, Steps, StepsOn}
 use Rattle.sdr_lock.specs.Serving.{Brings, Calls}
-use Rattle.sdr_lock.specs.Standing.{Standing}
+use Rattle.sdr_lock.specs.Standing.{GroundState}
 use Rattle.sdr_lock.specs.Transaction.{bytes_given}
 use Rattle.sdr_log.specs.Frame.{room_of}
 use Rattle.sdr_log.specs.declared.frame.Frame.{Frame}
@@ -47,7 +47,7 @@ use Rattle.sdr_station.proofs.StoodLemmas.{small_in, stood_of}
 use Rattle.sdr_station.proofs.GroundLemmas.{heap_ground}
 use Rattle.sdr_station.proofs.MediaLemmas.{answered_misses, refused_misses}
 use Rattle.sdr_station.specs.CrashNow.{crash_now}
-use Rattle.sdr_answers.specs.Answering.{Aim, Answered, Comes, IsServed, dooms}
+use Rattle.sdr_answers.specs.Answering.{Aim, Answered, ComesInEach, IsReady, dooms}
 use Rattle.sdr_served.specs.Giving.{TellsInEach}
 use Rattle.sdr_served.specs.Serving.{IsGood, call_lines}
 use Rattle.zco_wire.specs.Stopping.{past_media, past_stop}
@@ -65,7 +65,7 @@ image_heap faults = record {
 }
 
 -- calls are served in the world that an open transaction has made
-pub served_in : {D : Type 0} {h : Held (Opened D)} {shown : List ℕ} {s : State} → StandsWithin h shown s → IsServed s.world
+pub served_in : {D : Type 0} {h : Held (Opened D)} {shown : List ℕ} {s : State} → StandsWithin h shown s → IsReady s.world
 served_in w = record { whole = w.whole; fits = w.fits }
 
 -- what is of a kind is kept before a call
@@ -95,14 +95,14 @@ module _ {D M : Type 0} (faults : D → ℕ) (m : MediaGhosts M) (old : Grounded
   fresh_heap = record old.heap { moves = []; spare = spare }
 
   -- it stands for the same world
-  fresh_stands : (v : Standing) → StandsInMemory old v → HeapStandsFor (heap_in fresh_heap) v.now.world
+  fresh_stands : (v : GroundState) → StandsInMemory old v → HeapStandsFor (heap_in fresh_heap) v.now.world
   fresh_stands v at = let s = (at.now going).heap in record { blocks = s.blocks; roots = s.roots; marks = s.marks }
 
   -- what the call works, in each world that the heap before it stood for
   abbrev pub WorksIn : Result Reply Stop → Type 0
   WorksIn result =
-      (w : World) → HeapStandsFor (heap_in fresh_heap) w → IsServed w
-      → Works (image_heap faults) (call_lines (heap_in fresh_heap) w call) fresh_heap heap (past_media result)
+      (w : World) → HeapStandsFor (heap_in fresh_heap) w → IsReady w
+      → Spends (image_heap faults) (call_lines (heap_in fresh_heap) w call) fresh_heap heap (past_media result)
 
   -- what it tells of media
   abbrev pub AsksIn : Result Reply Stop → Type 0
@@ -121,12 +121,12 @@ module _ {D M : Type 0} (faults : D → ℕ) (m : MediaGhosts M) (old : Grounded
   }
 
   -- what was quiet since then was quiet
-  pub quiet_of : {T : Type 0} {lines : ℕ} {result : Result T Stop} → Works (image_heap faults) lines fresh_heap heap result
+  pub quiet_of : {T : Type 0} {lines : ℕ} {result : Result T Stop} → Spends (image_heap faults) lines fresh_heap heap result
       → IsQuiet fresh_heap.cells heap.cells × (heap.size ≡ fresh_heap.size)
   quiet_of works = works.quiet fresh_heap (record { disk = refl; frame = refl; begun = refl; failed = refl }, refl)
 
   -- what stands still of a standing
-  stands_on : (new : Grounded D M) (v : Standing) → StandsInMemory old v → IsQuiet old.heap.cells new.heap.cells → new.heap.size ≡ old.heap.size → (now : State) → now.world.taken ≡ 0
+  stands_on : (new : Grounded D M) (v : GroundState) → StandsInMemory old v → IsQuiet old.heap.cells new.heap.cells → new.heap.size ≡ old.heap.size → (now : State) → now.world.taken ≡ 0
       → now.world.shown ≡ new.shown → HasStood old.heap.size now.world → (new.stopped ≡ false → StandsWithin new.heap new.shown now)
       → new.idle ≡ false
       → StandsInMemory new (record { before = v.before; now = now; moves = new.heap.moves })
@@ -144,9 +144,9 @@ module _ {D M : Type 0} (faults : D → ℕ) (m : MediaGhosts M) (old : Grounded
     moves = refl;
   }
 
-  module _ (v : Standing) (at : StandsInMemory old v)
+  module _ (v : GroundState) (at : StandsInMemory old v)
       (moves : Moves (KeepsRegion fresh_heap.size fresh_heap.cells.bytes) (KeepsRegion heap.size heap.cells.bytes) [] heap.moves) where
-    lead : Leads (KeepsRegion heap.size heap.cells.bytes) (at.now going).pools moves.more
+    lead : LeadsPools (KeepsRegion heap.size heap.cells.bytes) (at.now going).pools moves.more
     lead = moves.lead (at.now going).pools (at.now going).keeps
 
     fits : MovesPools (at.now going).pools heap.moves lead.after
@@ -224,7 +224,7 @@ module _ {D M : Type 0} (faults : D → ℕ) (m : MediaGhosts M) (old : Grounded
         (λ i. record heap' { cells = sym cells i; size = sym size i; marks = sym marks i }) here
 
   -- an answered call brings what its row does
-  pub brings_answered : (reply : Reply) → Comes call (heap_in fresh_heap) (heap_in heap) old.shown page (Ok reply) → WorksIn (Ok reply)
+  pub brings_answered : (reply : Reply) → ComesInEach call (heap_in fresh_heap) (heap_in heap) old.shown page (Ok reply) → WorksIn (Ok reply)
       → AsksIn (Ok reply) → Brings StandsInMemory old going_ground (Calls (m.told old.media) call reply)
   brings_answered reply comes each asks = record {
     each = λ v at.
@@ -299,10 +299,10 @@ module _ {D M : Type 0} (faults : D → ℕ) (m : MediaGhosts M) (old : Grounded
 
   -- a refused call for which there was log room
   brings_stopped : (refusal : Refusal) (n : ℕ) → moves_left refusal heap.moves ≡ heap.moves
-      → ((w : World) → WorksIn (Err (stops.Refused refusal)) → HeapStandsFor (heap_in fresh_heap) w → IsServed w
+      → ((w : World) → WorksIn (Err (stops.Refused refusal)) → HeapStandsFor (heap_in fresh_heap) w → IsReady w
       → Moves (KeepsRegion fresh_heap.size fresh_heap.cells.bytes) (KeepsRegion heap.size heap.cells.bytes) [] heap.moves)
       → ((room : ℕ) (d : Demand) (w : World) → MayFillLog room d w call (replies.Refused refusal))
-      → ((w : World) → HeapStandsFor (heap_in fresh_heap) w → IsServed w
+      → ((w : World) → HeapStandsFor (heap_in fresh_heap) w → IsReady w
       → StepTo w (record { moves = heap.moves; after = w; reply = replies.Refused refusal }) call × (is_reading call ≡ true → heap_in heap ≡ heap_in fresh_heap) × (page ≡ old.shown))
       → WorksIn (Err (stops.Refused refusal)) → AsksIn (Err (stops.Refused refusal))
       → Brings StandsInMemory old (refused_ground refusal n) (Calls (m.told old.media) call (replies.Refused refusal))
@@ -334,7 +334,7 @@ module _ {D M : Type 0} (faults : D → ℕ) (m : MediaGhosts M) (old : Grounded
   }
 
   -- the state after a call for which there was no log room
-  abbrev pub full_state : (v : Standing) → StandsInMemory old v → Reply → State
+  abbrev pub full_state : (v : GroundState) → StandsInMemory old v → Reply → State
   full_state v at reply = record {
     world = v.now.world;
     base = Ground.OnHeap (room_of heap.cells.frame) (at.now going).pools;
@@ -343,7 +343,7 @@ module _ {D M : Type 0} (faults : D → ℕ) (m : MediaGhosts M) (old : Grounded
 
   -- a refused call for which there was none
   brings_full : (lines room n : ℕ)
-      → ((w : World) → HeapStandsFor (heap_in fresh_heap) w → IsServed w → Aim w call × (is_reading call ≡ false) × (page ≡ old.shown))
+      → ((w : World) → HeapStandsFor (heap_in fresh_heap) w → IsReady w → Aim w call × (is_reading call ≡ false) × (page ≡ old.shown))
       → WorksIn (Err (stops.Refused (refusals.LogFull lines room))) → AsksIn (Err (stops.Refused (refusals.LogFull lines room)))
       → Brings StandsInMemory old (refused_ground (refusals.LogFull lines room) n)
       (Calls (m.told old.media) call (replies.Refused (refusals.LogFull lines room)))
@@ -393,7 +393,7 @@ module _ {D M : Type 0} (faults : D → ℕ) (m : MediaGhosts M) (old : Grounded
   }
 
   -- a refused call brings what its step does
-  pub brings_refused : (refusal : Refusal) (n : ℕ) → Comes call (heap_in fresh_heap) (heap_in heap) old.shown page (Err (stops.Refused refusal))
+  pub brings_refused : (refusal : Refusal) (n : ℕ) → ComesInEach call (heap_in fresh_heap) (heap_in heap) old.shown page (Err (stops.Refused refusal))
       → WorksIn (Err (stops.Refused refusal)) → AsksIn (Err (stops.Refused refusal))
       → Brings StandsInMemory old (refused_ground refusal n) (Calls (m.told old.media) call (replies.Refused refusal))
   brings_refused (refusals.LogFull lines room) n comes works asks =
@@ -407,16 +407,17 @@ module _ {D M : Type 0} (faults : D → ℕ) (m : MediaGhosts M) (old : Grounded
       (λ w stands served. let r = comes.each w stands served in (r.step, r.left, r.gave)) works asks
 
 -- what a call brings in memory it brings on its disk, where the disk is quiet and the moment the same
-pub brings_quiet : {D M : Type 0} (told : D → Option (List ℕ)) (moment : D → ℕ) (may_leave : D → ℕ → List ℕ → Type 0)
-    {P : Standing → Standing → Type 0} (old new : Grounded D M) → IsQuiet old.heap.cells new.heap.cells → new.moment ≡ old.moment
-    → Brings StandsInMemory old new P → Brings (λ g v. StandsForBoth told moment may_leave g v) old new P
-brings_quiet told moment may_leave old new q same brings = record {
+pub brings_quiet : {D M : Type 0} (told : D → Option (List ℕ)) (moment : D → ℕ)
+    (may_hold_after : D → ℕ → List ℕ → Type 0)
+    {P : GroundState → GroundState → Type 0} (old new : Grounded D M) → IsQuiet old.heap.cells new.heap.cells → new.moment ≡ old.moment
+    → Brings StandsInMemory old new P → Brings (λ g v. StandsForBoth told moment may_hold_after g v) old new P
+brings_quiet told moment may_hold_after old new q same brings = record {
   each = λ v at.
       let s = brings.each v at.memory in
       record {
         for = s.for;
         holds = record {
-          rests = rests_same told moment may_leave old.heap.cells new.heap.cells q at.rests;
+          rests = rests_same told moment may_hold_after old.heap.cells new.heap.cells q at.rests;
           moment_is = λ x tells. same ∙ at.moment_is x (sym (ap told q.disk) ∙ tells) ∙ sym (ap moment q.disk);
           memory = s.holds;
         };
@@ -425,23 +426,23 @@ brings_quiet told moment may_leave old new q same brings = record {
 }
 
 -- where the disk is the same and its moment too, a crash leaves the state before
-pub leaves_quiet : {D M : Type 0} (told : D → Option (List ℕ)) (moment faults : D → ℕ) (may_leave : D → ℕ → List ℕ → Type 0)
-    (media : MediaGhosts M) (old new : Grounded D M) → new.heap.cells.disk ≡ old.heap.cells.disk → new.moment ≡ old.moment → LeavesBefore (heap_ground told moment faults may_leave media) old new
-leaves_quiet {D} told moment faults may_leave media old new disk same = record {
+pub leaves_quiet : {D M : Type 0} (told : D → Option (List ℕ)) (moment faults : D → ℕ) (may_hold_after : D → ℕ → List ℕ → Type 0)
+    (media : MediaGhosts M) (old new : Grounded D M) → new.heap.cells.disk ≡ old.heap.cells.disk → new.moment ≡ old.moment → LeavesBefore (heap_ground told moment faults may_hold_after media) old new
+leaves_quiet {D} told moment faults may_hold_after media old new disk same = record {
   each = λ v at. record {
     later = omega (arith, same);
     each = λ m image ge le l.
         let here : m ≡ old.moment = omega (arith, ge, le, same) in
-        crash_now told moment may_leave old v image at
-        (subst (λ (n : ℕ). Leaves told may_leave old.heap.cells.disk n image) here
-        (subst (λ (d : D). Leaves told may_leave d m image) disk l));
-    past = λ m image le l. subst (λ (d : D). Leaves told may_leave d m image) disk l;
+        crash_now told moment may_hold_after old v image at
+        (subst (λ (n : ℕ). Leaves told may_hold_after old.heap.cells.disk n image) here
+        (subst (λ (d : D). Leaves told may_hold_after d m image) disk l));
+    past = λ m image le l. subst (λ (d : D). Leaves told may_hold_after d m image) disk l;
   };
 }
 
 -- no call on blocks meets a disk fault
 pub no_fault : {D : Type 0} (faults : D → ℕ) (old new : Held (Opened D)) (lines : ℕ) → old.cells.failed ≡ false
-    → (stop : Stop) → Works (image_heap faults) lines old new (past_stop stop) → (stop ≡ stops.DiskFault) ⊎ (stop ≡ stops.Failed) → ⊥
+    → (stop : Stop) → Spends (image_heap faults) lines old new (past_stop stop) → (stop ≡ stops.DiskFault) ⊎ (stop ≡ stops.Failed) → ⊥
 no_fault faults old new lines sound stop works (inl is) =
     let e = subst (λ (s : Stop). Explains (transaction_of faults old.cells) (transaction_of faults new.cells) (past_stop s)) is works.cause.explained in
     let q = works.quiet old (record { disk = refl; frame = refl; begun = refl; failed = refl }, refl) in

@@ -2,13 +2,13 @@
 use Rattle.std.proofs.Common.{◌≡◌, ◌∙◌, ◌&&◌, nat_le, is_none, Bool, true, false, true≢false, not, if◌then◌else◌, Option, None, Some, refl, sym, ap, subst}
 use Rattle.std.specs.Option.{option_map_or}
 use Rattle.sdr_lock.specs.Closing.{close_of}
-use Rattle.sdr_lock.specs.Crash.{LeavesBefore, LeavesOr, is_kept, keeps_in}
+use Rattle.sdr_lock.specs.Crash.{LeavesBefore, LeavesOr, is_kept, commits_in}
 use Rattle.sdr_base.specs.Refusal.{refusal_number}
 use Rattle.sdr_base.specs.declared.refusal.Reason.{Reason}
 use Rattle.sdr_base.specs.declared.refusal.Reason.TheVariants as reasons
 use Rattle.sdr_lock.specs.Nesting.{closing, doomed_for, noted}
-use Rattle.sdr_lock.specs.Serving.{Brings, PutsBack, Settles}
-use Rattle.sdr_lock.specs.Standing.{Standing}
+use Rattle.sdr_lock.specs.Serving.{Brings, RollsBack, Settles}
+use Rattle.sdr_lock.specs.Standing.{GroundState}
 use Rattle.sdr_lock.specs.declared.has_ground.HasGround.{Ghosts}
 use Rattle.sdr_lock.specs.declared.nesting.Nesting.{Nesting}
 use Rattle.sdr_model.specs.Reading.{is_reading}
@@ -21,8 +21,9 @@ use Rattle.sdr_model.specs.declared.event.Event.TheVariants as events
 use Rattle.sdr_answers.specs.Answering.{dooms}
 
 -- what isn't kept is put back
-pub settles_back : {T : Type 0} {stands : T → Standing → Type 0} {old new : T} (close : Close) → is_kept close ≡ false
-    → Brings stands old new PutsBack → Brings stands old new (Settles close)
+pub settles_back : {T : Type 0} {stands : T → GroundState → Type 0} {old new : T} (close : Close) → is_kept close
+    ≡ false
+    → Brings stands old new RollsBack → Brings stands old new (Settles close)
 settles_back closes.Ended unkept brings = absurd (true≢false unkept)
 settles_back closes.Exited unkept brings = brings
 settles_back (closes.Cancelled reason) unkept brings = brings
@@ -34,7 +35,7 @@ pub leaves_unkept : {T : Type 0} (g : Ghosts T) (close : Close) (old new : T) �
 leaves_unkept g close old new unkept leaves = subst (λ b. LeavesOr b g old new) (sym unkept) leaves
 
 -- an outermost end keeps what was done, unless the transaction is doomed
-pub keeps_outermost : (n : Nesting) → nat_le n.depth 1 ≡ true → is_kept (closing n events.End) ≡ keeps_in n events.End
+pub keeps_outermost : (n : Nesting) → nat_le n.depth 1 ≡ true → is_kept (closing n events.End) ≡ commits_in n events.End
 keeps_outermost n outer = by n.doom ∙ ap (λ b. b && is_none n.doom) (sym outer)
   where
     by : (doom : Option Reason) → is_kept (option_map_or (λ reason. closes.Cancelled reason) doom (close_of events.End n.modified)) ≡ is_none doom

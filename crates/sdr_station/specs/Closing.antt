@@ -12,15 +12,15 @@ moves_left (refusals.LogFull lines room) moves = []
 moves_left refusal moves = moves
 
 -- the heap whose bytes were kept on this disk: there is no mark, and no line is touched
-abbrev pub committed : {D : Type 0} → Held (Opened D) → D → Held (Opened D)
-committed h disk = record h {
+abbrev pub heap_committed : {D : Type 0} → Held (Opened D) → D → Held (Opened D)
+heap_committed h disk = record h {
   cells = record h.cells { disk = disk; begun = h.cells.bytes; touched = []; is_open = false };
   marks = replicate (length h.marks) false;
 }
 
--- the heap whose bytes were put back to those at begin, on this disk: there is no mark, and no line is touched
-abbrev pub put_back : {D : Type 0} → Held (Opened D) → D → Held (Opened D)
-put_back h disk = record h {
+-- the heap whose bytes were rolled back to those at begin, on this disk: there is no mark, and no line is touched
+abbrev pub heap_rolled_back : {D : Type 0} → Held (Opened D) → D → Held (Opened D)
+heap_rolled_back h disk = record h {
   cells = record h.cells { disk = disk; bytes = h.cells.begun; touched = []; is_open = false };
   marks = replicate (length h.marks) false;
 }

@@ -1,6 +1,6 @@
 -- What a call gives of bytes.
 use Rattle.std.specs.Prelude.{◌≡◌, ℕ, Bool, false, List, length, take, drop, Option, None, Some, IfSome, MatchOption}
-use Rattle.sdr_lock.specs.Standing.{Standing}
+use Rattle.sdr_lock.specs.Standing.{GroundState}
 use Rattle.sdr_base.specs.declared.refusal.Refusal.TheVariants as refusals
 use Rattle.sdr_model.specs.Reading.{reads_media}
 use Rattle.sdr_model.specs.declared.answer.Reply.{Reply}
@@ -21,12 +21,12 @@ reads_by call (replies.Refused refusal) = false
 reads_by call reply = reads_media call
 
 -- where the reply tells of bytes, they are as many as are shown, and no call was stopped
-abbrev pub Gives : {D M : Type 0} → Reply → Grounded D M → Type 0
-Gives reply g = IfSome (bytes_told reply) (λ count. (length g.shown ≡ count) × (g.stopped ≡ false))
+abbrev pub GivesReply : {D M : Type 0} → Reply → Grounded D M → Type 0
+GivesReply reply g = IfSome (bytes_told reply) (λ count. (length g.shown ≡ count) × (g.stopped ≡ false))
 
 -- The first so many bytes of a buffer are what the current world shows, and the others stay.
 pub record HasShown {D M : Type 0} (g : Grounded D M) (count : ℕ) (old new : List ℕ) : Type 0 where
-  pub shown : (v : Standing) → StandsInMemory g v → take count new ≡ v.now.world.shown
+  pub shown : (v : GroundState) → StandsInMemory g v → take count new ≡ v.now.world.shown
   pub others : drop count new ≡ drop count old
 
 -- where the reply tells of bytes, they are in the buffer; else it stays

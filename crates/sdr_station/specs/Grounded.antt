@@ -11,14 +11,14 @@ use Rattle.sdr_heap.specs.Noted.{Held, marked_in}
 use Rattle.sdr_image.specs.Opened.{Opened, Rests}
 use Rattle.sdr_lock.specs.Demand.{most_lines, no_demand}
 use Rattle.sdr_lock.specs.Ground.{Ground, State}
-use Rattle.sdr_lock.specs.Standing.{Standing}
+use Rattle.sdr_lock.specs.Standing.{GroundState}
 use Rattle.sdr_log.specs.Frame.{room_of}
 use Rattle.sdr_log.specs.Log.{put_back_of}
 use Rattle.sdr_model.specs.Fields.{FitsFields}
 use Rattle.sdr_model.specs.Whole.{IsWhole}
 use Rattle.sdr_model.specs.World.{World}
 
--- the heap; the media that it names; the bytes that the last answered call gave; whether the transaction can only be put back,
+-- the heap; the media that it names; the bytes that the last answered call gave; whether the transaction can only be rolled back,
 -- and whether no call was made in it; the disk's moment; and how many lines opening has put back
 pub record Grounded (D M : Type 0) : Type 0 where
   pub heap : Held (Opened D)
@@ -73,7 +73,7 @@ pub record HasStood (size : ℕ) (w : World) : Type 0 where
 -- for the one, and for the other the heap does, unless a call was stopped on its way. The moves are the heap's, and the bytes
 -- that are shown are those that stand here. A heap of this size has stood for the world now. Where no call was made in the
 -- transaction, both states are the same.
-pub record StandsInMemory {D M : Type 0} (g : Grounded D M) (v : Standing) : Type 0 where
+pub record StandsInMemory {D M : Type 0} (g : Grounded D M) (v : GroundState) : Type 0 where
   pub sound : g.heap.cells.failed ≡ false
   pub size : length g.heap.cells.begun ≡ g.heap.size
   pub before : StandsAtRest (room_of g.heap.cells.frame) g.heap.cells.begun v.before
@@ -85,15 +85,15 @@ pub record StandsInMemory {D M : Type 0} (g : Grounded D M) (v : Standing) : Typ
   pub moves : v.moves ≡ g.heap.moves
 
 -- A heap on an image stands for the states before the transaction and now: it does so in memory, and the disk rests.
-pub record StandsForBoth {D M : Type 0} (told : D → Option (List ℕ)) (moment : D → ℕ) (may_leave : D → ℕ → List ℕ → Type 0)
-    (g : Grounded D M) (v : Standing) : Type 0 where
-  pub rests : Rests told moment may_leave g.heap.cells
+pub record StandsForBoth {D M : Type 0} (told : D → Option (List ℕ)) (moment : D → ℕ) (may_hold_after : D → ℕ → List ℕ → Type 0)
+    (g : Grounded D M) (v : GroundState) : Type 0 where
+  pub rests : Rests told moment may_hold_after g.heap.cells
   pub moment_is : IfTold (told g.heap.cells.disk) (λ _. g.moment ≡ moment g.heap.cells.disk)
   pub memory : StandsInMemory g v
 
 -- the heap in memory stands for something
 pub record StandsSome {D M : Type 0} (g : Grounded D M) : Type 0 where
-  pub for : Standing
+  pub for : GroundState
   pub holds : StandsInMemory g for
 
 -- the heap is kept, and stands for the world, which is whole and fits its fields
@@ -107,10 +107,10 @@ pub record HoldsWorld {D : Type 0} (h : Held (Opened D)) (w : World) : Type 0 wh
 -- the heap in memory stands for something, and holds the world before the transaction of whatever it stands for
 pub record IsBefore {D M : Type 0} (g : Grounded D M) : Type 0 where
   pub some : StandsSome g
-  pub holds : (v : Standing) → StandsInMemory g v → HoldsWorld g.heap v.before.world
+  pub holds : (v : GroundState) → StandsInMemory g v → HoldsWorld g.heap v.before.world
 
 -- What a ground keeps: its moment is no earlier than its disk's; unless the disk has failed, the heap in memory stands for
--- something; where the disk has failed, the transaction can only be put back; and one in which no call was made goes on.
+-- something; where the disk has failed, the transaction can only be rolled back; and one in which no call was made goes on.
 pub record IsGround {D M : Type 0} (moment : D → ℕ) (g : Grounded D M) : Type 0 where
   pub seen : moment g.heap.cells.disk ≤ g.moment
   pub sound : g.stopped ≡ false → g.heap.cells.failed ≡ false
@@ -118,14 +118,15 @@ pub record IsGround {D M : Type 0} (moment : D → ℕ) (g : Grounded D M) : Typ
   pub stands : g.heap.cells.failed ≡ false → StandsSome g
 
 -- what a crash at a moment may leave of a disk that tells its bytes
-pub record Leaves {D : Type 0} (told : D → Option (List ℕ)) (may_leave : D → ℕ → List ℕ → Type 0) (disk : D) (m : ℕ)
+pub record Leaves {D : Type 0} (told : D → Option (List ℕ)) (may_hold_after : D → ℕ → List ℕ → Type 0) (disk : D)
+    (m : ℕ)
     (image : List ℕ) : Type 0 where
   pub bytes : List ℕ
   pub tells : told disk ≡ Some bytes
-  pub left : may_leave disk m image
+  pub left : may_hold_after disk m image
 
 -- opening the image gives bytes that stand for the state
-pub record Opens (image : List ℕ) (s : State) : Type 0 where
+pub record OpensAs (image : List ℕ) (s : State) : Type 0 where
   pub heap : List ℕ
   pub back : put_back_of image ≡ Some heap
   pub room : ℕ

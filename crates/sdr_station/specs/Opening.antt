@@ -8,7 +8,7 @@ use Rattle.sdr_base.specs.declared.line.TheConstants.{LINE}
 use Rattle.sdr_check.specs.Checked.{IsWrongFirst}
 use Rattle.sdr_check.specs.declared.error.AuditError.{AuditError}
 use Rattle.sdr_check.specs.declared.error.AuditError.TheVariants as audits
-use Rattle.sdr_check.specs.declared.error.Why.{Why}
+use Rattle.sdr_check.specs.declared.error.Check.{Check}
 use Rattle.sdr_disk.specs.Told.{Both, IfTold}
 use Rattle.sdr_image.specs.Opening.{MayBeOpened}
 use Rattle.sdr_image.specs.declared.error.ImageError.{ImageError}
@@ -35,7 +35,8 @@ first_on g =
 
 -- A heap was opened: the disk gives its bytes, and so many lines of its open batches were put back. The heap in memory stands for the
 -- world that they tell; so does the heap on its disk, where nothing was pending on the disk, or a recovery was stopped.
-pub record IsOpen {D M : Type 0} (told : D → Option (List ℕ)) (moment : D → ℕ) (may_leave : D → ℕ → List ℕ → Type 0)
+pub record IsOpen {D M : Type 0} (told : D → Option (List ℕ)) (moment : D → ℕ)
+    (may_hold_after : D → ℕ → List ℕ → Type 0)
     (disk : D) (g : Grounded D M) : Type 0 where
   pub going : g.stopped ≡ false
   pub idle : g.idle ≡ true
@@ -44,8 +45,8 @@ pub record IsOpen {D M : Type 0} (told : D → Option (List ℕ)) (moment : D �
   pub gives : IfTold (told disk) (λ x. put_back_of x ≡ Some g.heap.cells.begun)
   pub back : Both (told disk) (told g.heap.cells.disk) (PutsBack g.heap.cells.frame g.restored)
   pub memory : StandsInMemory g (standing_at (first_on g) [])
-  pub stands : IfTold (told disk) (λ x. MayBeOpened x (may_leave disk (moment disk)))
-      → StandsForBoth told moment may_leave g (standing_at (first_on g) [])
+  pub stands : IfTold (told disk) (λ x. MayBeOpened x (may_hold_after disk (moment disk)))
+      → StandsForBoth told moment may_hold_after g (standing_at (first_on g) [])
 
 -- the disk of a heap that was opened, or of what is left where none was
 abbrev pub disk_of : {D M : Type 0} → Result (Grounded D M) (Shut D M) → D
@@ -58,7 +59,7 @@ media_of (Ok g) = g.media
 media_of (Err shut) = shut.media
 
 -- the heap that the disk gives is wrong first at a place, by this check, and no world stands for it
-pub record GivesDamaged (place : ℕ) (why : Why) (x : List ℕ) : Type 0 where
+pub record GivesDamaged (place : ℕ) (why : Check) (x : List ℕ) : Type 0 where
   pub heap : List ℕ
   pub gives : put_back_of x ≡ Some heap
   pub wrong : IsWrongFirst heap why place

@@ -3,7 +3,7 @@ use Rattle.std.specs.Prelude.{◌≡◌, ◌≤◌, ◌+◌, ◌/◌, ℕ, lengt
 use Rattle.sdr_base.specs.declared.stop.Stop.{Stop}
 use Rattle.sdr_base.specs.declared.stop.Stop.TheVariants as stops
 use Rattle.sdr_lock.specs.Ground.{Replied, Steps}
-use Rattle.sdr_lock.specs.Standing.{Standing}
+use Rattle.sdr_lock.specs.Standing.{GroundState}
 use Rattle.sdr_model.specs.Step.{StepTo}
 use Rattle.sdr_model.specs.Steps.{Outcome}
 use Rattle.sdr_model.specs.World.{World}
@@ -20,7 +20,8 @@ pub record IsRoom {D M : Type 0} (call : Call) (s : Stationed D M) (result : Res
   pub room : ℕ
   pub told : result ≡ Ok room
   pub most : room ≤ s.ground.heap.size / 4 + 4
-  pub enough : (v : Standing) → StandsInMemory s.ground v → (o : Replied) → Steps v.now call o → length o.moves ≤ room
+  pub enough : (v : GroundState) → StandsInMemory s.ground v → (o : Replied) → Steps v.now call o →
+      length o.moves ≤ room
 
 -- such a room is told, or after a disk fault it fails
 abbrev pub TellsRoom : {D M : Type 0} → Call → Stationed D M → Result ℕ Stop → Type 0

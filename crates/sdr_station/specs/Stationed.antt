@@ -4,11 +4,11 @@ use Rattle.sdr_base.specs.declared.refusal.Refusal.TheVariants as refusals
 use Rattle.sdr_base.specs.declared.stop.Stop.{Stop}
 use Rattle.sdr_base.specs.declared.stop.Stop.TheVariants as stops
 use Rattle.sdr_lock.specs.Crash.{LeavesOr, is_kept}
-use Rattle.sdr_lock.specs.Gaps.{HasGapCause}
+use Rattle.sdr_lock.specs.Lapses.{HasLapseCause}
 use Rattle.sdr_lock.specs.Nesting.{Inner, closing, deepened, nested, noted, unbegun}
 use Rattle.sdr_image.specs.Opened.{IsQuiet}
-use Rattle.sdr_lock.specs.Serving.{Brings, Calls, KeepsGround, MeetsFault, Settles, StandsStill, shown_in}
-use Rattle.sdr_lock.specs.Standing.{Standing}
+use Rattle.sdr_lock.specs.Serving.{Brings, Calls, KeepsGround, MeetsFault, Settles, SameStates, shown_in}
+use Rattle.sdr_lock.specs.Standing.{GroundState}
 use Rattle.sdr_lock.specs.declared.has_ground.HasGround.{Ghosts}
 use Rattle.sdr_lock.specs.declared.nesting.Nesting.{Nesting}
 use Rattle.sdr_model.specs.declared.answer.Answer.{Answer}
@@ -82,7 +82,7 @@ pub record Says {D M : Type 0} (g : Ghosts (Grounded D M)) (call : Call) (reply 
   pub nesting : new.nesting ≡ noted call reply old.nesting
   pub failed : new.failed ≡ None
   pub restored : new.ground.restored ≡ old.ground.restored
-  pub gap : HasGapCause (answers.Reply reply) (g.gaps old.ground) (g.gaps new.ground)
+  pub gap : HasLapseCause (answers.Reply reply) (g.lapses old.ground) (g.lapses new.ground)
   pub unread : reads_by call reply ≡ false → new.ground.media ≡ old.ground.media
   pub keeps : KeepsGround g true old.ground new.ground
 
@@ -102,7 +102,7 @@ closed_as closes.Exited = closed.Exited
 closed_as (closes.Cancelled reason) = closed.Cancelled reason
 closed_as closes.Faulted = closed.Exited
 
--- a transaction that closed so was kept or put back, and is told so
+-- a transaction that closed so was committed or rolled back, and is told so
 pub record ClosesWell {D M : Type 0} (g : Ghosts (Grounded D M)) (close : Close) (old new : Stationed D M) (told : Closed)
     : Type 0 where
   pub is_told : told ≡ closed_as close
@@ -157,11 +157,11 @@ IsTicketTold ticket (Some granted) result = result ≡ Ok granted
 abbrev pub LooksAt : {D M : Type 0} → ℕ → Stationed D M → Result Bool Stop → Type 0
 LooksAt ticket s result =
     MatchOption s.failed
-    ((v : Standing) → StandsInMemory s.ground v → IsTicketTold ticket (shown_in v.before.world ticket) result)
+    ((v : GroundState) → StandsInMemory s.ground v → IsTicketTold ticket (shown_in v.before.world ticket) result)
     (λ moment. result ≡ Err stops.Failed)
 
 -- all stays in a look but for the heap in memory, which stands for what it did, and whose disk is quiet
 pub record StaysLooked {D M : Type 0} (old new : Stationed D M) : Type 0 where
   pub after : new ≡ record old { ground = record old.ground { heap = new.ground.heap } }
   pub quiet : IsQuiet old.ground.heap.cells new.ground.heap.cells
-  pub still : Brings StandsInMemory old.ground new.ground StandsStill
+  pub still : Brings StandsInMemory old.ground new.ground SameStates

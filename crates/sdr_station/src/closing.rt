@@ -6,8 +6,8 @@ ghost use Rattle.sdr_disk.specs.Told.{IfTold};
 ghost use Rattle.sdr_image.specs.Changed.{GivesEither};
 ghost use Rattle.sdr_image.specs.Opened.{Rests, StaysAt, transaction_of};
 ghost use Rattle.sdr_log.specs.Calls.{KeepsDisk};
-ghost use Rattle.sdr_log.specs.Logged.{Gives};
-ghost use Rattle.sdr_station.specs.Closing.{committed, moves_left, put_back};
+ghost use Rattle.sdr_log.specs.Logged.{GivesHeap};
+ghost use Rattle.sdr_station.specs.Closing.{heap_committed, moves_left, heap_rolled_back};
 
 use sdr_base::{Refusal, Stop};
 use sdr_disk::Disk;
@@ -17,19 +17,19 @@ use sdr_image::Image;
 /// Keeps the bytes of a heap, and takes its marks off. Beside what the image's commit costs, this
 /// writes at most 64 bytes for each word that is marked.
 pub fn commit<D: Disk>(heap: &mut Heap<Image<D>>) -> Result<(), Stop>
-    ensures ended { OnOk result (heap.new ≡ committed heap.old heap.new.cells.disk) }
+    ensures ended { OnOk result (heap.new ≡ heap_committed heap.old heap.new.cells.disk) }
     ensures stops { OnErr result (heap.new ≡ record heap.old { cells = heap.new.cells }) }
-    ensures rests { Rests D.bytes D.moment D.may_leave heap.old.cells
-        → Rests D.bytes D.moment D.may_leave heap.new.cells }
+    ensures rests { Rests D.bytes D.moment D.may_hold_after heap.old.cells
+        → Rests D.bytes D.moment D.may_hold_after heap.new.cells }
     ensures answered { IfRefused result (λ _. ⊥) }
     ensures cause { HasReason (transaction_of D.faults heap.old.cells)
         (transaction_of D.faults heap.new.cells) result }
     ensures stays { StaysAt result heap.old.cells heap.new.cells }
     ensures disk { KeepsDisk D.size D.bytes heap.old.cells.disk heap.new.cells.disk }
     ensures any_moment { heap.old.cells.failed ≡ false
-        → Rests D.bytes D.moment D.may_leave heap.old.cells
+        → Rests D.bytes D.moment D.may_hold_after heap.old.cells
         → IfTold (D.bytes heap.old.cells.disk)
-        (λ _. AtEach D.moment D.may_leave heap.old.cells.disk heap.new.cells.disk
+        (λ _. AtEach D.moment D.may_hold_after heap.old.cells.disk heap.new.cells.disk
         (GivesEither heap.old.cells.begun heap.old.cells.bytes)) }
 {
     heap.cells().commit()?;
@@ -40,20 +40,20 @@ pub fn commit<D: Disk>(heap: &mut Heap<Image<D>>) -> Result<(), Stop>
 /// Puts the bytes of a heap back, and takes its marks off, at the cost of the lines that were touched
 /// and the words that are marked.
 pub fn cancel<D: Disk>(heap: &mut Heap<Image<D>>) -> Result<(), Stop>
-    ensures ended { OnOk result (heap.new ≡ put_back heap.old heap.new.cells.disk) }
+    ensures ended { OnOk result (heap.new ≡ heap_rolled_back heap.old heap.new.cells.disk) }
     ensures stops { OnErr result (heap.new ≡ record heap.old { cells = heap.new.cells }) }
-    ensures rests { Rests D.bytes D.moment D.may_leave heap.old.cells
-        → Rests D.bytes D.moment D.may_leave heap.new.cells }
+    ensures rests { Rests D.bytes D.moment D.may_hold_after heap.old.cells
+        → Rests D.bytes D.moment D.may_hold_after heap.new.cells }
     ensures answered { IfRefused result (λ _. ⊥) }
     ensures cause { HasReason (transaction_of D.faults heap.old.cells)
         (transaction_of D.faults heap.new.cells) result }
     ensures stays { StaysAt result heap.old.cells heap.new.cells }
     ensures disk { KeepsDisk D.size D.bytes heap.old.cells.disk heap.new.cells.disk }
     ensures any_moment { heap.old.cells.failed ≡ false
-        → Rests D.bytes D.moment D.may_leave heap.old.cells
+        → Rests D.bytes D.moment D.may_hold_after heap.old.cells
         → IfTold (D.bytes heap.old.cells.disk)
-        (λ _. AtEach D.moment D.may_leave heap.old.cells.disk heap.new.cells.disk
-        (Gives heap.old.cells.begun)) }
+        (λ _. AtEach D.moment D.may_hold_after heap.old.cells.disk heap.new.cells.disk
+        (GivesHeap heap.old.cells.begun)) }
 {
     heap.cells().cancel()?;
     heap.unmark();
@@ -76,6 +76,6 @@ pub fn forget_moves<D: Disk>(heap: &mut Heap<Image<D>>, refusal: &Refusal)
     } }
 {
     if let Refusal::LogFull { .. } = refusal {
-        heap.fresh();
+        heap.clear_moves();
     }
 }

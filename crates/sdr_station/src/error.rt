@@ -1,5 +1,5 @@
 // Why a heap isn't opened.
-use sdr_check::Why;
+use sdr_check::Check;
 
 /// Why a heap isn't opened.
 #[derive(Clone, Copy, Debug, PartialEq, Eq)]
@@ -7,7 +7,7 @@ pub enum OpenError {
     /// The disk gives no heap.
     NotFormatted,
     /// No world stands for the heap that the disk gives, by what is wrong first, at a place in it.
-    Damaged { place: u64, why: Why },
+    Damaged { place: u64, why: Check },
     /// The disk failed.
     DiskFault,
     /// There is no memory for the heap, or for the undo of a transaction.

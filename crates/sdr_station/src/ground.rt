@@ -5,15 +5,15 @@ ghost use Rattle.sdr_disk.specs.Moments.{AtEach};
 ghost use Rattle.sdr_disk.specs.Told.{IfTold};
 ghost use Rattle.sdr_image.specs.Opening.{MayBeOpened};
 ghost use Rattle.sdr_lock.specs.Crash.{LeavesBefore, LeavesEither};
-ghost use Rattle.sdr_lock.specs.Gaps.{HasGapCause};
-ghost use Rattle.sdr_lock.specs.Serving.{Brings, Calls, Keeps, KeepsGround, MeetsFault, PutsBack, Shows, StandsStill};
+ghost use Rattle.sdr_lock.specs.Lapses.{HasLapseCause};
+ghost use Rattle.sdr_lock.specs.Serving.{Brings, Calls, Commits, KeepsGround, MeetsFault, RollsBack, Shows, SameStates};
 ghost use Rattle.sdr_image.specs.Opened.{IsQuiet};
-ghost use Rattle.sdr_lock.specs.Standing.{Standing};
+ghost use Rattle.sdr_lock.specs.Standing.{GroundState};
 ghost use Rattle.sdr_log.specs.Calls.{KeepsDisk};
 ghost use Rattle.sdr_log.specs.Logged.{GivesSame};
 ghost use Rattle.sdr_answers.specs.Answering.{dooms};
 ghost use Rattle.sdr_station.specs.Grounded.{IsBefore, StandsForBoth, StandsInMemory};
-ghost use Rattle.sdr_station.specs.Giving.{Gives, reads_by};
+ghost use Rattle.sdr_station.specs.Giving.{GivesReply, reads_by};
 ghost use Rattle.sdr_station.specs.Opening.{ExplainsOpen, IsOfAudit, IsOfImage, IsOpen, LeavesBytes, disk_of};
 ghost use Rattle.sdr_station.specs.Opening.{media_of};
 
@@ -25,7 +25,7 @@ use sdr_check::{AuditError, check};
 use sdr_disk::Disk;
 use sdr_heap::Heap;
 use sdr_image::{Image, ImageError};
-use sdr_lock::{Fault, Halt, HasGround, Serves};
+use sdr_lock::{Fault, Halt, HasGround, Backing};
 use sdr_model::{Answer, Call, Reply};
 use sdr_served::answer;
 use std::alloc::Global;
@@ -85,24 +85,24 @@ impl<D: Disk, M: Media, F: Notify + Drop> HasGround for HeapGround<D, M, F> {
     ghost use Rattle.sdr_station.specs.Grounded as grounded;
     ghost use Rattle.sdr_station.specs.CrashNow as laws;
 
-    ghost stands = { λ g v. grounded.StandsForBoth D.bytes D.moment D.may_leave g v };
+    ghost stands = { λ g v. grounded.StandsForBoth D.bytes D.moment D.may_hold_after g v };
 
     ghost moment = { λ g. g.moment };
 
     ghost faults = { λ g. D.faults g.heap.cells.disk };
 
-    ghost gaps = { λ g. record { faults = M.faults g.media; short = M.short g.media } };
+    ghost lapses = { λ g. record { faults = M.faults g.media; short = M.short g.media } };
 
     ghost told = { λ g. M.told g.media };
 
     ghost lasts = { λ _ _. ⊤ };
 
-    ghost left = { λ g m image. grounded.Leaves D.bytes D.may_leave g.heap.cells.disk m image };
+    ghost left = { λ g m image. grounded.Leaves D.bytes D.may_hold_after g.heap.cells.disk m image };
 
-    ghost opens = { λ image s. grounded.Opens image s };
+    ghost opens = { λ image s. grounded.OpensAs image s };
 
     ghost crash_now = { λ g v image at left.
-        laws.crash_now D.bytes D.moment D.may_leave g v image at left };
+        laws.crash_now D.bytes D.moment D.may_hold_after g v image at left };
 
     ghost lasts_less = { λ g n lasts. lasts };
 }
@@ -141,7 +141,7 @@ impl<D: Disk, M: Media, F: Notify + Drop> HeapGround<D, M, F> {
         media: M,
         notice: Notice<F>,
     ) -> Result<HeapGround<D, M, F>, Shut<D, M>>
-        ensures opened { IfOk result (IsOpen D.bytes D.moment D.may_leave disk) }
+        ensures opened { IfOk result (IsOpen D.bytes D.moment D.may_hold_after disk) }
         ensures why { IfErr result (λ shut.
             ExplainsOpen (D.bytes disk) (D.faults disk) (D.faults shut.disk) shut.why) }
         ensures disk { KeepsDisk D.size D.bytes disk (disk_of result) }
@@ -150,8 +150,8 @@ impl<D: Disk, M: Media, F: Notify + Drop> HeapGround<D, M, F> {
             shut.why) }
         ensures later { D.faults disk ≤ D.faults (disk_of result) }
         ensures any_moment { IfTold (D.bytes disk) (λ x.
-            MayBeOpened x (D.may_leave disk (D.moment disk))
-            → AtEach D.moment D.may_leave disk (disk_of result) (GivesSame x)) }
+            MayBeOpened x (D.may_hold_after disk (D.moment disk))
+            → AtEach D.moment D.may_hold_after disk (disk_of result) (GivesSame x)) }
     {
         let mut image = match Image::open(alloc, disk) {
             Ok(image) => image,
@@ -200,17 +200,17 @@ impl<D: Disk, M: Media, F: Notify + Drop> HeapGround<D, M, F> {
         ensures answered { Brings ⟦<HeapGround<D, M, F> as HasGround>⟧.stands self.old self.new
             (Calls (M.told self.old.media) call.now result) }
         ensures stopped { self.new.stopped ≡ dooms call.now result }
-        ensures gives { Gives result self.new }
+        ensures gives { GivesReply result self.new }
         ensures sound { self.new.heap.cells.failed ≡ false }
         ensures restored { self.new.restored ≡ self.old.restored }
-        ensures gap { HasGapCause (Answer.Reply result)
-            (⟦<HeapGround<D, M, F> as HasGround>⟧.gaps self.old)
-            (⟦<HeapGround<D, M, F> as HasGround>⟧.gaps self.new) }
+        ensures gap { HasLapseCause (Answer.Reply result)
+            (⟦<HeapGround<D, M, F> as HasGround>⟧.lapses self.old)
+            (⟦<HeapGround<D, M, F> as HasGround>⟧.lapses self.new) }
         ensures unread { reads_by call.now result ≡ false → self.new.media ≡ self.old.media }
         ensures keeps { KeepsGround ⟦<HeapGround<D, M, F> as HasGround>⟧ true self.old self.new }
         ensures any_moment { LeavesBefore ⟦<HeapGround<D, M, F> as HasGround>⟧ self.old self.new }
     {
-        self.heap.fresh();
+        self.heap.clear_moves();
         self.idle = false;
         match answer(
             &mut self.heap,
@@ -234,9 +234,9 @@ impl<D: Disk, M: Media, F: Notify + Drop> HeapGround<D, M, F> {
     /// Keeps the open transaction, in which no call was stopped.
     pub fn save(&mut self) -> Result<(), Fault>
         requires going { self.old.stopped ≡ false }
-        ensures memory { OnOk result (Brings StandsInMemory self.old self.new Keeps) }
+        ensures memory { OnOk result (Brings StandsInMemory self.old self.new Commits) }
         ensures kept { OnOk result
-            (Brings ⟦<HeapGround<D, M, F> as HasGround>⟧.stands self.old self.new Keeps) }
+            (Brings ⟦<HeapGround<D, M, F> as HasGround>⟧.stands self.old self.new Commits) }
         ensures going { OnOk result (self.new.stopped ≡ false) }
         ensures idle { OnOk result (self.new.idle ≡ true) }
         ensures sound { OnOk result (self.new.heap.cells.failed ≡ false) }
@@ -266,9 +266,9 @@ impl<D: Disk, M: Media, F: Notify + Drop> HeapGround<D, M, F> {
 
     /// Puts back what was before the open transaction.
     pub fn restore(&mut self) -> Result<(), Fault>
-        ensures memory { OnOk result (Brings StandsInMemory self.old self.new PutsBack) }
+        ensures memory { OnOk result (Brings StandsInMemory self.old self.new RollsBack) }
         ensures put_back { OnOk result
-            (Brings ⟦<HeapGround<D, M, F> as HasGround>⟧.stands self.old self.new PutsBack) }
+            (Brings ⟦<HeapGround<D, M, F> as HasGround>⟧.stands self.old self.new RollsBack) }
         ensures going { OnOk result
             (self.old.heap.cells.failed ≡ false → self.new.stopped ≡ false) }
         ensures idle { OnOk result
@@ -301,12 +301,12 @@ impl<D: Disk, M: Media, F: Notify + Drop> HeapGround<D, M, F> {
         }
     }
 
-    // Puts the lines of the open transaction back, which can only be put back from then on, and answers whether
+    // Rolls the lines of the open transaction back, which can only be rolled back from then on, and answers whether
     // the disk hadn't failed.
-    fn drop_changes(&mut self) -> Result<bool, Fault>
-        ensures memory { OnOk result (Brings StandsInMemory self.old self.new StandsStill) }
+    fn roll_back_for_look(&mut self) -> Result<bool, Fault>
+        ensures memory { OnOk result (Brings StandsInMemory self.old self.new SameStates) }
         ensures dropped { OnOk result
-            (Brings ⟦<HeapGround<D, M, F> as HasGround>⟧.stands self.old self.new StandsStill) }
+            (Brings ⟦<HeapGround<D, M, F> as HasGround>⟧.stands self.old self.new SameStates) }
         ensures back { IfOk result (λ sound. sound ≡ true
             → (self.new.heap.cells.failed ≡ false) × IsBefore self.new) }
         ensures failed { IfOk result (λ sound. sound ≡ false → self.old.heap.cells.failed ≡ true) }
@@ -370,7 +370,7 @@ impl<D: Disk, M: Media, F: Notify + Drop> HeapGround<D, M, F> {
         if self.idle {
             return Ok(self.see(ticket));
         }
-        if self.drop_changes()? {
+        if self.roll_back_for_look()? {
             return Ok(self.see(ticket));
         }
         Ok(None)
@@ -398,7 +398,7 @@ impl<D: Disk, M: Media, F: Notify + Drop> HeapGround<D, M, F> {
     /// The moves of the last call.
     pub fn moves(&self) -> &[Move]
         ensures moves { result.now ≡ self.now.heap.moves }
-        ensures told { (v : Standing) → StandsInMemory self.now v → result.now ≡ v.moves }
+        ensures told { (v : GroundState) → StandsInMemory self.now v → result.now ≡ v.moves }
     {
         self.heap.moves()
     }
@@ -407,7 +407,7 @@ impl<D: Disk, M: Media, F: Notify + Drop> HeapGround<D, M, F> {
     pub fn shown(&self) -> &[u8]
         ensures shown { result.now ≡ self.now.shown }
         ensures few { length result.now ≤ 4096 }
-        ensures told { (v : Standing) → StandsInMemory self.now v → result.now ≡ v.now.world.shown }
+        ensures told { (v : GroundState) → StandsInMemory self.now v → result.now ≡ v.now.world.shown }
     {
         self.shown.as_slice()
     }
@@ -427,7 +427,7 @@ impl<D: Disk, M: Media, F: Notify + Drop> HeapGround<D, M, F> {
     }
 }
 
-impl<D: Disk, M: Media, F: Notify + Drop> Serves for HeapGround<D, M, F> {
+impl<D: Disk, M: Media, F: Notify + Drop> Backing for HeapGround<D, M, F> {
     fn moment(&self) -> u64 {
         self.moment
     }
@@ -437,9 +437,9 @@ impl<D: Disk, M: Media, F: Notify + Drop> Serves for HeapGround<D, M, F> {
         ensures answered { IfOk result (λ reply.
             Brings ⟦<HeapGround<D, M, F> as HasGround>⟧.stands self.old self.new
             (Calls (M.told self.old.media) call.now reply)) }
-        ensures gap { IfOk result (λ reply. HasGapCause (Answer.Reply reply)
-            (⟦<HeapGround<D, M, F> as HasGround>⟧.gaps self.old)
-            (⟦<HeapGround<D, M, F> as HasGround>⟧.gaps self.new)) }
+        ensures gap { IfOk result (λ reply. HasLapseCause (Answer.Reply reply)
+            (⟦<HeapGround<D, M, F> as HasGround>⟧.lapses self.old)
+            (⟦<HeapGround<D, M, F> as HasGround>⟧.lapses self.new)) }
         ensures dooms { IfOk result (λ reply. self.new.stopped ≡ dooms call.now reply) }
         ensures unread { IfOk result (λ reply.
             reads_by call.now reply ≡ false → self.new.media ≡ self.old.media) }
@@ -459,7 +459,7 @@ impl<D: Disk, M: Media, F: Notify + Drop> Serves for HeapGround<D, M, F> {
     // Want of memory comes just where a call was stopped.
     fn keep(&mut self) -> Result<(), Halt>
         ensures kept { OnOk result
-            (Brings ⟦<HeapGround<D, M, F> as HasGround>⟧.stands self.old self.new Keeps) }
+            (Brings ⟦<HeapGround<D, M, F> as HasGround>⟧.stands self.old self.new Commits) }
         ensures memory { IsErrOf result Halt.Memory → self.new ≡ self.old }
         ensures stopped { IsErrOf result Halt.Memory ↔ (self.old.stopped ≡ true) }
         ensures fault { IsErrOf result Halt.Fault
@@ -476,7 +476,7 @@ impl<D: Disk, M: Media, F: Notify + Drop> Serves for HeapGround<D, M, F> {
         }
     }
 
-    fn put_back(&mut self) -> Result<(), Fault> {
+    fn roll_back(&mut self) -> Result<(), Fault> {
         self.restore()
     }
 

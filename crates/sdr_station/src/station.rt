@@ -3,11 +3,11 @@ ghost use Rattle.std.specs.Prelude.{◌≡◌, ◌≤◌, ◌<◌, ◌+◌, ◌/
 ghost use Rattle.sdr_disk.specs.Moments.{AtEach};
 ghost use Rattle.sdr_disk.specs.Told.{IfTold};
 ghost use Rattle.sdr_image.specs.Opening.{MayBeOpened};
-ghost use Rattle.sdr_lock.specs.Crash.{LeavesBefore, LeavesOr, is_kept, keeps_in};
+ghost use Rattle.sdr_lock.specs.Crash.{LeavesBefore, LeavesOr, is_kept, commits_in};
 ghost use Rattle.sdr_lock.specs.Nesting.{cancelled, closing, ended, unbegun};
 ghost use Rattle.sdr_log.specs.Calls.{KeepsDisk};
 ghost use Rattle.sdr_log.specs.Logged.{GivesSame};
-ghost use Rattle.sdr_station.specs.Giving.{Fills, Gives};
+ghost use Rattle.sdr_station.specs.Giving.{Fills, GivesReply};
 ghost use Rattle.sdr_station.specs.Opening.{ExplainsOpen, IsOpen, LeavesBytes};
 ghost use Rattle.sdr_station.specs.Rooming.{MovesAtMost, TellsRoom};
 ghost use Rattle.sdr_station.specs.Stationed.{Begins, Closes, ClosesBy, HasRisen, IsTicketTold, LooksAt, SaysOr, StaysLooked};
@@ -18,7 +18,7 @@ use crate::error::Shut;
 use sdr_answers::PAGE;
 use sdr_base::{Media, Move, Reason, Refusal, Stop};
 use sdr_disk::Disk;
-use sdr_lock::{Fault, HasGround, Nesting, Serves};
+use sdr_lock::{Fault, HasGround, Nesting, Backing};
 use sdr_model::{Answer, Call, Close, Event, Reply};
 use std::alloc::Global;
 use std::marker::Model;
@@ -84,7 +84,7 @@ impl<D: Disk, M: Media, F: Notify + Drop> Station<D, M, F> {
         media: M,
         notice: Notice<F>,
     ) -> Result<Station<D, M, F>, Shut<D, M>>
-        ensures opened { IfOk result (λ s. IsOpen D.bytes D.moment D.may_leave disk s.ground) }
+        ensures opened { IfOk result (λ s. IsOpen D.bytes D.moment D.may_hold_after disk s.ground) }
         ensures idle { IfOk result (λ s. (s.nesting ≡ unbegun) × (s.failed ≡ None)) }
         ensures why { IfErr result (λ shut.
             ExplainsOpen (D.bytes disk) (D.faults disk) (D.faults shut.disk) shut.why) }
@@ -94,8 +94,8 @@ impl<D: Disk, M: Media, F: Notify + Drop> Station<D, M, F> {
             LeavesBytes (D.bytes disk) (D.bytes shut.disk) shut.why) }
         ensures later { D.faults disk ≤ D.faults (disk_under result) }
         ensures any_moment { IfTold (D.bytes disk) (λ x.
-            MayBeOpened x (D.may_leave disk (D.moment disk))
-            → AtEach D.moment D.may_leave disk (disk_under result) (GivesSame x)) }
+            MayBeOpened x (D.may_hold_after disk (D.moment disk))
+            → AtEach D.moment D.may_hold_after disk (disk_under result) (GivesSame x)) }
     {
         match HeapGround::open(alloc, disk, media, notice) {
             Ok(ground) => Ok(Station {
@@ -202,7 +202,7 @@ impl<D: Disk, M: Media, F: Notify + Drop> Station<D, M, F> {
 
     // Puts the bytes of which the reply tells into the buffer.
     fn fill(&self, reply: &Reply, into: &mut [u8; PAGE])
-        requires { Gives reply.now self.now.ground }
+        requires { GivesReply reply.now self.now.ground }
         ensures { Fills self.now.ground reply.now into.old into.new }
     {
         if let Reply::Bytes { .. } | Reply::Named { .. } = reply {
@@ -217,7 +217,7 @@ impl<D: Disk, M: Media, F: Notify + Drop> Station<D, M, F> {
         ensures says { SaysOr ⟦<HeapGround<D, M, F> as HasGround>⟧ call.now result
             self.old self.new }
         ensures depth { self.new.nesting.depth ≡ self.old.nesting.depth }
-        ensures gives { Gives result self.new.ground }
+        ensures gives { GivesReply result self.new.ground }
         ensures any_moment { LeavesBefore ⟦<HeapGround<D, M, F> as HasGround>⟧
             self.old.ground self.new.ground }
     {
@@ -272,8 +272,8 @@ impl<D: Disk, M: Media, F: Notify + Drop> Station<D, M, F> {
         }
     }
 
-    // Puts the transaction back, which closes so.
-    fn put_back(&mut self, told: Closed, close: Close) -> Result<Closed, Stop>
+    // Rolls the transaction back, which closes so.
+    fn roll_back(&mut self, told: Closed, close: Close) -> Result<Closed, Stop>
         requires sound { self.old.failed ≡ None }
         requires told { told ≡ closed_as close }
         requires unkept { is_kept close ≡ false }
@@ -300,11 +300,11 @@ impl<D: Disk, M: Media, F: Notify + Drop> Station<D, M, F> {
     {
         match self.nesting.closing(event) {
             Close::Ended => self.keep(),
-            Close::Exited => self.put_back(Closed::Exited, Close::Exited),
+            Close::Exited => self.roll_back(Closed::Exited, Close::Exited),
             Close::Cancelled(reason) => {
-                self.put_back(Closed::Cancelled(reason), Close::Cancelled(reason))
+                self.roll_back(Closed::Cancelled(reason), Close::Cancelled(reason))
             }
-            Close::Faulted => self.put_back(Closed::Exited, Close::Faulted),
+            Close::Faulted => self.roll_back(Closed::Exited, Close::Faulted),
         }
     }
 
@@ -324,7 +324,7 @@ impl<D: Disk, M: Media, F: Notify + Drop> Station<D, M, F> {
         requires begun { 0 < self.old.nesting.depth }
         ensures closes { ClosesBy ⟦<HeapGround<D, M, F> as HasGround>⟧ Event.End ended
             self.old self.new result }
-        ensures any_moment { LeavesOr (keeps_in self.old.nesting Event.End)
+        ensures any_moment { LeavesOr (commits_in self.old.nesting Event.End)
             ⟦<HeapGround<D, M, F> as HasGround>⟧ self.old.ground self.new.ground }
     {
         if self.failed.is_some() {

@@ -1,7 +1,7 @@
 // What a heap on an image tells of its calls.
 ghost use Rattle.std.specs.Prelude.{◌≤◌, ◌+◌, ◌/◌, IfOk, IsOk};
 ghost use Rattle.sdr_lock.specs.Room.{HoldsAny};
-ghost use Rattle.sdr_lock.specs.Standing.{Standing};
+ghost use Rattle.sdr_lock.specs.Standing.{GroundState};
 ghost use Rattle.sdr_station.specs.Telling.{BytesAtMost};
 
 use crate::HeapGround;
@@ -44,7 +44,7 @@ impl<D: Disk, M: Media, F: Notify + Drop> Tells for HeapGround<D, M, F> {
 
     // A room is told for each call, and it is no more than a heap of this size and a page need.
     fn room_for(&self, call: &Call) -> Result<Room, NoMemory>
-        ensures holds { IfOk result (λ room. (v : Standing) →
+        ensures holds { IfOk result (λ room. (v : GroundState) →
             ⟦<HeapGround<D, M, F> as HasGround>⟧.stands self.now v → HoldsAny room v.now call.now) }
         ensures served { IsOk result }
         ensures few { IfOk result (λ room.

@@ -4,7 +4,7 @@ use Rattle.byteorder.specs.Endian.{big_bytes}
 use Rattle.std.specs.Prelude.{None, Option, replicate, true}
 use Rattle.std.proofs.lemmas.List.{length-replicate, drop-replicate}
 use Rattle.sdr_base.specs.Blocks.{Block, Blocks, IsKind, overwritten, with_at, with_block}
-use Rattle.sdr_base.specs.Entries.{Stands}
+use Rattle.sdr_base.specs.Entries.{BlocksAre}
 use Rattle.sdr_base.specs.Making.{MakesThing, besides}
 use Rattle.sdr_base.specs.Objects.{Heap, TakesZeros, with_bytes, with_given, with_move}
 use Rattle.sdr_base.specs.Parts.{overwrite}
@@ -49,7 +49,7 @@ destroyed {addr} {old} {new} kind is = record {
   kind = kind;
   changes = λ table k. record {
     kept = λ rest s.
-        subst (λ (b : Blocks). Stands b rest) (sym (given_blocks addr old new is))
+        subst (λ (b : Blocks). BlocksAre b rest) (sym (given_blocks addr old new is))
         (went old.blocks addr (table_block table) [] rest s);
   };
   made = record { all = ap besides is };

@@ -4,7 +4,7 @@ use Rattle.std.specs.Prelude.{Option}
 use Rattle.std.proofs.lemmas.Nat.{mul-le}
 use Rattle.std.proofs.lemmas.List.{take-append-le, take_all}
 use Rattle.sdr_base.specs.Blocks.{Block, Blocks, HasBytes, IsKind, Reaches, overwritten, with_block}
-use Rattle.sdr_base.specs.Entries.{Stands}
+use Rattle.sdr_base.specs.Entries.{BlocksAre}
 use Rattle.sdr_base.specs.Making.{besides}
 use Rattle.sdr_base.specs.Objects.{Heap, with_bytes}
 use Rattle.sdr_base.specs.Parts.{overwrite, part}
@@ -118,7 +118,7 @@ row_set {addr} {row} {size} {old} {new} from h e w = record {
         ap (λ o. overwritten o (24 + size * row) from) k.block
         ∙ ap (λ n. overwritten (Some (table_block table)) (24 + n * row) from) is.bytes
         ∙ ap (λ (l : List ℕ). Some (record { kind = kinds.Table; bytes = l })) (overwrite_front table (table.size * row) from) in
-        subst (λ (b : Blocks). Stands b ((addr, table_block (with_row table row from)) ∷ rest))
+        subst (λ (b : Blocks). BlocksAre b ((addr, table_block (with_row table row from)) ∷ rest))
         (ap (with_block old.blocks addr) (sym there) ∙ sym (heap_blocks w))
         (written_at old.blocks addr (table_block table) (table_block (with_row table row from)) [] rest s);
   };

@@ -2,7 +2,7 @@
 ghost use Rattle.std.specs.Prelude.{◌≡◌, ◌+◌, ◌*◌, ◌/◌, ◌≤◌, ◌<◌, Some, None, IfOk, IfErr, OnOk};
 ghost use Rattle.sdr_base.specs.Moves.{KeepsSome};
 ghost use Rattle.sdr_base.specs.Objects.{Misses};
-ghost use Rattle.sdr_base.specs.Works.{Looks, Works};
+ghost use Rattle.sdr_base.specs.Works.{Looks, Spends};
 ghost use Rattle.sdr_base.specs.declared.kind.Kind.TheVariants as kinds;
 ghost use Rattle.sdr_base.specs.declared.refusal.Refusal.TheVariants as Refusal;
 ghost use Rattle.sdr_base.specs.declared.stop.Stop.TheVariants as Stop;
@@ -26,7 +26,7 @@ pub fn create<O: Objects>(o: &mut O, rows: u64, size: u64, user: u64) -> Result<
     ensures made { IfOk result (λ table.
         MakesTable rows size user table (O.heap o.old) (O.heap o.new)) }
     ensures refused { IfErr result (CreateStops rows size (O.heap o.old) (O.heap o.new)) }
-    ensures works { Works O.HasHeap (26 + (ROWS_FROM + rows * size) / 64) o.old o.new result }
+    ensures works { Spends O.HasHeap (26 + (ROWS_FROM + rows * size) / 64) o.old o.new result }
 {
     check_failed(o)?;
     let bytes = bytes_of(rows, size)?;
@@ -98,7 +98,7 @@ pub fn destroy<O: Objects>(o: &mut O, table: Addr) -> Result<(), Stop>
     requires table { IsTable ((O.heap o.old).blocks table) }
     ensures destroyed { OnOk result (DestroysTable table (O.heap o.old) (O.heap o.new)) }
     ensures refused { IfErr result (DestroyStops table (O.heap o.old) (O.heap o.new)) }
-    ensures works { Works O.HasHeap 24 o.old o.new result }
+    ensures works { Spends O.HasHeap 24 o.old o.new result }
 {
     expect_kind(o, table, Kind::Table)?;
     o.give(table)

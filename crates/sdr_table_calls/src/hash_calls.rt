@@ -2,7 +2,7 @@
 ghost use Rattle.std.specs.FinMap as map;
 ghost use Rattle.std.specs.Option.{option_copied};
 ghost use Rattle.std.specs.Prelude.{◌≡◌, ◌<◌, ◌^◌, IfOk, OnErr, OnOk, Some, length, nat_lt, remove, set, ◌||◌};
-ghost use Rattle.sdr_calls.specs.Answers.{Answers};
+ghost use Rattle.sdr_calls.specs.Answers.{CallsMemory};
 ghost use Rattle.sdr_model.specs.Dry.{next_addr};
 ghost use Rattle.sdr_model.specs.HashChanges.{HasEntry, HasKey, InsertsEntry, IsThere, PutsEntry, SetsHash, place_in};
 ghost use Rattle.sdr_model.specs.HashSteps.{as_hash, entry_addr, value_at};
@@ -64,7 +64,7 @@ pub fn make_hash(
     buckets: u64,
 ) -> Result<Reply, NoMemory>
     requires taken { world.old.now.taken < 2 ^ 60 }
-    ensures { Answers (Call.Hash key_length buckets) world.old world.new result }
+    ensures { CallsMemory (Call.Hash key_length buckets) world.old world.new result }
 {
     if key_length < 1 || key_length > LONGEST_KEY {
         let (length, want) = (key_length, LONGEST_KEY);
@@ -134,7 +134,7 @@ pub fn hash_insert(
     value: u64,
 ) -> Result<Reply, NoMemory>
     requires taken { world.old.now.taken < 2 ^ 60 }
-    ensures { Answers (Call.HashInsert addr key.now value) world.old world.new result }
+    ensures { CallsMemory (Call.HashInsert addr key.now value) world.old world.new result }
 {
     let Some(hash) = hash(world, addr) else {
         return Ok(misnamed(world, addr));
@@ -154,7 +154,7 @@ pub fn hash_insert(
 }
 
 pub fn hash_retrieve(world: &mut Undoable, addr: Addr, key: &Bytes) -> Result<Reply, NoMemory>
-    ensures { Answers (Call.HashRetrieve addr key.now) world.old world.new result }
+    ensures { CallsMemory (Call.HashRetrieve addr key.now) world.old world.new result }
 {
     let Some(hash) = hash(world, addr) else {
         return Ok(misnamed(world, addr));
@@ -205,7 +205,7 @@ pub fn hash_revise(
     key: &Bytes,
     value: u64,
 ) -> Result<Reply, NoMemory>
-    ensures { Answers (Call.HashRevise addr key.now value) world.old world.new result }
+    ensures { CallsMemory (Call.HashRevise addr key.now value) world.old world.new result }
 {
     let Some(hash) = hash(world, addr) else {
         return Ok(misnamed(world, addr));
@@ -239,7 +239,7 @@ fn remove_entry(world: &mut Undoable, addr: Addr, place: usize) -> Result<(), No
 }
 
 pub fn hash_remove(world: &mut Undoable, addr: Addr, key: &Bytes) -> Result<Reply, NoMemory>
-    ensures { Answers (Call.HashRemove addr key.now) world.old world.new result }
+    ensures { CallsMemory (Call.HashRemove addr key.now) world.old world.new result }
 {
     let Some(hash) = hash(world, addr) else {
         return Ok(misnamed(world, addr));
@@ -253,7 +253,7 @@ pub fn hash_remove(world: &mut Undoable, addr: Addr, key: &Bytes) -> Result<Repl
 }
 
 pub fn hash_count(world: &mut Undoable, addr: Addr) -> Result<Reply, NoMemory>
-    ensures { Answers (Call.HashCount addr) world.old world.new result }
+    ensures { CallsMemory (Call.HashCount addr) world.old world.new result }
 {
     let Some(hash) = hash(world, addr) else {
         return Ok(misnamed(world, addr));
@@ -265,7 +265,7 @@ pub fn hash_count(world: &mut Undoable, addr: Addr) -> Result<Reply, NoMemory>
 
 #[tactic(auto, using(sdr_model::proofs::DryLemmas::gives))]
 pub fn hash_destroy(world: &mut Undoable, addr: Addr) -> Result<Reply, NoMemory>
-    ensures { Answers (Call.HashDestroy addr) world.old world.new result }
+    ensures { CallsMemory (Call.HashDestroy addr) world.old world.new result }
 {
     if hash(world, addr).is_none() {
         return Ok(misnamed(world, addr));

@@ -1,7 +1,7 @@
 // What calls on tables do to a world.
 ghost use Rattle.std.specs.Option.{option_copied};
 ghost use Rattle.std.specs.Prelude.{◌≡◌, ◌<◌, ◌^◌, OnErr, OnOk, length};
-ghost use Rattle.sdr_calls.specs.Answers.{Answers, HasRow, SetsRow};
+ghost use Rattle.sdr_calls.specs.Answers.{CallsMemory, HasRow, SetsRow};
 ghost use Rattle.sdr_model.specs.TableSteps.{as_table};
 ghost use Rattle.sdr_model.specs.World.{thing_at};
 
@@ -30,7 +30,7 @@ pub fn make_table(
     user: u64,
 ) -> Result<Reply, NoMemory>
     requires taken { world.old.now.taken < 2 ^ 60 }
-    ensures { Answers (Call.Table rows size user) world.old world.new result }
+    ensures { CallsMemory (Call.Table rows size user) world.old world.new result }
 {
     if rows > LONGEST_RAW {
         return Ok(bad_length(rows, LONGEST_RAW));
@@ -47,7 +47,7 @@ pub fn make_table(
 }
 
 pub fn row(alloc: Global, world: &mut Undoable, addr: Addr, row: u64) -> Result<Reply, NoMemory>
-    ensures { Answers (Call.Row addr row) world.old world.new result }
+    ensures { CallsMemory (Call.Row addr row) world.old world.new result }
 {
     let Some(table) = table(world, addr) else {
         return Ok(misnamed(world, addr));
@@ -85,7 +85,7 @@ fn put_row(world: &mut Undoable, addr: Addr, row: u64, from: &[u8]) -> Result<()
 }
 
 pub fn set_row(world: &mut Undoable, addr: Addr, row: u64, from: &Bytes) -> Result<Reply, NoMemory>
-    ensures { Answers (Call.SetRow addr row from.now) world.old world.new result }
+    ensures { CallsMemory (Call.SetRow addr row from.now) world.old world.new result }
 {
     let Some(table) = table(world, addr) else {
         return Ok(misnamed(world, addr));
@@ -103,7 +103,7 @@ pub fn set_row(world: &mut Undoable, addr: Addr, row: u64, from: &Bytes) -> Resu
 }
 
 pub fn dimensions(world: &mut Undoable, addr: Addr) -> Result<Reply, NoMemory>
-    ensures { Answers (Call.Dimensions addr) world.old world.new result }
+    ensures { CallsMemory (Call.Dimensions addr) world.old world.new result }
 {
     let Some(table) = table(world, addr) else {
         return Ok(misnamed(world, addr));
@@ -114,7 +114,7 @@ pub fn dimensions(world: &mut Undoable, addr: Addr) -> Result<Reply, NoMemory>
 }
 
 pub fn table_user(world: &mut Undoable, addr: Addr) -> Result<Reply, NoMemory>
-    ensures { Answers (Call.TableUser addr) world.old world.new result }
+    ensures { CallsMemory (Call.TableUser addr) world.old world.new result }
 {
     let Some(table) = table(world, addr) else {
         return Ok(misnamed(world, addr));
@@ -125,7 +125,7 @@ pub fn table_user(world: &mut Undoable, addr: Addr) -> Result<Reply, NoMemory>
 }
 
 pub fn table_destroy(world: &mut Undoable, addr: Addr) -> Result<Reply, NoMemory>
-    ensures { Answers (Call.TableDestroy addr) world.old world.new result }
+    ensures { CallsMemory (Call.TableDestroy addr) world.old world.new result }
 {
     if table(world, addr).is_none() {
         return Ok(misnamed(world, addr));

@@ -1,7 +1,7 @@
 // Inputs that are read, and lines that are refused; the grammar, by examples from outside.
 use crate::scripts::script_of;
 use sdr_base::{Bytes, MemorySource};
-use sdr_model::{Arg, Step};
+use sdr_model::{Arg, ScriptStep};
 use sdr_words::{ScriptError, read_script};
 use std::alloc::{AllocError, Global};
 
@@ -259,7 +259,7 @@ fn are_given(args: &[Arg], wanted: &[Given<'_>]) -> bool {
 // A line, daemon, name, place of a verb, and arguments.
 type Row<'a> = (u64, u8, &'a [u8], u64, &'a [Given<'a>]);
 
-fn is_row(step: &Step, row: &Row<'_>) -> bool {
+fn is_row(step: &ScriptStep, row: &Row<'_>) -> bool {
     let (line, daemon, name, verb, args) = *row;
     step.line == line
         && step.daemon == daemon
@@ -306,7 +306,7 @@ const SPELLED: [(&[u8], &[Row<'static>]); 7] = [
     (b"1: string f61*0", &[(1, 1, b"", 11, &[Given::Text(b"")])]),
 ];
 
-fn are_rows(steps: &[Step], rows: &[Row<'_>]) -> bool {
+fn are_rows(steps: &[ScriptStep], rows: &[Row<'_>]) -> bool {
     for (step, row) in steps.iter().zip(rows.iter()) {
         if !is_row(step, row) {
             return false;

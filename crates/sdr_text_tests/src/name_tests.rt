@@ -1,7 +1,7 @@
 // What a name holds, by the last answer to a statement that binds it.
 use crate::scripts::script_of;
 use sdr_base::NoMemory;
-use sdr_model::{Answer, Call, Event, Reply, Step};
+use sdr_model::{Answer, Call, Event, Reply, ScriptStep};
 use sdr_words::{Bindings, ScriptError};
 use std::alloc::Global;
 
@@ -37,7 +37,7 @@ const ROWS: [(Answer, u64); 8] = [
 ];
 
 // The address that a step reads.
-fn address_read(alloc: Global, names: &Bindings, step: &Step) -> Result<Option<u64>, NoMemory> {
+fn address_read(alloc: Global, names: &Bindings, step: &ScriptStep) -> Result<Option<u64>, NoMemory> {
     match names.event(alloc, step)? {
         Event::Say(Call::StringRead(addr)) => Ok(Some(addr)),
         _ => Ok(None),
@@ -46,7 +46,7 @@ fn address_read(alloc: Global, names: &Bindings, step: &Step) -> Result<Option<u
 
 // The first row behind which the name that one step binds and the other one reads holds something else.
 // Before all, it holds 0.
-fn wrong_row(alloc: Global, binds: &Step, reads: &Step) -> Result<Option<usize>, NoMemory> {
+fn wrong_row(alloc: Global, binds: &ScriptStep, reads: &ScriptStep) -> Result<Option<usize>, NoMemory> {
     let mut names = Bindings::new(alloc);
     if address_read(alloc, &names, reads)? != Some(0) {
         return Ok(Some(ROWS.len()));

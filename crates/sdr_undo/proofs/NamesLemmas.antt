@@ -12,7 +12,7 @@ use Rattle.std.specs.declared.alloc.Global.{Global}
 use Rattle.sdr_model.specs.Names.{name_of, without_name}
 use Rattle.sdr_undo.specs.Entries.{named_of, names_in}
 use Rattle.sdr_base.specs.declared.kind.Kind.TheVariants as kinds
-use Rattle.sdr_model.specs.Things.{block_among, name_block, name_need}
+use Rattle.sdr_model.specs.Things.{block_among, block_for_name, name_need}
 use Rattle.sdr_model.specs.declared.name.Name.{Name}
 use Rattle.sdr_undo.specs.declared.names.Named.{Named}
 
@@ -59,7 +59,7 @@ names_in-clone C D key entry (e ∷ es) (f ∷ fs) z = grind (arith, key e.0 f.0
 
 -- the block of the catalogue at an address is an entry's, where one has it
 pub block_among-names : (addr : ℕ) (names : List Name)
-    → block_among addr (map name_block names)
+    → block_among addr (map block_for_name names)
     ≡ cond (list_any (λ n. n.block == addr) names) (Some (record { addr = addr; kind = kinds.Name; bytes = name_need })) None
 block_among-names addr [] = refl
 block_among-names addr (n ∷ names) = grind (arith, eqb-true n.block addr, block_among-names addr names)
@@ -67,5 +67,5 @@ block_among-names addr (n ∷ names) = grind (arith, eqb-true n.block addr, bloc
 -- the block of the map's catalogue at an address, where the test for it says so
 pub block_tested : (addr : ℕ) (es : List (Vec ℕ Global × Named)) (names : List Name) (b : Bool) → names_in es ≡ names
     → b ≡ list_any (λ e. e.block == addr) (map (λ e. e.1) es)
-    → block_among addr (map name_block names) ≡ cond b (Some (record { addr = addr; kind = kinds.Name; bytes = name_need })) None
+    → block_among addr (map block_for_name names) ≡ cond b (Some (record { addr = addr; kind = kinds.Name; bytes = name_need })) None
 block_tested addr es names b is tests = grind (arith, is, tests, block_among-names addr (names_in es), any_block addr es)

@@ -12,7 +12,7 @@ use Rattle.sdr_model.specs.Dry.{next_addr}
 use Rattle.sdr_model.specs.HashSteps.{entry_addr}
 use Rattle.sdr_undo.specs.Owners.{AllOwnInside, IsOwned, MayPut, Owns, OwnInside, OwnsInside}
 use Rattle.sdr_model.specs.Things.{Owners, Things, entry_block, inner_blocks}
-use Rattle.sdr_model.specs.declared.things.Block.{Block}
+use Rattle.sdr_model.specs.declared.things.UsedBlock.{UsedBlock}
 use Rattle.sdr_model.specs.declared.things.HashEntry.{HashEntry}
 use Rattle.sdr_model.specs.declared.things.Thing.{Thing}
 use Rattle.sdr_model.proofs.ThingsLemmas.{same_address}
@@ -58,12 +58,12 @@ module _ (owners : Owners) (next owner : ℕ) where
   }
 
   -- a thing still owns what is inside it where an item is taken out, put in or put in another's place
-  module _ {X : Type 0} (f : X → Block) (xs : List X) (place : ℕ) (old new : Thing)
+  module _ {X : Type 0} (f : X → UsedBlock) (xs : List X) (place : ℕ) (old new : Thing)
       (was : inner_blocks old ≡ map f xs) (owns : OwnsInside owners next owner old) where
     all_owned : All (Owns owners next owner) (map f xs)
     all_owned = subst (All (Owns owners next owner)) was owns.inside
 
-    owned_by : (blocks : List Block) → inner_blocks new ≡ blocks → All (Owns owners next owner) blocks
+    owned_by : (blocks : List UsedBlock) → inner_blocks new ≡ blocks → All (Owns owners next owner) blocks
         → OwnsInside owners next owner new
     owned_by blocks is all = record { below = owns.below; inside = subst (All (Owns owners next owner)) (sym is) all }
 
@@ -160,7 +160,7 @@ AllOwnInside-taken owners next k old new old' new' (Err e) stays without same ow
     subst₂ (AllOwnInside owners next) (sym stays) (sym same) own
 
 -- a thing may be put again with a new item, whose block was the next, was noted as the thing's, and is counted
-module _ {X : Type 0} (f : X → Block) (xs : List X) (place : ℕ) (x : X) (before counted : Draft) (owner : ℕ) where
+module _ {X : Type 0} (f : X → UsedBlock) (xs : List X) (place : ℕ) (x : X) (before counted : Draft) (owner : ℕ) where
   pub MayPut-inserted : (old new : Thing) → inner_blocks old ≡ map f xs → MayPut before owner old
       → counted.now.taken ≡ before.now.taken + 1 → counted.owners ≡ before.owners
       → (f x).addr ≡ next_addr before.now.taken → get before.owners (f x).addr ≡ Some owner

@@ -10,8 +10,8 @@ use Rattle.std.specs.Option.{option_and_then, option_map, option_or}
 use Rattle.std.specs.Ordering.{nat_cmp}
 use Rattle.std.specs.Prelude.{IfSome}
 use Rattle.sdr_undo.specs.Owners.{IsOwned, Owns, OwnInside, OwnsInside}
-use Rattle.sdr_model.specs.Things.{Owners, Spot, SpotIs, Things, block_among, element_block, inner_among, inner_blocks, spot_among, spot_in_thing}
-use Rattle.sdr_model.specs.declared.things.Block.{Block}
+use Rattle.sdr_model.specs.Things.{Owners, Spot, SpotIs, Things, block_among, block_for_element, inner_among, inner_blocks, spot_among, spot_in_thing}
+use Rattle.sdr_model.specs.declared.things.UsedBlock.{UsedBlock}
 use Rattle.sdr_model.specs.declared.things.Element.{Element}
 use Rattle.sdr_model.specs.declared.things.SdrList.{SdrList}
 use Rattle.sdr_model.specs.declared.things.Spot.{Spot as Found}
@@ -94,12 +94,12 @@ module _ {X : Type 0} (at : ℕ → Thing → Option X) where
 -- the blocks inside the thing at an address, and a block at another
 module _ (owners : Owners) (next owner addr : ℕ) where
   -- an element that is found is owned
-  place_owned : (elements : List Element) (place : ℕ) → All (Owns owners next owner) (map element_block elements)
+  place_owned : (elements : List Element) (place : ℕ) → All (Owns owners next owner) (map block_for_element elements)
       → position (λ e. e.block == addr) elements ≡ Some place → IsOwned owners next owner addr
   place_owned elements place all is =
       let none : Element = record { block = 0; datum = 0 } in
       let there = position-Some (λ e. e.block == addr) elements place none is in
-      let each = All-from_map (Owns owners next owner) element_block elements all in
+      let each = All-from_map (Owns owners next owner) block_for_element elements all in
       subst (IsOwned owners next owner) (eqb-true (get_or elements place none).block addr there.1)
       (All-get_or (λ e. IsOwned owners next owner e.block) elements place none there.0 each)
 
@@ -122,14 +122,15 @@ module _ (owners : Owners) (next owner addr : ℕ) where
 
   -- a block that isn't noted as the thing's isn't among its blocks
   module _ (not_noted : get owners addr ≡ Some owner → ⊥) where
-    block_among-not_noted : (blocks : List Block) → All (Owns owners next owner) blocks → block_among addr blocks ≡ None
+    block_among-not_noted : (blocks : List UsedBlock) → All (Owns owners next owner) blocks → block_among addr blocks
+        ≡ None
     block_among-not_noted [] all = refl
     block_among-not_noted (b ∷ bs) all =
         let here = All-head (Owns owners next owner) b bs all in
         let rest = block_among-not_noted bs (All-tail (Owns owners next owner) b bs all) in
         grind (arith, eqb-true b.addr addr, here.noted)
 
-    place_among-not_noted : (elements : List Element) → All (Owns owners next owner) (map element_block elements)
+    place_among-not_noted : (elements : List Element) → All (Owns owners next owner) (map block_for_element elements)
         → position (λ e. e.block == addr) elements ≡ None
     place_among-not_noted elements all = by (position (λ e. e.block == addr) elements) refl
       where
@@ -143,7 +144,7 @@ module _ (owners : Owners) (next owner addr : ℕ) where
     spot_in_thing-not_noted thing owns = refl
 
 -- the block at an address inside a thing, if there is one
-abbrev pub inner_at : ℕ → Option Thing → Option Block
+abbrev pub inner_at : ℕ → Option Thing → Option UsedBlock
 inner_at addr = option_and_then (λ thing. block_among addr (inner_blocks thing))
 
 inner_among-first_at : (addr : ℕ) (es : List (ℕ × Thing))

@@ -5,7 +5,7 @@ use Rattle.std.specs.List.{All}
 use Rattle.sdr_undo.specs.Draft.{Draft}
 use Rattle.sdr_model.specs.Dry.{next_addr}
 use Rattle.sdr_model.specs.Things.{Owners, Things, inner_blocks}
-use Rattle.sdr_model.specs.declared.things.Block.{Block}
+use Rattle.sdr_model.specs.declared.things.UsedBlock.{UsedBlock}
 use Rattle.sdr_model.specs.declared.things.Thing.{Thing}
 
 -- the block at an address is noted as inside the thing at another, its owner, and lies below the next address
@@ -14,7 +14,7 @@ pub record IsOwned (owners : Owners) (next owner addr : ℕ) : Type 0 where
   pub below : addr < next
 
 -- this block is noted as inside the thing at an address
-abbrev pub Owns : Owners → ℕ → ℕ → Block → Type 0
+abbrev pub Owns : Owners → ℕ → ℕ → UsedBlock → Type 0
 Owns owners next owner block = IsOwned owners next owner block.addr
 
 -- the address of a thing lies below the next, and each block inside the thing is noted as inside it

@@ -11,7 +11,7 @@ use std::mem;
 
 /// What the catalogue was at the begin of the open transaction.
 #[derive(Drop)]
-pub enum Kept {
+pub enum KeptNames {
     /// The first so many entries, where none was taken out since.
     Front(usize),
     /// These entries.
@@ -24,7 +24,7 @@ pub enum Kept {
 pub struct Catalogue {
     alloc: Global,
     names: Names,
-    kept: Kept,
+    kept: KeptNames,
 }
 
 impl Model for Catalogue {
@@ -47,7 +47,7 @@ impl Catalogue {
         Catalogue {
             alloc,
             names: Names::new(alloc),
-            kept: Kept::Front(0),
+            kept: KeptNames::Front(0),
         }
     }
 
@@ -75,10 +75,10 @@ impl Catalogue {
         ensures begun { self.new.begun ≡ self.old.begun }
         ensures same { OnErr result (self.new.now ≡ self.old.now) }
     {
-        if let Kept::Front(len) = self.kept {
+        if let KeptNames::Front(len) = self.kept {
             let mut begun = self.names.copied()?;
             begun.truncate(len);
-            self.kept = Kept::All(begun);
+            self.kept = KeptNames::All(begun);
         }
         self.names.remove(name);
         Ok(())
@@ -88,17 +88,17 @@ impl Catalogue {
     pub fn keep(&mut self)
         ensures { self.new ≡ record { begun = self.old.now; now = self.old.now } }
     {
-        self.kept = Kept::Front(self.names.len());
+        self.kept = KeptNames::Front(self.names.len());
     }
 
-    /// Puts the entries back to what they were at the begin.
-    pub fn put_back(&mut self)
+    /// Rolls the entries back to what they were at the begin.
+    pub fn roll_back(&mut self)
         ensures { self.new ≡ record { begun = self.old.begun; now = self.old.begun } }
     {
-        match mem::replace(&mut self.kept, Kept::Front(0)) {
-            Kept::Front(len) => self.names.truncate(len),
-            Kept::All(names) => self.names = names,
+        match mem::replace(&mut self.kept, KeptNames::Front(0)) {
+            KeptNames::Front(len) => self.names.truncate(len),
+            KeptNames::All(names) => self.names = names,
         }
-        self.kept = Kept::Front(self.names.len());
+        self.kept = KeptNames::Front(self.names.len());
     }
 }

@@ -144,8 +144,8 @@ impl Ledger {
         self.before = None;
     }
 
-    /// Puts the accounts back to what they were at the begin.
-    pub fn put_back(&mut self)
+    /// Rolls the accounts back to what they were at the begin.
+    pub fn roll_back(&mut self)
         ensures { self.new ≡ record { begun = self.old.begun; now = self.old.begun; saved = false } }
     {
         if let Some(accounts) = self.before.take() {

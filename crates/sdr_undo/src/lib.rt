@@ -5,7 +5,7 @@
 //! 2. Each block inside a thing has an owner, by which it is found.
 //!
 //! Proved: what was touched of things, catalogue and accounts is put back as it was at begin, or kept as the next
-//! begin (`put_back`, `keep`).
+//! begin (`roll_back`, `keep`).
 #![tactic(auto)]
 
 mod catalogue;

@@ -5,11 +5,11 @@ ghost use Rattle.std.specs.Option.{option_map};
 ghost use Rattle.indexmap.specs.IndexMap.{values};
 ghost use Rattle.sdr_model.specs.Names.{name_of, without_name};
 ghost use Rattle.sdr_undo.specs.Entries.{named_of};
-ghost use Rattle.sdr_model.specs.Things.{block_among, name_block};
+ghost use Rattle.sdr_model.specs.Things.{block_among, block_for_name};
 
 use indexmap::IndexMap;
 use sdr_base::{Addr, Kind, NoMemory};
-use sdr_model::Block;
+use sdr_model::UsedBlock;
 use std::alloc::Global;
 use std::marker::Model;
 
@@ -73,12 +73,12 @@ impl Names {
     }
 
     /// The block of an entry, where one begins at an address.
-    pub fn block(&self, addr: Addr) -> Option<Block>
-        ensures { result ≡ block_among addr (map name_block self.now) }
+    pub fn block(&self, addr: Addr) -> Option<UsedBlock>
+        ensures { result ≡ block_among addr (map block_for_name self.now) }
     {
         if has_block(&self.entries, addr) {
             let kind = Kind::Name;
-            return Some(Block {
+            return Some(UsedBlock {
                 addr,
                 kind,
                 bytes: 56,

@@ -151,8 +151,8 @@ impl Store {
         self.settle(Stays::Now);
     }
 
-    /// Puts the things back to what they were at the begin.
-    pub fn put_back(&mut self)
+    /// Rolls the things back to what they were at the begin.
+    pub fn roll_back(&mut self)
         ensures { self.new ≡ record { begun = self.old.begun; now = self.old.begun; touched = [] } }
     {
         self.settle(Stays::Begun);

@@ -7,7 +7,7 @@ use Rattle.sdr_words.specs.Bindings.{Binding, value_in, with_binding, name_given
 use Rattle.sdr_words.specs.BoundKeys.{bindings_in}
 use Rattle.sdr_model.specs.declared.answer.Answer.{Answer}
 use Rattle.sdr_words.specs.declared.bindings.Key.{Key}
-use Rattle.sdr_model.specs.declared.script.Step.{Step}
+use Rattle.sdr_model.specs.declared.script.ScriptStep.{ScriptStep}
 
 unwrap_or-chosen : (b : Bool) (value : ℕ) (rest : Option ℕ) → unwrap_or (cond b (Some value) rest) 0
     ≡ cond b value (unwrap_or rest 0)
@@ -53,7 +53,8 @@ name_given-some bindings daemon [] value some = absurd (true≢false some)
 name_given-some bindings daemon (b ∷ bs) value some = refl
 
 -- the binding under a step's key is the one that its answer makes
-pub bound-key : (es : List (Key × ℕ)) (key : Key) (value : ℕ) (bindings : List Binding) (step : Step) (answer : Answer)
+pub bound-key : (es : List (Key × ℕ)) (key : Key) (value : ℕ) (bindings : List Binding) (step : ScriptStep)
+    (answer : Answer)
     → bindings_in es ≡ bindings → key.daemon ≡ step.daemon → key.name.items ≡ step.name → value ≡ value_given answer
     → (length step.name == 0) ≡ false
     → with_binding (bindings_in es) (record { daemon = key.daemon; name = key.name.items; value = value })

@@ -19,7 +19,7 @@ use Rattle.sdr_words.proofs.WordsLemmas.{own, decimal_has_digits}
 use Rattle.sdr_words.specs.Arguments.{◌>>=◌, arg_of, args_of, number_or_name}
 use Rattle.sdr_words.specs.Canonical.{IsArg, AreArgs, arg_text}
 use Rattle.sdr_words.specs.Literals.{is_lower_digit, literal_of}
-use Rattle.sdr_words.specs.Words.{at_most, is_decimal, is_name, is_name_byte, number_of}
+use Rattle.sdr_words.specs.Words.{at_most, is_decimal, is_name, is_name_byte, as_number}
 use Rattle.sdr_words.specs.declared.verb.Shape.{Shape}
 use Rattle.sdr_words.specs.declared.verb.Shape.TheVariants as shapes
 
@@ -54,8 +54,8 @@ is_decimal-decimal n fits =
     (and_from (nat_lt 0 (length (decimal n))) _ t (decimal_digits n fits)) (no_leading_zero n fits)
 
 -- the digits of a number are read as that number
-pub number_of-decimal : (n : ℕ) → n < 2 ^ 64 → number_of (decimal n) ≡ Some n
-number_of-decimal n fits =
+pub as_number-decimal : (n : ℕ) → n < 2 ^ 64 → as_number (decimal n) ≡ Some n
+as_number-decimal n fits =
     let value = digits_value-decimal own n fits in
     let t : nat_lt n (2 ^ 64) ≡ true = grind (arith, nat_tests) in
     cond-true _ _ _ (and_from (is_decimal (decimal n)) _ (is_decimal-decimal n fits) (ap (λ v. nat_lt v (2 ^ 64)) value ∙ t))
@@ -75,8 +75,8 @@ digits_begin [] some all = absurd (omega arith)
 digits_begin (d ∷ ds) some all = (and_parts (is_ascii_digit d) (list_all is_ascii_digit ds) all).0
 
 -- no name is a number
-number_of-name : (name : List ℕ) → is_name name ≡ true → number_of name ≡ None
-number_of-name name is =
+as_number-name : (name : List ℕ) → is_name name ≡ true → as_number name ≡ None
+as_number-name name is =
     cond-false _ _ _ (false_from_ne_true (is_decimal name && nat_lt (digits_value 10 name) (2 ^ 64)) (λ t.
     let digits = decimal_has_digits name (and_parts (is_decimal name) _ t).0 in
     letter_is_no_digit (slice_index name 0) (name_parts name is).0 (digits_begin name digits.0 digits.1)))
@@ -101,18 +101,18 @@ literal_of-bytes_text : (bytes : List ℕ) → IsBytes bytes → literal_of (byt
 literal_of-bytes_text bytes fit =
     cond-true _ _ _ (encode_lower_digits bytes fit) ∙ ap result_ok (decode_of-encode_lower bytes fit)
 
-plain_again : (most n : ℕ) → n < 2 ^ 64 → n ≤ most → option_map args.Number (option_and_then (at_most most) (number_of (decimal n))) ≡ Some (args.Number n)
+plain_again : (most n : ℕ) → n < 2 ^ 64 → n ≤ most → option_map args.Number (option_and_then (at_most most) (as_number (decimal n))) ≡ Some (args.Number n)
 plain_again most n fits within =
     let t : nat_le n most ≡ true = grind (arith, nat_tests) in
-    ap (λ o. option_map args.Number (option_and_then (at_most most) o)) (number_of-decimal n fits)
+    ap (λ o. option_map args.Number (option_and_then (at_most most) o)) (as_number-decimal n fits)
     ∙ ap (option_map args.Number) (cond-true _ _ _ t)
 
 module _ (is_bound : List ℕ → Bool) where
   -- an argument is read from its field
   pub arg_again : (shape : Shape) (arg : Arg) → IsArg is_bound shape arg → arg_of is_bound shape (arg_text arg) ≡ Some arg
-  arg_again shapes.Value (args.Number n) is = ap (λ o. number_or_name o is_bound (decimal n)) (number_of-decimal n is)
+  arg_again shapes.Value (args.Number n) is = ap (λ o. number_or_name o is_bound (decimal n)) (as_number-decimal n is)
   arg_again shapes.Value (args.Named name) is =
-      ap (λ o. number_or_name o is_bound name) (number_of-name name is.0)
+      ap (λ o. number_or_name o is_bound name) (as_number-name name is.0)
       ∙ cond-true _ _ _ (and_from (is_name name) (is_bound name) is.0 is.1)
   arg_again shapes.Type (args.Number n) is = plain_again 4294967295 n (omega (arith, is)) is
   arg_again shapes.Priority (args.Number n) is = plain_again 255 n (omega (arith, is)) is

@@ -6,15 +6,15 @@ use Rattle.std.proofs.lemmas.Fmt.{decimal_nonempty}
 use Rattle.std.proofs.lemmas.List.Folds.{list_all-append}
 use Rattle.std.specs.List.{list_all, range_with_len}
 use Rattle.sdr_model.specs.declared.script.Arg.{Arg}
-use Rattle.sdr_model.specs.declared.script.Step.{Step}
-use Rattle.sdr_words.proofs.CanonicalArgs.{args_again, decimal_digits, number_of-decimal}
+use Rattle.sdr_model.specs.declared.script.ScriptStep.{ScriptStep}
+use Rattle.sdr_words.proofs.CanonicalArgs.{args_again, decimal_digits, as_number-decimal}
 use Rattle.sdr_words.proofs.CanonicalFields.{arg_is_no_equals, args_are_fields, decimal_in_field, field_from, fields_of-join, is_field, is_field_byte, is_skipped-join, line_bytes-join, name_is_field}
 use Rattle.sdr_words.specs.Arguments.{◌>>=◌, args_of}
 use Rattle.sdr_words.specs.Canonical.{IsStep, AreArgs, arg_text, fields_for, line_for, name_fields}
 use Rattle.sdr_words.specs.Script.{is_line_byte, line_says, step_or_line}
 use Rattle.sdr_words.specs.Statements.{is_bound_by, name_and_rest, step_of, verb_and_args}
-use Rattle.sdr_words.specs.Verbs.{names, name_at, place_of, shapes_at}
-use Rattle.sdr_words.specs.Words.{among_daemons, daemon_of, is_name, number_of}
+use Rattle.sdr_words.specs.Verbs.{verb_names, name_at, verb_place, shapes_at}
+use Rattle.sdr_words.specs.Words.{among_daemons, as_daemon, is_name, as_number}
 use Rattle.sdr_words.specs.declared.verb.Shape.{Shape}
 
 last_of : (xs : List ℕ) (x : ℕ) → slice_index (xs ++ x ∷ []) (length xs) ≡ x
@@ -32,14 +32,14 @@ among daemon low high =
     cond-true _ _ _ (and_from (nat_le 1 daemon) (nat_le daemon 16) a b)
 
 -- the first field names the daemon
-daemon_again : (daemon : ℕ) → 1 ≤ daemon → daemon ≤ 16 → daemon_of (decimal daemon ++ codes ":") ≡ Some daemon
+daemon_again : (daemon : ℕ) → 1 ≤ daemon → daemon ≤ 16 → as_daemon (decimal daemon ++ codes ":") ≡ Some daemon
 daemon_again daemon low high =
     let ds = decimal daemon in
     let end : length (ds ++ 58 ∷ []) - 1 ≡ length ds = omega (arith, length-append ds (58 ∷ [])) in
-    ap (λ n. cond (slice_index (ds ++ 58 ∷ []) n == 58) (option_and_then among_daemons (number_of (take n (ds ++ 58 ∷ [])))) None) end
+    ap (λ n. cond (slice_index (ds ++ 58 ∷ []) n == 58) (option_and_then among_daemons (as_number (take n (ds ++ 58 ∷ [])))) None) end
     ∙ cond-true _ _ _ (ap (λ b. b == 58) (last_of ds 58))
-    ∙ ap (λ l. option_and_then among_daemons (number_of l)) (front_of ds (58 ∷ []))
-    ∙ ap (option_and_then among_daemons) (number_of-decimal daemon (omega arith)) ∙ among daemon low high
+    ∙ ap (λ l. option_and_then among_daemons (as_number l)) (front_of ds (58 ∷ []))
+    ∙ ap (option_and_then among_daemons) (as_number-decimal daemon (omega arith)) ∙ among daemon low high
 
 daemon_is_field : (daemon : ℕ) → daemon ≤ 16 → is_field (decimal daemon ++ codes ":") ≡ true
 daemon_is_field daemon high =
@@ -72,32 +72,32 @@ found_at f (x ∷ xs) a (suc place) all within =
     let rest : map f xs ≡ map Some (range_with_len (a + 1) (length xs)) = cc in
     found_at f xs (a + 1) place rest (omega arith) ∙ ap Some (omega arith)
 
-all_places : map place_of names ≡ map Some (range_with_len 0 (length names))
-unfolding names
+all_places : map verb_place verb_names ≡ map Some (range_with_len 0 (length verb_names))
+unfolding verb_names
 all_places = refl
 
 -- a verb's name is found at its place
-place_again : (place : ℕ) → place < length names → place_of (name_at place) ≡ Some place
-place_again place within = found_at place_of names 0 place all_places within ∙ ap Some (omega arith)
+place_again : (place : ℕ) → place < length verb_names → verb_place (name_at place) ≡ Some place
+place_again place within = found_at verb_place verb_names 0 place all_places within ∙ ap Some (omega arith)
 
 test_at : (test : List ℕ → Bool) (xs : List (List ℕ)) (place : ℕ) → list_all test xs ≡ true → place < length xs → test (unwrap_or (slice_get xs place) []) ≡ true
 test_at test [] place all within = absurd (omega arith)
 test_at test (x ∷ xs) zero all within = (and_parts (test x) (list_all test xs) all).0
 test_at test (x ∷ xs) (suc place) all within = test_at test xs place (and_parts (test x) (list_all test xs) all).1 (omega arith)
 
-all_fields : list_all is_field names ≡ true
-unfolding names
+all_fields : list_all is_field verb_names ≡ true
+unfolding verb_names
 all_fields = refl
 
-verb_is_field : (place : ℕ) → place < length names → is_field (name_at place) ≡ true
-verb_is_field place within = test_at is_field names place all_fields within
+verb_is_field : (place : ℕ) → place < length verb_names → is_field (name_at place) ≡ true
+verb_is_field place within = test_at is_field verb_names place all_fields within
 
 name_fields_are : (name : List ℕ) → (name ≡ []) ⊎ (is_name name ≡ true) → list_all is_field (name_fields name) ≡ true
 name_fields_are [] is = refl
 name_fields_are (b ∷ bs) (inl none) = cc
 name_fields_are (b ∷ bs) (inr is) = and_from (is_field (b ∷ bs)) _ (name_is_field (b ∷ bs) is) refl
 
-module _ (earlier : List Step) (step : Step) (is : IsStep earlier step) where
+module _ (earlier : List ScriptStep) (step : ScriptStep) (is : IsStep earlier step) where
   -- the fields behind the first
   behind : List (List ℕ)
   behind = name_fields step.name ++ name_at step.verb ∷ map arg_text step.args
@@ -115,7 +115,7 @@ module _ (earlier : List Step) (step : Step) (is : IsStep earlier step) where
       ∙ ap (λ o. o >>= λ args. Some (step.verb, args)) (args_again (is_bound_by earlier step.daemon) (shapes_at step.verb) step.args is.args)
 
   -- the step of a daemon whose name and statement are these
-  made : ℕ → List ℕ × List (List ℕ) → ℕ × List Arg → Option Step
+  made : ℕ → List ℕ × List (List ℕ) → ℕ × List Arg → Option ScriptStep
   made daemon named said = Some (record { line = step.line; daemon = daemon; name = named.0; verb = said.0; args = said.1 })
 
   step_again : step_of earlier step.line (fields_for step) ≡ Some step

@@ -7,7 +7,7 @@ use Rattle.std.specs.HashSet.{HashSet, Updates}
 use Rattle.sdr_words.specs.Draft.{AreBinders}
 use Rattle.sdr_words.specs.Statements.{is_bound_by}
 use Rattle.sdr_words.specs.declared.draft.Binder.{Binder}
-use Rattle.sdr_model.specs.declared.script.Step.{Step}
+use Rattle.sdr_model.specs.declared.script.ScriptStep.{ScriptStep}
 
 eqb-sym : (a b : ℕ) → (a == b) ≡ (b == a)
 eqb-sym a b = grind (arith, nat_tests)
@@ -27,7 +27,8 @@ true_or false true = refl
 true_or false false = refl
 
 -- a new binder stands for a new step
-pub AreBinders-step : {S : Type 0} (old new : HashSet Binder S) (key : Binder) (steps : List Step) (step : Step)
+pub AreBinders-step : {S : Type 0} (old new : HashSet Binder S) (key : Binder) (steps : List ScriptStep)
+    (step : ScriptStep)
     → AreBinders old.keys steps
     → Updates (λ a b. a.daemon == b.daemon && pointwise nat_eq a.name.now b.name.now) old new key true
     → step.daemon ≡ key.daemon → step.name ≡ key.name.now → AreBinders new.keys (steps ++ step ∷ [])

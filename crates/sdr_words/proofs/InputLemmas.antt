@@ -11,7 +11,7 @@ use Rattle.sdr_words.specs.Reading.{ReadsInput, ReadsScript, NamesLine}
 use Rattle.sdr_words.specs.Script.{◌>>=◌, Reading, nothing_read, input_lines, ended_lines, but_last, longest_input, read_line, read_lines, script_of, refused_behind, input_script}
 use Rattle.sdr_words.specs.declared.error.ScriptError.{ScriptError}
 use Rattle.sdr_words.specs.declared.error.ScriptError.TheVariants as errors
-use Rattle.sdr_model.specs.declared.script.Step.{Step}
+use Rattle.sdr_model.specs.declared.script.ScriptStep.{ScriptStep}
 
 last_of : {A : Type 0} (xs : List A) → 0 < length xs → (x : A) × (xs ≡ but_last xs ++ x ∷ [])
 last_of [] some = absurd (omega arith)
@@ -55,9 +55,9 @@ module _ (old : Reading) (input : List ℕ) (fresh : old ≡ nothing_read) where
   Stops-ended errors.NoMemory stops = tt
 
 -- a front that goes on has no script
-no_script_behind : (front : List ℕ) (steps : List Step) → refused_behind front ≡ Ok steps → ⊥
+no_script_behind : (front : List ℕ) (steps : List ScriptStep) → refused_behind front ≡ Ok steps → ⊥
 no_script_behind front steps =
-    let refuses : Reading → Result (List Step) ℕ = λ ended. Err ended.next in
+    let refuses : Reading → Result (List ScriptStep) ℕ = λ ended. Err ended.next in
     elim (read_lines nothing_read (ended_lines front)) as (λ r. (r >>= refuses) ≡ Ok steps → ⊥)
     [ Ok ended ↦ λ e. cc | Err line ↦ λ e. cc ]
 
@@ -75,7 +75,8 @@ input_script-append bytes more long =
     ∙ sym (cond-false _ _ _ (too_long (length bytes) long))
 
 -- what was read far enough has the script of the whole input
-whole_script : (old new : Option (List ℕ)) (bytes : List ℕ) (given : Result (List Step) ℕ) → Consumes old new bytes
+whole_script : (old new : Option (List ℕ)) (bytes : List ℕ) (given : Result (List ScriptStep) ℕ) →
+    Consumes old new bytes
     → IsAtEnd new ⊎ longest_input < length bytes → input_script bytes ≡ given
     → IfSome old (λ input. input_script input ≡ given)
 whole_script None new bytes given taken far script = tt
@@ -85,7 +86,7 @@ whole_script (Some xs) (Some ys) bytes given taken (inl end) script =
 whole_script (Some xs) (Some ys) bytes given taken (inr long) script =
     ap input_script taken ∙ input_script-append bytes ys long ∙ script
 
-ReadsScript-from : (old new : Option (List ℕ)) (bytes : List ℕ) (steps : List Step) → ReadsInput old new bytes
+ReadsScript-from : (old new : Option (List ℕ)) (bytes : List ℕ) (steps : List ScriptStep) → ReadsInput old new bytes
     → input_script bytes ≡ Ok steps → ReadsScript old new steps
 ReadsScript-from old new bytes steps reads script =
     elim (leb_tells (length bytes) longest_input) [
@@ -102,12 +103,12 @@ ReadsScript-from old new bytes steps reads script =
     ]
 
 -- what reading and the script of what was read make together
-pub script_result : (old new : Option (List ℕ)) (bytes : List ℕ) (result : Result (List Step) ScriptError)
+pub script_result : (old new : Option (List ℕ)) (bytes : List ℕ) (result : Result (List ScriptStep) ScriptError)
     → ReadsInput old new bytes → GivesScript result (input_script bytes) → IfOk result (ReadsScript old new)
 script_result old new bytes (Ok steps) reads gives = ReadsScript-from old new bytes steps reads gives
 script_result old new bytes (Err error) reads gives = tt
 
-pub line_result : (old new : Option (List ℕ)) (bytes : List ℕ) (result : Result (List Step) ScriptError)
+pub line_result : (old new : Option (List ℕ)) (bytes : List ℕ) (result : Result (List ScriptStep) ScriptError)
     → ReadsInput old new bytes → GivesScript result (input_script bytes) → IfErr result (NamesLine old new)
 line_result old new bytes (Ok steps) reads gives = tt
 line_result old new bytes (Err errors.Input) reads gives = tt

@@ -10,7 +10,7 @@ use Rattle.std.specs.List.{list_all}
 use Rattle.std.specs.Result.{result_ok}
 use Rattle.std.specs.Str.{IsAscii, IsUtf8}
 use Rattle.std.specs.Str.Parse.{digits_value, ParsesUnsigned}
-use Rattle.sdr_words.specs.Words.{is_decimal, number_of}
+use Rattle.sdr_words.specs.Words.{is_decimal, as_number}
 
 digit_is_ascii : (b : ℕ) → is_ascii_digit b ≡ true → b < 128
 digit_is_ascii b d = grind (arith, nat_tests)
@@ -39,7 +39,7 @@ own = numerals_by_value _ (search rules)
 
 -- what parsing gives of decimal digits
 pub parsed-decimal : {E : Type 0} (bs : List ℕ) (r : Result ℕ E) → is_decimal bs ≡ true → ParsesUnsigned 64 10 bs r
-    → result_ok r ≡ number_of bs
+    → result_ok r ≡ as_number bs
 parsed-decimal {E = E} bs (Ok x) d p =
     let given = parse_digits own {E = E} 64 bs (Ok x) p (decimal_has_digits bs d).1 in
     let fits : nat_lt (digits_value 10 bs) (2 ^ 64) ≡ true = grind (arith, nat_tests, given) in

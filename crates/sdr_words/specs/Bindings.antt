@@ -9,7 +9,7 @@ use Rattle.sdr_model.specs.declared.answer.Reply.TheVariants as replies
 use Rattle.sdr_model.specs.declared.event.Event.{Event}
 use Rattle.sdr_model.specs.declared.script.Arg.{Arg}
 use Rattle.sdr_model.specs.declared.script.Arg.TheVariants as args
-use Rattle.sdr_model.specs.declared.script.Step.{Step}
+use Rattle.sdr_model.specs.declared.script.ScriptStep.{ScriptStep}
 use Rattle.sdr_words.specs.Events.{event_by, nothing_given}
 use Rattle.sdr_words.specs.Verbs.{verb_at}
 use Rattle.sdr_words.specs.declared.given.Given.{Given}
@@ -70,7 +70,7 @@ abbrev pub given_of : List Binding → ℕ → List Arg → Given
 given_of bindings daemon args = with_args bindings daemon nothing_given args
 
 -- the event of a step, with what its names hold
-abbrev pub event_of : List Binding → Step → Event
+abbrev pub event_of : List Binding → ScriptStep → Event
 event_of bindings step = event_by (verb_at step.verb) (given_of bindings step.daemon step.args)
 
 -- the bindings where a name of a daemon is given a value, and as before where there is no name
@@ -80,7 +80,7 @@ name_given bindings daemon (b ∷ bs) value =
     with_binding bindings (record { daemon = daemon; name = b ∷ bs; value = value })
 
 -- the bindings after a step was answered
-abbrev pub bound : List Binding → Step → Answer → List Binding
+abbrev pub bound : List Binding → ScriptStep → Answer → List Binding
 bound bindings step answer = name_given bindings step.daemon step.name (value_given answer)
 
 -- a binding as numbers and a list

@@ -10,10 +10,10 @@ use Rattle.sdr_model.specs.declared.keys.Keys.{Keys}
 use Rattle.sdr_model.specs.declared.keys.Keys.TheVariants as keys
 use Rattle.sdr_model.specs.declared.script.Arg.{Arg}
 use Rattle.sdr_model.specs.declared.script.Arg.TheVariants as args
-use Rattle.sdr_model.specs.declared.script.Step.{Step}
+use Rattle.sdr_model.specs.declared.script.ScriptStep.{ScriptStep}
 use Rattle.sdr_text.specs.Text.{bytes_text}
 use Rattle.sdr_words.specs.Statements.{is_bound_by}
-use Rattle.sdr_words.specs.Verbs.{names, name_at, shapes_at}
+use Rattle.sdr_words.specs.Verbs.{verb_names, name_at, shapes_at}
 use Rattle.sdr_words.specs.Words.{is_name}
 use Rattle.sdr_words.specs.declared.verb.Shape.{Shape}
 use Rattle.sdr_words.specs.declared.verb.Shape.TheVariants as shapes
@@ -49,12 +49,12 @@ name_fields [] = []
 name_fields (b ∷ bs) = (b ∷ bs) ∷ codes "=" ∷ []
 
 -- the fields of a step
-abbrev pub fields_for : Step → List (List ℕ)
+abbrev pub fields_for : ScriptStep → List (List ℕ)
 fields_for step =
     (decimal step.daemon ++ codes ":") ∷ name_fields step.name ++ name_at step.verb ∷ map arg_text step.args
 
 -- the canonical line of a step: its fields, with one space between each two
-abbrev pub line_for : Step → List ℕ
+abbrev pub line_for : ScriptStep → List ℕ
 line_for step = join_with_byte 32 (fields_for step)
 
 -- the argument is one of this shape, where these names are bound
@@ -76,9 +76,9 @@ AreArgs is_bound (shape ∷ shapes) (arg ∷ args) = IsArg is_bound shape arg ×
 AreArgs is_bound shapes args = ⊥
 
 -- the step is one that a script may have behind these
-pub record IsStep (earlier : List Step) (step : Step) : Type 0 where
+pub record IsStep (earlier : List ScriptStep) (step : ScriptStep) : Type 0 where
   pub first_daemon : 1 ≤ step.daemon
   pub last_daemon : step.daemon ≤ 16
   pub name : (step.name ≡ []) ⊎ (is_name step.name ≡ true)
-  pub verb : step.verb < length names
+  pub verb : step.verb < length verb_names
   pub args : AreArgs (is_bound_by earlier step.daemon) (shapes_at step.verb) step.args

@@ -3,7 +3,7 @@ use Rattle.std.specs.Prelude.{◌≡◌, ℕ, List, ◌+◌, ◌++◌, ◌∷◌
 use Rattle.sdr_words.specs.Script.{Reading}
 use Rattle.sdr_words.specs.declared.error.ScriptError.{ScriptError}
 use Rattle.sdr_words.specs.declared.error.ScriptError.TheVariants as script_errors
-use Rattle.sdr_model.specs.declared.script.Step.{Step}
+use Rattle.sdr_model.specs.declared.script.ScriptStep.{ScriptStep}
 use Rattle.sdr_words.specs.declared.error.LineError.{LineError}
 use Rattle.sdr_words.specs.declared.error.LineError.TheVariants as errors
 
@@ -14,11 +14,11 @@ GivesOr (Err errors.Refused) given = given ≡ None
 GivesOr (Err errors.NoMemory) given = Unit {0}
 
 -- what was read so far, with a step more
-abbrev pub with_step : Reading → Step → Reading
+abbrev pub with_step : Reading → ScriptStep → Reading
 with_step reading step = record { steps = reading.steps ++ step ∷ []; next = reading.next + 1 }
 
 -- the step that the definition gives was added, or it gives none and the answer is Refused, or memory ran out
-abbrev pub AddsStep : Result (Unit {0}) LineError → Reading → Reading → Option Step → Type 0
+abbrev pub AddsStep : Result (Unit {0}) LineError → Reading → Reading → Option ScriptStep → Type 0
 AddsStep (Ok done) old new given = option_map (with_step old) given ≡ Some new
 AddsStep (Err errors.Refused) old new given = given ≡ None
 AddsStep (Err errors.NoMemory) old new given = Unit {0}
@@ -30,11 +30,11 @@ Stops (script_errors.Line line) given = given ≡ Err line
 Stops script_errors.NoMemory given = Unit {0}
 
 -- what was read is what the definition reads, or it stops there
-abbrev pub Reads : {X : Type 0} → Result X ScriptError → Reading → Result Reading ℕ → Type 0
-Reads (Ok done) new given = given ≡ Ok new
-Reads (Err error) new given = Stops error given
+abbrev pub ReadsAs : {X : Type 0} → Result X ScriptError → Reading → Result Reading ℕ → Type 0
+ReadsAs (Ok done) new given = given ≡ Ok new
+ReadsAs (Err error) new given = Stops error given
 
 -- the script is the one that the definition gives, or it stops there
-abbrev pub GivesScript : Result (List Step) ScriptError → Result (List Step) ℕ → Type 0
+abbrev pub GivesScript : Result (List ScriptStep) ScriptError → Result (List ScriptStep) ℕ → Type 0
 GivesScript (Ok steps) given = given ≡ Ok steps
 GivesScript (Err error) given = Stops error given

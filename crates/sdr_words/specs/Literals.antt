@@ -3,15 +3,15 @@ use Rattle.std.specs.Prelude.{ℕ, List, [], ◌∷◌, Bool, ◌&&◌, ◌||◌
 use Rattle.std.specs.List.{list_all}
 use Rattle.std.specs.Result.{result_ok}
 use Rattle.hex.specs.Hex.{decode_of}
-use Rattle.sdr_words.specs.Words.{at_most, number_of, quoted_of}
+use Rattle.sdr_words.specs.Words.{at_most, as_number, quoted_of}
 
 -- whether a byte is a hexadecimal digit in lower case
 abbrev pub is_lower_digit : ℕ → Bool
 is_lower_digit b = (nat_le 48 b && nat_le b 57) || (nat_le 97 b && nat_le b 102)
 
 -- the bytes of an even count of hexadecimal digits in lower case
-abbrev pub bytes_of : List ℕ → Option (List ℕ)
-bytes_of digits = if list_all is_lower_digit digits then result_ok (decode_of digits) else None
+abbrev pub hex_bytes : List ℕ → Option (List ℕ)
+hex_bytes digits = if list_all is_lower_digit digits then result_ok (decode_of digits) else None
 
 -- a literal of this many bytes is no longer than it may be
 abbrev pub most_copies : ℕ
@@ -26,7 +26,7 @@ copies_of bytes count = None
 abbrev pub filled_of : List ℕ → Option (List ℕ)
 filled_of (high ∷ low ∷ star ∷ count) =
     if star == 42
-    then copies_of (bytes_of (high ∷ low ∷ [])) (option_and_then (at_most most_copies) (number_of count))
+    then copies_of (hex_bytes (high ∷ low ∷ [])) (option_and_then (at_most most_copies) (as_number count))
     else None
 filled_of rest = None
 
@@ -35,6 +35,6 @@ abbrev pub literal_of : List ℕ → Option (List ℕ)
 literal_of [] = None
 literal_of (b ∷ rest) =
     if b == 34 then quoted_of (b ∷ rest)
-    else if b == 120 then bytes_of rest
+    else if b == 120 then hex_bytes rest
     else if b == 102 then filled_of rest
     else None

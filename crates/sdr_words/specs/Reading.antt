@@ -4,10 +4,10 @@ use Rattle.std.specs.Io.KnownBytes.{Consumes, IsAtEnd}
 use Rattle.sdr_words.specs.Script.{script_of, input_script, longest_input}
 use Rattle.sdr_words.specs.declared.error.ScriptError.{ScriptError}
 use Rattle.sdr_words.specs.declared.error.ScriptError.TheVariants as errors
-use Rattle.sdr_model.specs.declared.script.Step.{Step}
+use Rattle.sdr_model.specs.declared.script.ScriptStep.{ScriptStep}
 
 -- all that the source had was read, and is the script of these steps; so is what it tells
-pub record ReadsScript (old new : Option (List ℕ)) (steps : List Step) : Type 0 where
+pub record ReadsScript (old new : Option (List ℕ)) (steps : List ScriptStep) : Type 0 where
   pub bytes : List ℕ
   pub taken : Consumes old new bytes
   pub at_end : IsAtEnd new

@@ -3,7 +3,7 @@ use Rattle.std.specs.Prelude.{ℕ, ◌+◌, List, [], ◌∷◌, ◌++◌, lengt
 use Rattle.std.specs.List.{list_all, slice_split}
 use Rattle.sdr_words.specs.Fields.{fields_of}
 use Rattle.sdr_words.specs.Statements.{step_of}
-use Rattle.sdr_model.specs.declared.script.Step.{Step}
+use Rattle.sdr_model.specs.declared.script.ScriptStep.{ScriptStep}
 
 -- the first refused line ends the reading
 infixl 10 ◌>>=◌
@@ -28,12 +28,12 @@ abbrev pub is_skipped : List ℕ → Bool
 is_skipped line = list_all (λ b. b == 32) line || slice_index line 0 == 35
 
 -- a step, else its line is refused
-abbrev pub step_or_line : ℕ → Option Step → Result (Option Step) ℕ
+abbrev pub step_or_line : ℕ → Option ScriptStep → Result (Option ScriptStep) ℕ
 step_or_line line (Some step) = Ok (Some step)
 step_or_line line None = Err line
 
 -- the step of a line behind those of the earlier lines, none where it is skipped, or its number where it is refused
-abbrev pub line_says : List Step → ℕ → List ℕ → Result (Option Step) ℕ
+abbrev pub line_says : List ScriptStep → ℕ → List ℕ → Result (Option ScriptStep) ℕ
 line_says earlier number line =
     if not (list_all is_line_byte line) then Err number
     else if is_skipped line then Ok None
@@ -41,7 +41,7 @@ line_says earlier number line =
 
 -- what the lines so far gave: their steps, and the number of the line that comes next
 pub record Reading : Type 0 where
-  pub steps : List Step
+  pub steps : List ScriptStep
   pub next : ℕ
 
 -- before the first line
@@ -62,7 +62,7 @@ read_lines reading (line ∷ lines) = do
   read_lines reading lines
 
 -- the steps of an input in the order of its lines, or its first refused line, counted from 1
-abbrev pub script_of : List ℕ → Result (List Step) ℕ
+abbrev pub script_of : List ℕ → Result (List ScriptStep) ℕ
 script_of input = do
   all ← read_lines nothing_read (input_lines input)
   Ok all.steps
@@ -78,13 +78,13 @@ abbrev pub ended_lines : List ℕ → List (List ℕ)
 ended_lines front = but_last (input_lines front)
 
 -- the first refused line of an input that goes on behind this front, where the next byte is refused with its line
-abbrev pub refused_behind : List ℕ → Result (List Step) ℕ
+abbrev pub refused_behind : List ℕ → Result (List ScriptStep) ℕ
 refused_behind front = do
   ended ← read_lines nothing_read (ended_lines front)
   Err ended.next
 
 -- the script of an input of any length: a byte too many refuses the line in which it stands
-abbrev pub input_script : List ℕ → Result (List Step) ℕ
+abbrev pub input_script : List ℕ → Result (List ScriptStep) ℕ
 input_script input =
     if nat_le (length input) longest_input
     then script_of input

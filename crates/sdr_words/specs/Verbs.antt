@@ -12,8 +12,8 @@ unfoldable pub verbs : List Verb
 verbs = map (λ row. row.verb) verb_table
 
 -- their names
-unfoldable pub names : List (List ℕ)
-names = map (λ row. row.name) verb_table
+unfoldable pub verb_names : List (List ℕ)
+verb_names = map (λ row. row.name) verb_table
 
 -- the shapes of their arguments
 unfoldable pub shapes : List (List Shape)
@@ -24,12 +24,12 @@ abbrev pub place_among : List (List ℕ) → List ℕ → Option ℕ
 place_among names name = position (λ n. pointwise nat_eq n name) names
 
 -- the place of the verb with this name in the table
-abbrev pub place_of : List ℕ → Option ℕ
-place_of name = place_among names name
+abbrev pub verb_place : List ℕ → Option ℕ
+verb_place name = place_among verb_names name
 
 -- the name of the verb at a place of the table, no byte where there is none
 abbrev pub name_at : ℕ → List ℕ
-name_at place = unwrap_or (slice_get names place) []
+name_at place = unwrap_or (slice_get verb_names place) []
 
 -- the shapes of the arguments of the verb at a place of the table
 abbrev pub shapes_at : ℕ → List Shape

@@ -11,8 +11,8 @@ is_decimal bytes =
     nat_lt 0 (length bytes) && list_all is_ascii_digit bytes && (length bytes == 1 || not (slice_index bytes 0 == 48))
 
 -- the number that a field is: decimal, and of 64 bits
-abbrev pub number_of : List ℕ → Option ℕ
-number_of field =
+abbrev pub as_number : List ℕ → Option ℕ
+as_number field =
     if is_decimal field && nat_lt (digits_value 10 field) (2 ^ 64)
     then Some (digits_value 10 field)
     else None
@@ -46,8 +46,8 @@ abbrev pub among_daemons : ℕ → Option ℕ
 among_daemons n = if nat_le 1 n && nat_le n 16 then Some n else None
 
 -- the daemon that a field names: a number from 1 to 16, and a colon
-abbrev pub daemon_of : List ℕ → Option ℕ
-daemon_of field =
+abbrev pub as_daemon : List ℕ → Option ℕ
+as_daemon field =
     if slice_index field (length field - 1) == 58
-    then option_and_then among_daemons (number_of (take (length field - 1) field))
+    then option_and_then among_daemons (as_number (take (length field - 1) field))
     else None

@@ -1,6 +1,6 @@
 // The arguments of a line, read by the shapes that its verb takes.
 ghost use Rattle.std.specs.Prelude.{◌≡◌, map};
-ghost use Rattle.sdr_words.specs.Arguments.{account_of, space_of, order_of, value_of, plain_of, arg_of, args_of};
+ghost use Rattle.sdr_words.specs.Arguments.{as_account, as_space, as_order, as_value, plain_of, arg_of, args_of};
 ghost use Rattle.sdr_words.specs.Fields.{fields_of};
 ghost use Rattle.sdr_words.specs.LineAnswers.{GivesOr};
 ghost use Rattle.sdr_words.specs.Statements.{is_bound_by};
@@ -21,7 +21,7 @@ const MOST_TYPE: u64 = 4_294_967_295;
 const MOST_PRIORITY: u64 = 255;
 
 fn account_of(field: &[u8]) -> Option<Acct>
-    ensures { result ≡ account_of field.now }
+    ensures { result ≡ as_account field.now }
 {
     if field == b"in".as_slice() {
         Some(Acct::Inbound)
@@ -33,7 +33,7 @@ fn account_of(field: &[u8]) -> Option<Acct>
 }
 
 fn space_of(field: &[u8]) -> Option<Space>
-    ensures { result ≡ space_of field.now }
+    ensures { result ≡ as_space field.now }
 {
     if field == b"file".as_slice() {
         Some(Space::File)
@@ -47,7 +47,7 @@ fn space_of(field: &[u8]) -> Option<Space>
 }
 
 fn order_of(field: &[u8]) -> Option<Keys>
-    ensures { result ≡ order_of field.now }
+    ensures { result ≡ as_order field.now }
 {
     if field == b"bytes".as_slice() {
         Some(Keys::ByBytes)
@@ -60,7 +60,7 @@ fn order_of(field: &[u8]) -> Option<Keys>
 
 // The value that a field gives to a line of this daemon.
 fn value_of(alloc: Global, draft: &Draft<'_>, daemon: u8, field: &[u8]) -> Result<Arg, LineError>
-    ensures { GivesOr result (value_of (is_bound_by draft.now.steps daemon) field.now) }
+    ensures { GivesOr result (as_value (is_bound_by draft.now.steps daemon) field.now) }
 {
     if let Some(number) = number_of(field) {
         return Ok(Arg::Number(number));

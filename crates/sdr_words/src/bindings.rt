@@ -7,7 +7,7 @@ use crate::given::Given;
 use crate::verb_at;
 use indexmap::IndexMap;
 use sdr_base::NoMemory;
-use sdr_model::{Answer, Arg, Event, Reply, Step};
+use sdr_model::{Answer, Arg, Event, Reply, ScriptStep};
 use std::alloc::Global;
 use std::marker::Model;
 
@@ -94,7 +94,7 @@ impl Bindings {
     }
 
     /// The event of a step, with what its names hold.
-    pub fn event(&self, alloc: Global, step: &Step) -> Result<Event, NoMemory>
+    pub fn event(&self, alloc: Global, step: &ScriptStep) -> Result<Event, NoMemory>
         ensures { IfOk result (λ event. event ≡ event_of self.now step.now) }
     {
         let given = self.given(alloc, step.daemon, step.args.as_slice())?;
@@ -103,7 +103,7 @@ impl Bindings {
 
     /// Binds the name of a step, where it has one, to what its answer gives. Want of memory leaves
     /// all as before.
-    pub fn bind(&mut self, alloc: Global, step: &Step, answer: &Answer) -> Result<(), NoMemory>
+    pub fn bind(&mut self, alloc: Global, step: &ScriptStep, answer: &Answer) -> Result<(), NoMemory>
         ensures ok { OnOk result (self.new ≡ bound self.old step.now answer.now) }
         ensures err { OnErr result (self.new ≡ self.old) }
     {

@@ -1,6 +1,6 @@
 // The canonical line of a step.
 ghost use Rattle.std.specs.Prelude.{◌≡◌, ℕ, List, Ok, Some};
-ghost use Rattle.sdr_model.specs.declared.script.Step.{Step};
+ghost use Rattle.sdr_model.specs.declared.script.ScriptStep.{ScriptStep};
 ghost use Rattle.sdr_words.specs.Canonical.{IsStep, line_for};
 ghost use Rattle.sdr_words.specs.Script.{line_says};
 

@@ -3,7 +3,7 @@ ghost use Rattle.std.specs.Prelude.{◌≡◌, ◌++◌, ◌∷◌, [], ◌+◌,
 ghost use Rattle.sdr_words.specs.Statements.{is_bound_by};
 
 use sdr_base::{Items, NoMemory};
-use sdr_model::{Script, Step};
+use sdr_model::{Script, ScriptStep};
 use std::alloc::Global;
 use std::collections::HashSet;
 use std::marker::Model;
@@ -21,7 +21,7 @@ pub struct Binder<'a> {
 /// The steps of the lines so far, and who has bound which name.
 #[derive(Drop)]
 pub struct Draft<'a> {
-    steps: Vec<Step>,
+    steps: Vec<ScriptStep>,
     /// The next line's number, counted from 1.
     next: u64,
     binders: HashSet<Binder<'a>>,
@@ -77,7 +77,7 @@ impl<'a> Draft<'a> {
     }
 
     /// Adds the step of the next line. Want of memory leaves all as before.
-    pub fn add(&mut self, daemon: u8, name: &'a [u8], step: Step) -> Result<(), NoMemory>
+    pub fn add(&mut self, daemon: u8, name: &'a [u8], step: ScriptStep) -> Result<(), NoMemory>
         requires daemon { step.daemon ≡ daemon }
         requires name { step.name ≡ name.now }
         requires room { self.old.next < 2 ^ 63 }

@@ -1,6 +1,6 @@
 // What the arguments of a step give, with what its names hold.
 ghost use Rattle.std.specs.Prelude.{◌≡◌, ◌∷◌, [], OnOk};
-ghost use Rattle.sdr_words.specs.Events.{nothing_given, number};
+ghost use Rattle.sdr_words.specs.Events.{nothing_given, given_number};
 ghost use Rattle.sdr_words.specs.Bindings.{with_arg};
 
 use crate::Bindings;
@@ -34,15 +34,15 @@ impl Given {
 
     // The number at a place among the numbers.
     fn number(&self, place: usize) -> u64
-        ensures { result ≡ number self.now place }
+        ensures { result ≡ given_number self.now place }
     {
         self.numbers.as_slice().get(place).copied().unwrap_or(0)
     }
 
     /// The first five numbers, 0 where there are no more.
     pub fn first_numbers(&self) -> [u64; 5]
-        ensures { result ≡ number self.now 0 ∷ number self.now 1 ∷ number self.now 2
-            ∷ number self.now 3 ∷ number self.now 4 ∷ [] }
+        ensures { result ≡ given_number self.now 0 ∷ given_number self.now 1 ∷ given_number self.now 2
+            ∷ given_number self.now 3 ∷ given_number self.now 4 ∷ [] }
     {
         [
             self.number(0),

@@ -1,7 +1,7 @@
 // Reading a script line by line.
 ghost use Rattle.std.specs.Prelude.{◌≡◌, ◌≤◌, ◌<◌, ◌^◌, MatchOption, IfOk, IfSome, OnOk, OnErr, ◌+◌, ◌++◌, ◌∷◌, [], length, Some, None};
 ghost use Rattle.sdr_words.specs.Fields.{fields_of};
-ghost use Rattle.sdr_words.specs.LineAnswers.{AddsStep, GivesOr, Reads};
+ghost use Rattle.sdr_words.specs.LineAnswers.{AddsStep, GivesOr, ReadsAs};
 ghost use Rattle.sdr_words.specs.Script.{input_lines, ended_lines, read_line, read_lines};
 ghost use Rattle.sdr_words.specs.Statements.{is_bound_by, name_and_rest, step_of, verb_and_args};
 
@@ -12,7 +12,7 @@ use crate::words::{daemon_of, is_name};
 use crate::{LineError, ScriptError, place_of, shapes_at};
 use bstr::ByteSlice;
 use sdr_base::Bytes;
-use sdr_model::{Args, Step};
+use sdr_model::{Args, ScriptStep};
 use std::alloc::Global;
 
 /// The name that the rest of a line behind its daemon binds, and what stands behind it.
@@ -61,7 +61,7 @@ fn read_step<'a>(alloc: Global, draft: &mut Draft<'a>, line: &'a [u8]) -> Result
     let daemon = daemon_of(first).ok_or(LineError::Refused)?;
     let (name, rest) = name_and_rest(rest).ok_or(LineError::Refused)?;
     let (verb, args) = verb_and_args(alloc, draft, daemon, rest)?;
-    let step = Step {
+    let step = ScriptStep {
         line: draft.next_line(),
         daemon,
         name: Bytes::copied(alloc, name)?,
@@ -79,7 +79,7 @@ pub fn read_line<'a>(
     line: &'a [u8],
 ) -> Result<(), ScriptError>
     requires room { draft.old.next < 2 ^ 63 }
-    ensures line { Reads result draft.new (read_line draft.old line.now) }
+    ensures line { ReadsAs result draft.new (read_line draft.old line.now) }
     ensures next { OnOk result (draft.new.next ≡ draft.old.next + 1) }
 {
     let number = draft.next_line();
@@ -116,7 +116,7 @@ pub fn read_ended<'a>(
     bytes: &'a [u8],
 ) -> Result<&'a [u8], ScriptError>
     requires room { draft.old.next + length bytes.now < 2 ^ 63 }
-    ensures ended { Reads result draft.new (read_lines draft.old (ended_lines bytes.now)) }
+    ensures ended { ReadsAs result draft.new (read_lines draft.old (ended_lines bytes.now)) }
     ensures last { IfOk result (λ last.
         input_lines bytes.now ≡ ended_lines bytes.now ++ last.now ∷ []) }
     ensures room { OnOk result (draft.new.next < 2 ^ 63) }

@@ -2,7 +2,7 @@
 ghost use Rattle.std.specs.Prelude.{◌≡◌};
 ghost use Rattle.std.specs.List.{list_all};
 ghost use Rattle.sdr_words.specs.LineAnswers.{GivesOr};
-ghost use Rattle.sdr_words.specs.Literals.{is_lower_digit, bytes_of, filled_of, literal_of};
+ghost use Rattle.sdr_words.specs.Literals.{is_lower_digit, hex_bytes, filled_of, literal_of};
 
 use crate::LineError;
 use crate::words::{number_of, quoted_of};
@@ -27,7 +27,7 @@ fn are_lower_digits(bytes: &[u8]) -> bool
 
 // The bytes of hexadecimal digits.
 fn bytes_of(alloc: Global, digits: &[u8]) -> Result<Bytes, LineError>
-    ensures { GivesOr result (bytes_of digits.now) }
+    ensures { GivesOr result (hex_bytes digits.now) }
 {
     if !are_lower_digits(digits) {
         return Err(LineError::Refused);

@@ -1,6 +1,6 @@
 // The verbs of scripts: the one table by which they are read, which is the grammar's.
 ghost use Rattle.std.specs.Prelude.{◌≡◌, [], map, slice_get, unwrap_or};
-ghost use Rattle.sdr_words.specs.Verbs.{names, place_among, place_of, shapes, shapes_at, verb_at, verbs};
+ghost use Rattle.sdr_words.specs.Verbs.{verb_names, place_among, verb_place, shapes, shapes_at, verb_at, verbs};
 
 /// What an argument of a verb may be.
 #[derive(Clone, Copy)]
@@ -259,7 +259,7 @@ fn verb_in(rows: &[Row], place: usize) -> Verb
 #[tactic(auto, unfolding(crate::specs::Verbs::verbs, crate::specs::Verbs::names, crate::specs::Verbs::shapes))]
 fn table() -> &'static [Row]
     ensures verbs { map (λ row. row.0) result.now ≡ verbs }
-    ensures names { map (λ row. row.1.now) result.now ≡ names }
+    ensures names { map (λ row. row.1.now) result.now ≡ verb_names }
     ensures shapes { map (λ row. row.2.now) result.now ≡ shapes }
 {
     &VERBS
@@ -267,7 +267,7 @@ fn table() -> &'static [Row]
 
 /// The place of the verb with this name.
 pub fn place_of(name: &[u8]) -> Option<usize>
-    ensures { result ≡ place_of name.now }
+    ensures { result ≡ verb_place name.now }
 {
     place_among(table(), name)
 }

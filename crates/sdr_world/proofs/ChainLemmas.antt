@@ -8,7 +8,7 @@ use Rattle.std.proofs.lemmas.List.FromFn.{get_or-range_with_len, length-range_wi
 use Rattle.std.proofs.lemmas.List.Elements.{All-append, All-cons, All-filter, All-from_get_or, All-get_or, All-head, All-map, All-nil, All-tail, All-weaker}
 use Rattle.sdr_base.specs.Blocks.{Block}
 use Rattle.sdr_base.specs.Catalogue.{NameRow, catalogue_entries, name_addr, name_block}
-use Rattle.sdr_base.specs.Entries.{Entries, Stands}
+use Rattle.sdr_base.specs.Entries.{Entries, BlocksAre}
 use Rattle.sdr_base.specs.Hashes.{HashItem, bucket_entries, hash_block, item_addr, item_block}
 use Rattle.sdr_base.specs.Linked.{first_of, last_of, linked}
 use Rattle.sdr_base.specs.Lists.{ListElement, addr_of, element_block, elements_between, list_block}
@@ -37,8 +37,8 @@ use Rattle.sdr_audit.specs.Standing.{entries_of, queue_entries, roots_of}
 use Rattle.sdr_owner.proofs.LayoutLemmas.{elements_fit, extents_fit, headers_fit, items_fit, names_fit, tickets_fit, trailers_fit, word_laid}
 use Rattle.sdr_owner.proofs.LinkingLemmas.{linked_goes}
 use Rattle.sdr_owner.specs.Chains as chains
-use Rattle.sdr_owner.specs.Chains.{Goes, IsChain, has_last}
-use Rattle.sdr_owner.specs.Linking.{AreSmall, FitsChain, StandIn, StandsAt}
+use Rattle.sdr_owner.specs.Chains.{ChainGoes, IsChain, has_last}
+use Rattle.sdr_owner.specs.Linking.{AreSmall, FitsChain, AllStandAt, StandsAt}
 use Rattle.sdr_owner.specs.Owners.{owned_at, owners_of, root_owners}
 use Rattle.sdr_owner.specs.View.{View, word_of}
 use Rattle.sdr_owner.specs.declared.owner.Owner.{Owner}
@@ -58,19 +58,19 @@ first_small addr [] small = omega arith
 first_small addr (x ∷ xs) small = All-head (λ row. addr row < 2 ^ 64) x xs small
 
 module _ {X : Type 0} (heap : View) (owner : Owner) (addr : X → ℕ) (block : ℕ → ℕ → X → Block) (rows : List X) (fits : FitsChain owner block)
-    (small : AreSmall addr rows) (stand : StandIn heap (linked addr block 0 0 rows)) where
+    (small : AreSmall addr rows) (stand : AllStandAt heap (linked addr block 0 0 rows)) where
   -- rows make a right chain where the words for the first and the last say so
-  rows_right : chains.first_of heap owner ≡ first_of addr 0 rows → has_last heap owner (last_of addr 0 rows) ≡ true →
+  rows_right : chains.first_link heap owner ≡ first_of addr 0 rows → has_last heap owner (last_of addr 0 rows) ≡ true →
       IsChain heap (record { owner = owner; addrs = map addr rows })
   rows_right first ends = record {
     last = last_of addr 0 rows;
     goes =
-        subst (λ (link : ℕ). Goes heap owner 0 link (map addr rows) (last_of addr 0 rows) 0) (sym first)
+        subst (λ (link : ℕ). ChainGoes heap owner 0 link (map addr rows) (last_of addr 0 rows) 0) (sym first)
         (linked_goes heap owner addr block fits 0 rows (omega arith) small stand);
     ends = ends;
   }
 
-module _ (heap : View) (w : World) (stands : Stands heap.blocks (entries_of w)) (roots : heap.roots ≡ roots_of w) (fields : FitsFields w) where
+module _ (heap : View) (w : World) (stands : BlocksAre heap.blocks (entries_of w)) (roots : heap.roots ≡ roots_of w) (fields : FitsFields w) where
   abbrev pub IsRight : Owner → Type 0
   IsRight owner = IsChain heap (chain_of w owner)
 
@@ -126,8 +126,8 @@ module _ (heap : View) (w : World) (stands : Stands heap.blocks (entries_of w)) 
         let own = All-head (StandsAt heap) (addr, hash_block (hash_row hash)) (flat_map bucket_entries buckets) all in
         let inner = All-tail (StandsAt heap) (addr, hash_block (hash_row hash)) (flat_map bucket_entries buckets) all in
         let each = All-part (StandsAt heap) bucket_entries buckets inner in
-        let here = subst (λ (items : List HashItem). StandIn heap (bucket_entries items)) (bucket_is number less)
-        (All-get_or (λ items. StandIn heap (bucket_entries items)) buckets number [] (let c = count_is in omega (arith, c, less)) each) in
+        let here = subst (λ (items : List HashItem). AllStandAt heap (bucket_entries items)) (bucket_is number less)
+        (All-get_or (λ items. AllStandAt heap (bucket_entries items)) buckets number [] (let c = count_is in omega (arith, c, less)) each) in
         let told : get_or hash_words (3 + number) 0 ≡ first_of item_addr 0 rows =
         ap (λ (n : ℕ). get_or hash_words n 0) (let e : 3 + number ≡ suc (suc (suc number)) = omega arith in e)
         ∙ get_or-map (first_of item_addr 0) buckets number [] 0 (let c = count_is in omega (arith, c, less))
@@ -181,13 +181,13 @@ module _ (heap : View) (w : World) (stands : Stands heap.blocks (entries_of w)) 
     own_stands : StandsAt heap (addr, object_block (object_row z))
     own_stands = All-head (StandsAt heap) (addr, object_block (object_row z)) inside (thing_stands heap w stands addr (things.Object z) is)
 
-    inside_stands : StandIn heap inside
+    inside_stands : AllStandAt heap inside
     inside_stands = All-tail (StandsAt heap) (addr, object_block (object_row z)) inside (thing_stands heap w stands addr (things.Object z) is)
 
     object_word : (n : ℕ) → n < 9 → get_or object_words n 0 < 2 ^ 64 → word_of (heap.blocks addr) n ≡ get_or object_words n 0
     object_word n less few = ap (λ (o : Option Block). word_of o n) own_stands.is ∙ word_laid kinds.Object object_words [] n less few
 
-    two_stand : StandIn heap (capsule_entries headers ++ extent_entries extents)
+    two_stand : AllStandAt heap (capsule_entries headers ++ extent_entries extents)
     two_stand = All-left (StandsAt heap) (capsule_entries headers ++ extent_entries extents) (capsule_entries trailers) inside_stands
 
     headers_right : IsRight (owners.Headers addr)
@@ -254,7 +254,7 @@ module _ (heap : View) (w : World) (stands : Stands heap.blocks (entries_of w)) 
   tickets_small ts fit =
       All-map (λ (row : TicketRow). ticket_addr row < 2 ^ 64) ticket_row ts (All-weaker FitsTicket (λ t. t.block < 2 ^ 64) (λ t f. f.block) ts fit)
 
-  queues_stand : StandIn heap (queue_entries w.accounts accts.Inbound ++ queue_entries w.accounts accts.Outbound)
+  queues_stand : AllStandAt heap (queue_entries w.accounts accts.Inbound ++ queue_entries w.accounts accts.Outbound)
   queues_stand =
       All-right (StandsAt heap) (catalogue_entries names) (queue_entries w.accounts accts.Inbound ++ queue_entries w.accounts accts.Outbound) (others_stand heap w stands)
 

@@ -17,10 +17,10 @@ use Rattle.sdr_base.specs.declared.account.Acct.{Acct}
 use Rattle.sdr_base.specs.declared.kind.Kind.TheVariants as kinds
 use Rattle.sdr_owner.proofs.LayoutLemmas.{word_laid}
 use Rattle.sdr_owner.specs.Chains.{is_among}
-use Rattle.sdr_owner.specs.Rules.{is_chained, is_source_of, keeps, names_raw, names_source}
+use Rattle.sdr_owner.specs.Rules.{is_chained, is_source_of, keeps_owner_rule, is_source_of_raw, is_raw_of_source}
 use Rattle.sdr_owner.specs.View.{View, is_kind, word_of}
-use Rattle.sdr_owner.specs.declared.rules.Rule.{Rule}
-use Rattle.sdr_owner.specs.declared.rules.Rule.TheVariants as which
+use Rattle.sdr_owner.specs.declared.rules.OwnerRule.{OwnerRule}
+use Rattle.sdr_owner.specs.declared.rules.OwnerRule.TheVariants as which
 use Rattle.sdr_world.proofs.StandLemmas.{All-linked}
 
 -- what is found at an address holds what all do
@@ -72,19 +72,19 @@ module _ (heap : View) (reached : List ℕ) where
   -- a block keeps each rule, where it stands at an address
   pub record Kept (addr : ℕ) (block : Block) : Type 0 where
     pub extent : (not (is_kind kinds.Extent (Some block)) || is_kind kinds.Source (heap.blocks (word_of (Some block) 0))) ≡ true
-    pub raw : (not (names_raw (Some block)) || is_kind kinds.Raw (heap.blocks (word_of (Some block) 4))) ≡ true
-    pub source : (not (names_source (Some block)) || is_source_of heap addr (word_of (Some block) 0)) ≡ true
-    pub named : (not (names_raw (Some block)) || word_of (heap.blocks (word_of (Some block) 4)) 0 == addr) ≡ true
+    pub raw : (not (is_source_of_raw (Some block)) || is_kind kinds.Raw (heap.blocks (word_of (Some block) 4))) ≡ true
+    pub source : (not (is_raw_of_source (Some block)) || is_source_of heap addr (word_of (Some block) 0)) ≡ true
+    pub named : (not (is_source_of_raw (Some block)) || word_of (heap.blocks (word_of (Some block) 4)) 0 == addr) ≡ true
     pub chained : (not (is_chained (Some block)) || is_among reached addr) ≡ true
 
-  pub kept_keeps : (addr : ℕ) (block : Block) → heap.blocks addr ≡ Some block → Kept addr block → (rule : Rule) → keeps heap reached rule addr ≡ true
+  pub kept_keeps : (addr : ℕ) (block : Block) → heap.blocks addr ≡ Some block → Kept addr block → (rule : OwnerRule) → keeps_owner_rule heap reached rule addr ≡ true
   kept_keeps addr block is k which.SourceIsThere =
       ap (λ (b : Option Block). not (is_kind kinds.Extent b) || is_kind kinds.Source (heap.blocks (word_of b 0))) is ∙ k.extent
-  kept_keeps addr block is k which.RawIsThere = ap (λ (b : Option Block). not (names_raw b) || is_kind kinds.Raw (heap.blocks (word_of b 4))) is ∙ k.raw
+  kept_keeps addr block is k which.RawIsThere = ap (λ (b : Option Block). not (is_source_of_raw b) || is_kind kinds.Raw (heap.blocks (word_of b 4))) is ∙ k.raw
   kept_keeps addr block is k which.SourceNamesRaw =
-      ap (λ (b : Option Block). not (names_source b) || is_source_of heap addr (word_of b 0)) is ∙ k.source
+      ap (λ (b : Option Block). not (is_raw_of_source b) || is_source_of heap addr (word_of b 0)) is ∙ k.source
   kept_keeps addr block is k which.RawNamesSource =
-      ap (λ (b : Option Block). not (names_raw b) || word_of (heap.blocks (word_of b 4)) 0 == addr) is ∙ k.named
+      ap (λ (b : Option Block). not (is_source_of_raw b) || word_of (heap.blocks (word_of b 4)) 0 == addr) is ∙ k.named
   kept_keeps addr block is k which.IsReached = ap (λ (b : Option Block). not (is_chained b) || is_among reached addr) is ∙ k.chained
 
   abbrev pub KeptEntry : ℕ × Block → Type 0

@@ -12,7 +12,7 @@ use Rattle.std.specs.declared.cmp.Ordering.TheVariants.{Equal, Greater, Less}
 use Rattle.std.proofs.lemmas.List.Elements.{All-cons, All-head, All-nil, All-tail}
 use Rattle.sdr_model.specs.Valid.{FitTogether}
 use Rattle.sdr_model.specs.World.{World, thing_at}
-use Rattle.sdr_model.specs.Zco.{is_of_raw, names_raw, source_on}
+use Rattle.sdr_model.specs.Zco.{is_of_raw, names_raw, source_naming}
 use Rattle.sdr_model.specs.declared.things.Thing.{Thing}
 use Rattle.sdr_model.specs.declared.things.Thing.TheVariants as things
 use Rattle.sdr_model.specs.declared.zco.ZcoSource.{ZcoSource}
@@ -117,7 +117,7 @@ module _ (w : World) (raw : ℕ) where
   names_of addr (things.Object z) there named = let d : false ≡ true = named in cc
 
   -- the source that names a raw object is there
-  pub source_there : (addr : ℕ) → source_on w raw ≡ Some addr → Names w raw addr
+  pub source_there : (addr : ℕ) → source_naming w raw ≡ Some addr → Names w raw addr
   source_there addr is = by (find (λ (e : ℕ × Thing). names_raw raw e.1) (finite.entries w.things)) refl is
     where
       by : (o : Option (ℕ × Thing)) → find (λ (e : ℕ × Thing). names_raw raw e.1) (finite.entries w.things) ≡ o → option_map (λ (e : ℕ × Thing). e.0) o ≡ Some addr → Names w raw addr
@@ -129,7 +129,7 @@ module _ (w : World) (raw : ℕ) where
 
   -- and is the one that is told
   pub source_told : FitTogether w → (addr : ℕ) (source : ZcoSource) → thing_at w addr ≡ Some (things.Source source) → is_of_raw raw source.subject ≡ true →
-      source_on w raw ≡ Some addr
+      source_naming w raw ≡ Some addr
   source_told fits addr source there named = by (find (λ (e : ℕ × Thing). names_raw raw e.1) (finite.entries w.things)) refl
     where
       same_one : (other : ℕ) → Names w raw other → other ≡ addr
@@ -138,11 +138,11 @@ module _ (w : World) (raw : ℕ) where
           (fits.alone raw other addr) in
           subst (λ (o : Option Thing). IfSome o (λ t. names_raw raw (things.Source n.source) ≡ true → names_raw raw t ≡ true → other ≡ addr)) there first n.named named
 
-      by : (o : Option (ℕ × Thing)) → find (λ (e : ℕ × Thing). names_raw raw e.1) (finite.entries w.things) ≡ o → source_on w raw ≡ Some addr
+      by : (o : Option (ℕ × Thing)) → find (λ (e : ℕ × Thing). names_raw raw e.1) (finite.entries w.things) ≡ o → source_naming w raw ≡ Some addr
       by None at =
           let fails = search_none (names_raw raw) (finite.entries w.things) at addr (things.Source source) (sym (finite.get-entries w.things addr) ∙ there) in
           let d : false ≡ true = sym fails ∙ named in
           cc
       by (Some e) at =
-          let told : source_on w raw ≡ Some e.0 = ap (option_map (λ (e : ℕ × Thing). e.0)) at in
+          let told : source_naming w raw ≡ Some e.0 = ap (option_map (λ (e : ℕ × Thing). e.0)) at in
           told ∙ ap Some (same_one e.0 (source_there e.0 told))

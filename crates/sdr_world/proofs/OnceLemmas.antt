@@ -12,7 +12,7 @@ use Rattle.sdr_base.proofs.PoolsLemmas.{count_by-append}
 use Rattle.sdr_base.proofs.StandingLemmas.{times-append}
 use Rattle.sdr_base.specs.Blocks.{Block}
 use Rattle.sdr_base.specs.Catalogue.{catalogue_entries, name_addr, name_block}
-use Rattle.sdr_base.specs.Entries.{Entries, Stands, times}
+use Rattle.sdr_base.specs.Entries.{Entries, BlocksAre, times}
 use Rattle.sdr_base.specs.Hashes.{HashItem, bucket_entries, hash_block, item_addr, item_block}
 use Rattle.sdr_base.specs.Linked.{first_of, last_of, linked}
 use Rattle.sdr_base.specs.Lists.{addr_of, element_block, elements_between, list_block}
@@ -31,7 +31,7 @@ use Rattle.sdr_model.specs.TicketRows.{ticket_row}
 use Rattle.sdr_audit.specs.Standing.{entries_of, other_entries, queue_entries, thing_entries}
 use Rattle.sdr_audit.specs.Ties.{ties_of}
 use Rattle.sdr_owner.proofs.OwnersLemmas.{owners_more}
-use Rattle.sdr_owner.specs.Chains.{AreOnce}
+use Rattle.sdr_base.specs.Entries.{AreOnce}
 use Rattle.sdr_owner.specs.Owners.{owned_at, owners_of, root_owners}
 use Rattle.sdr_owner.specs.View.{View}
 use Rattle.sdr_owner.specs.declared.owner.Owner.{Owner}
@@ -200,7 +200,7 @@ module _ (a : ℕ) where
         let both = times-append a (thing_entries (ties_of w) e.0 e.1) (flat_map (λ (e : ℕ × Thing). thing_entries (ties_of w) e.0 e.1) es) in
         omega (arith, rest, here, split, add, both)
 
-    module _ (heap : View) (stands : Stands heap.blocks (entries_of w)) (valid : IsValid w) where
+    module _ (heap : View) (stands : BlocksAre heap.blocks (entries_of w)) (valid : IsValid w) where
       held_words : (n : ℕ) → held (owners_of heap n) ≡ held root_owners + upto (λ i. held (owned_at heap (8 * i))) n
       held_words zero = omega arith
       held_words (suc n) =
@@ -246,5 +246,5 @@ module _ (a : ℕ) where
           omega (arith, words, each, below, roots, whole, once)
 
 -- no block stands in the chains of a heap twice
-pub chains_once : (heap : View) (w : World) → Stands heap.blocks (entries_of w) → IsValid w → (words : ℕ) → AreOnce (flat_map (chain_in w) (owners_of heap words))
+pub chains_once : (heap : View) (w : World) → BlocksAre heap.blocks (entries_of w) → IsValid w → (words : ℕ) → AreOnce (flat_map (chain_in w) (owners_of heap words))
 chains_once heap w stands valid words addr = held_once addr w heap stands valid words

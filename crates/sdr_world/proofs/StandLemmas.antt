@@ -5,14 +5,14 @@ use Rattle.std.proofs.lemmas.List.Elements.{All-append, All-cons, All-head, All-
 use Rattle.sdr_base.proofs.SectionLemmas.{section-change}
 use Rattle.sdr_base.proofs.StandingLemmas.{found, nonzero}
 use Rattle.sdr_base.specs.Blocks.{Block}
-use Rattle.sdr_base.specs.Entries.{Entries, Stands}
+use Rattle.sdr_base.specs.Entries.{Entries, BlocksAre}
 use Rattle.sdr_base.specs.Linked.{first_of, linked}
 use Rattle.sdr_base.specs.Section.{section}
 use Rattle.sdr_model.specs.World.{World, thing_at}
 use Rattle.sdr_model.specs.declared.things.Thing.{Thing}
 use Rattle.sdr_audit.specs.Standing.{entries_of, other_entries, thing_entries}
 use Rattle.sdr_audit.specs.Ties.{ties_of}
-use Rattle.sdr_owner.specs.Linking.{StandIn, StandsAt}
+use Rattle.sdr_owner.specs.Linking.{AllStandAt, StandsAt}
 use Rattle.sdr_owner.specs.View.{View}
 
 -- what holds of each of a list holds of each of a part of it
@@ -48,25 +48,25 @@ All-linked P addr block R each before next (x ∷ xs) all =
     (All-linked P addr block R each (addr x) next xs (All-tail R x xs all))
 
 -- all that are listed stand
-pub stands_all : (heap : View) (before entries : Entries) → Stands heap.blocks (before ++ entries) → StandIn heap entries
+pub stands_all : (heap : View) (before entries : Entries) → BlocksAre heap.blocks (before ++ entries) → AllStandAt heap entries
 stands_all heap before [] stands = All-nil (StandsAt heap)
 stands_all heap before (e ∷ es) stands =
     All-cons (StandsAt heap) e es
     (record { some = nonzero heap.blocks e.0 e.1 before es stands; is = found heap.blocks e.0 e.1 before es stands })
-    (stands_all heap (before ++ (e ∷ [])) es (subst (Stands heap.blocks) (sym (append_assoc before (e ∷ []) es)) stands))
+    (stands_all heap (before ++ (e ∷ [])) es (subst (BlocksAre heap.blocks) (sym (append_assoc before (e ∷ []) es)) stands))
 
-module _ (heap : View) (w : World) (stands : Stands heap.blocks (entries_of w)) where
-  all_stand : StandIn heap (entries_of w)
+module _ (heap : View) (w : World) (stands : BlocksAre heap.blocks (entries_of w)) where
+  all_stand : AllStandAt heap (entries_of w)
   all_stand = stands_all heap [] (entries_of w) stands
 
   -- the blocks of a thing stand
-  pub thing_stands : (addr : ℕ) (thing : Thing) → thing_at w addr ≡ Some thing → StandIn heap (thing_entries (ties_of w) addr thing)
+  pub thing_stands : (addr : ℕ) (thing : Thing) → thing_at w addr ≡ Some thing → AllStandAt heap (thing_entries (ties_of w) addr thing)
   thing_stands addr thing is =
       let r = section-change (thing_entries (ties_of w)) w.things addr thing thing is in
-      let all = subst (StandIn heap) r.was (All-left (StandsAt heap) (section (thing_entries (ties_of w)) w.things) (other_entries w) all_stand) in
+      let all = subst (AllStandAt heap) r.was (All-left (StandsAt heap) (section (thing_entries (ties_of w)) w.things) (other_entries w) all_stand) in
       All-left (StandsAt heap) (thing_entries (ties_of w) addr thing) r.behind
       (All-right (StandsAt heap) r.before (thing_entries (ties_of w) addr thing ++ r.behind) all)
 
   -- and those of the catalogue and of the tickets
-  pub others_stand : StandIn heap (other_entries w)
+  pub others_stand : AllStandAt heap (other_entries w)
   others_stand = All-right (StandsAt heap) (section (thing_entries (ties_of w)) w.things) (other_entries w) all_stand

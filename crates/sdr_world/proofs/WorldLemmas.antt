@@ -8,7 +8,7 @@ use Rattle.std.proofs.lemmas.List.Elements.{All-append, All-cons, All-head, All-
 use Rattle.sdr_base.specs.Blocks.{Block}
 use Rattle.sdr_base.specs.Catalogue.{catalogue_entries, name_addr, name_block}
 use Rattle.sdr_base.specs.Cells.{IsRegionSize}
-use Rattle.sdr_base.specs.Entries.{Stands}
+use Rattle.sdr_base.specs.Entries.{BlocksAre}
 use Rattle.sdr_base.specs.Hashes.{HashItem, bucket_entries, hash_block, item_addr, item_block}
 use Rattle.sdr_base.specs.Linked.{first_of, last_of}
 use Rattle.sdr_base.specs.Lists.{addr_of, element_block, elements_between, list_block}
@@ -30,7 +30,7 @@ use Rattle.sdr_model.specs.Fields.{FitsExtent, FitsSubject, FitsThing, IsWord}
 use Rattle.sdr_model.specs.Hashes.{Hash}
 use Rattle.sdr_model.specs.Valid.{HasBytes, HasSubject, LiesInside, AreInside}
 use Rattle.sdr_model.specs.World.{World, as_raw, thing_at}
-use Rattle.sdr_model.specs.Zco.{as_source, is_of_raw, source_on}
+use Rattle.sdr_model.specs.Zco.{as_source, is_of_raw, source_naming}
 use Rattle.sdr_model.specs.declared.things.Thing.{Thing}
 use Rattle.sdr_model.specs.declared.things.Thing.TheVariants as things
 use Rattle.sdr_model.specs.declared.zco.Extent.{Extent}
@@ -48,12 +48,12 @@ use Rattle.sdr_owner.specs.Chains.{is_among}
 use Rattle.sdr_owner.specs.Linking.{StandsAt}
 use Rattle.sdr_owner.specs.Owned.{IsOwnedRegion}
 use Rattle.sdr_owner.specs.Owners.{owned_at, owners_of, root_owners}
-use Rattle.sdr_owner.specs.Rules.{is_source_of, keeps, names_raw}
+use Rattle.sdr_owner.specs.Rules.{is_source_of, keeps_owner_rule, is_source_of_raw}
 use Rattle.sdr_owner.specs.View.{View, is_kind, view_in, word_of}
 use Rattle.sdr_owner.specs.declared.owner.Owner.{Owner}
 use Rattle.sdr_owner.specs.declared.owner.Owner.TheVariants as owners
-use Rattle.sdr_owner.specs.declared.rules.Rule.{Rule}
-use Rattle.sdr_owner.specs.declared.rules.Rule.TheVariants as which
+use Rattle.sdr_owner.specs.declared.rules.OwnerRule.{OwnerRule}
+use Rattle.sdr_owner.specs.declared.rules.OwnerRule.TheVariants as which
 use Rattle.sdr_world.proofs.KeptLemmas.{All-unmap, IsGoodExtent, Kept, among_all, capsule_kept, element_kept, extent_kept, found_at, item_kept, kept_keeps, linked_kept, list_kept, name_kept, ticket_kept}
 use Rattle.sdr_world.proofs.NamedLemmas.{Names, source_there, source_told, things_found}
 use Rattle.sdr_world.proofs.OwnerLemmas.{owners_in}
@@ -120,7 +120,7 @@ module _ (bytes : List ℕ) (w : World) (P : Pools) (region : IsRegionSize (leng
   abbrev reached : List ℕ
   reached = reach.reached bytes w P region s
 
-  stands : Stands heap.blocks (entries_of w)
+  stands : BlocksAre heap.blocks (entries_of w)
   stands = s.stands.blocks
 
   abbrev IsAmong : ℕ → Type 0
@@ -147,7 +147,7 @@ module _ (bytes : List ℕ) (w : World) (P : Pools) (region : IsRegionSize (leng
   source_stands addr source there = (All-head (StandsAt heap) (addr, own_source addr source) [] (thing_stands heap w stands addr (things.Source source) there)).is
 
   abbrev own_raw : ℕ → List ℕ → Block
-  own_raw addr text = raw_block (or_null (source_on w addr)) text
+  own_raw addr text = raw_block (or_null (source_naming w addr)) text
 
   raw_stands : (addr : ℕ) (text : List ℕ) → thing_at w addr ≡ Some (things.Raw text) → heap.blocks addr ≡ Some (own_raw addr text)
   raw_stands addr text there = (All-head (StandsAt heap) (addr, own_raw addr text) [] (thing_stands heap w stands addr (things.Raw text) there)).is
@@ -182,11 +182,11 @@ module _ (bytes : List ℕ) (w : World) (P : Pools) (region : IsRegionSize (leng
       raw_names : (word_of (heap.blocks (word_of own 4)) 0 == addr) ≡ true
       raw_names =
           let r = raw_is source.length (thing_at w raw) has in
-          let told : or_null (source_on w raw) ≡ addr = ap or_null (source_told w raw s.whole.fits addr source there named) in
+          let told : or_null (source_naming w raw) ≡ addr = ap or_null (source_told w raw s.whole.fits addr source there named) in
           let few : IsWord addr = (fits_thing addr (things.Source source) there).0 in
           eq-eqb _ _
           (ap (λ (n : ℕ). word_of (heap.blocks n) 0) to_raw ∙ ap (λ (b : Option Block). word_of b 0) (raw_stands raw r.0 r.1)
-          ∙ raw_word (or_null (source_on w raw)) r.0 (omega (arith, told, few)) ∙ told)
+          ∙ raw_word (or_null (source_naming w raw)) r.0 (omega (arith, told, few)) ∙ told)
 
     source_kept : Kept heap reached addr (own_source addr source)
     source_kept = by source.subject refl
@@ -195,11 +195,11 @@ module _ (bytes : List ℕ) (w : World) (P : Pools) (region : IsRegionSize (leng
         medium subject is = medium_word in_count out_count row ∙ ap (λ (x : Subject). medium_number (medium_of x)) is
 
         raw_rule : (n : ℕ) → word_of own 0 ≡ n → (not (n == 3 || n == 4) || is_kind kinds.Raw (heap.blocks (word_of own 4))) ≡ true →
-            (not (names_raw own) || is_kind kinds.Raw (heap.blocks (word_of own 4))) ≡ true
+            (not (is_source_of_raw own) || is_kind kinds.Raw (heap.blocks (word_of own 4))) ≡ true
         raw_rule n is holds = ap (λ (k : ℕ). not (k == 3 || k == 4) || is_kind kinds.Raw (heap.blocks (word_of own 4))) is ∙ holds
 
         named_rule : (n : ℕ) → word_of own 0 ≡ n → (not (n == 3 || n == 4) || word_of (heap.blocks (word_of own 4)) 0 == addr) ≡ true →
-            (not (names_raw own) || word_of (heap.blocks (word_of own 4)) 0 == addr) ≡ true
+            (not (is_source_of_raw own) || word_of (heap.blocks (word_of own 4)) 0 == addr) ≡ true
         named_rule n is holds = ap (λ (k : ℕ). not (k == 3 || k == 4) || word_of (heap.blocks (word_of own 4)) 0 == addr) is ∙ holds
 
         by : (subject : Subject) → source.subject ≡ subject → Kept heap reached addr (own_source addr source)
@@ -247,17 +247,17 @@ module _ (bytes : List ℕ) (w : World) (P : Pools) (region : IsRegionSize (leng
   -- the source that a raw object names is one of it
   module _ (raw : ℕ) where
     is_its : (addr : ℕ) → Names w raw addr → is_source_of heap raw addr ≡ true
-    is_its addr n = ap (λ (b : Option Block). names_raw b && word_of b 4 == raw) (source_stands addr n.source n.there) ∙ by n.source.subject refl n.named
+    is_its addr n = ap (λ (b : Option Block). is_source_of_raw b && word_of b 4 == raw) (source_stands addr n.source n.there) ∙ by n.source.subject refl n.named
       where
         b : Option Block
         b = Some (own_source addr n.source)
 
-        both : (m : ℕ) → word_of b 0 ≡ m → (m == 3 || m == 4) ≡ true → word_of b 4 ≡ raw → (names_raw b && word_of b 4 == raw) ≡ true
+        both : (m : ℕ) → word_of b 0 ≡ m → (m == 3 || m == 4) ≡ true → word_of b 4 ≡ raw → (is_source_of_raw b && word_of b 4 == raw) ≡ true
         both m is right subject =
             ap (λ (k : ℕ). (k == 3 || k == 4) && word_of b 4 == raw) is
             ∙ ap (λ (t : Bool). t && word_of b 4 == raw) right ∙ eq-eqb (word_of b 4) raw subject
 
-        by : (subject : Subject) → n.source.subject ≡ subject → is_of_raw raw n.source.subject ≡ true → (names_raw b && word_of b 4 == raw) ≡ true
+        by : (subject : Subject) → n.source.subject ≡ subject → is_of_raw raw n.source.subject ≡ true → (is_source_of_raw b && word_of b 4 == raw) ≡ true
         by (subjects.File path) is named = let d : false ≡ true = sym (ap (is_of_raw raw) is) ∙ named in cc
         by (subjects.Bulk item) is named = let d : false ≡ true = sym (ap (is_of_raw raw) is) ∙ named in cc
         by (subjects.Heap other) is named =
@@ -274,9 +274,9 @@ module _ (bytes : List ℕ) (w : World) (P : Pools) (region : IsRegionSize (leng
             (subject_word _ _ (source_row n.source) (omega (arith, subject, fit)) ∙ subject ∙ same)
 
     raw_kept : (text : List ℕ) → Kept heap reached raw (own_raw raw text)
-    raw_kept text = record { extent = refl; raw = refl; source = by (source_on w raw) refl; named = refl; chained = refl }
+    raw_kept text = record { extent = refl; raw = refl; source = by (source_naming w raw) refl; named = refl; chained = refl }
       where
-        by : (o : Option ℕ) → source_on w raw ≡ o →
+        by : (o : Option ℕ) → source_naming w raw ≡ o →
             (not (true && not (word_of (Some (own_raw raw text)) 0 == 0)) || is_source_of heap raw (word_of (Some (own_raw raw text)) 0)) ≡ true
         by None is =
             let word : word_of (Some (own_raw raw text)) 0 ≡ 0 =
@@ -413,10 +413,10 @@ module _ (bytes : List ℕ) (w : World) (P : Pools) (region : IsRegionSize (leng
       (λ e there. thing_kept e.0 e.1 there) (finite.entries w.things) (things_found w)))
       others_kept
 
-  rule_kept : (rule : Rule) (addr : ℕ) → keeps heap reached rule addr ≡ true
+  rule_kept : (rule : OwnerRule) (addr : ℕ) → keeps_owner_rule heap reached rule addr ≡ true
   rule_kept rule addr = by (heap.blocks addr) refl
     where
-      by : (o : Option Block) → heap.blocks addr ≡ o → keeps heap reached rule addr ≡ true
+      by : (o : Option Block) → heap.blocks addr ≡ o → keeps_owner_rule heap reached rule addr ≡ true
       by None is = none_keeps heap reached rule addr is
       by (Some block) is =
           kept_keeps heap reached addr block is (found_at IsKeptEntry (entries_of w) all_kept addr block (sym (stands.same addr) ∙ is)) rule

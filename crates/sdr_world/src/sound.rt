@@ -4,8 +4,8 @@ ghost use Rattle.sdr_audit.specs.Standing.{StandsForWhole};
 ghost use Rattle.sdr_base.specs.Pools.{Pools};
 ghost use Rattle.sdr_model.specs.World.{World};
 ghost use Rattle.sdr_owner.specs.Owned.{AreBytes};
-ghost use Rattle.sdr_region.specs.Region.{IsSound, IsWrongFirst};
-ghost use Rattle.sdr_region.specs.declared.error.Why.{Why};
+ghost use Rattle.sdr_region.specs.Region.{IsSound, RegionIsWrongFirst};
+ghost use Rattle.sdr_region.specs.declared.error.StructureCheck.{StructureCheck};
 
 /// A law: a heap region whose bytes stand for a whole world passes each check of its structure, which finds no place wrong. It does
 /// nothing.
@@ -13,5 +13,5 @@ pub fn worlds_are_sound()
     ensures sound { (bytes : List ℕ) (w : World) (P : Pools) → StandsForWhole bytes w P →
         AreBytes bytes → IsSound bytes P.small P.large }
     ensures right { (bytes : List ℕ) (w : World) (P : Pools) (why : Why) (place : ℕ) →
-        StandsForWhole bytes w P → AreBytes bytes → IsWrongFirst bytes why place → ⊥ }
+        StandsForWhole bytes w P → AreBytes bytes → RegionIsWrongFirst bytes why place → ⊥ }
 {}

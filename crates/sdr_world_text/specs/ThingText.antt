@@ -73,7 +73,7 @@ object_on t z =
 
 -- a thing of a world at an address
 abbrev pub thing_on : World → ℕ → Thing → List ℕ
-thing_on w addr (things.Raw bytes) = raw_on (decimal addr) bytes (unwrap_or (zco.source_on w addr) 0)
+thing_on w addr (things.Raw bytes) = raw_on (decimal addr) bytes (unwrap_or (zco.source_naming w addr) 0)
 thing_on w addr (things.Text text) = string_on (decimal addr) text
 thing_on w addr (things.List row) = list_on (decimal addr) row
 thing_on w addr (things.Table table) = table_on (decimal addr) table

@@ -5,7 +5,7 @@ ghost use Rattle.std.specs.Ordering.{nat_cmp};
 ghost use Rattle.std.specs.Prelude.{◌≡◌, ◌<◌, ◌+◌, ◌^◌, ◌++◌, ◌∷◌, ◌==◌, [], ℕ, List, unwrap_or, IfOk, OnOk, if◌then◌else◌};
 ghost use Rattle.sdr_base.specs.declared.account.Acct.{Acct};
 ghost use Rattle.sdr_model.specs.World.{World};
-ghost use Rattle.sdr_model.specs.Zco.{count_of, naming, source_on, uses_in};
+ghost use Rattle.sdr_model.specs.Zco.{count_of, naming, source_naming, uses_in};
 ghost use Rattle.sdr_model.specs.declared.things.Thing.{Thing};
 ghost use Rattle.sdr_world_text.specs.Tied.{TellsOf, TellsTies, counted_at, counted_by};
 
@@ -113,7 +113,7 @@ impl Tied {
 
     /// The source that names a raw object, 0 for none.
     pub fn source_on(&self, raw: Addr) -> Addr
-        ensures { (w : World) → TellsTies w self.now → result ≡ unwrap_or (source_on w raw) 0 }
+        ensures { (w : World) → TellsTies w self.now → result ≡ unwrap_or (source_naming w raw) 0 }
     {
         self.raws.get(&raw).copied().unwrap_or(0)
     }

@@ -9,7 +9,7 @@ use Rattle.sdr_base.specs.declared.moves.Move.{Move}
 use Rattle.sdr_base.specs.declared.refusal.Refusal.{Refusal}
 use Rattle.sdr_draft.specs.Allowed.{MayCharge, RefusesCharge}
 use Rattle.sdr_model.specs.Amounts.{amounts_by}
-use Rattle.sdr_model.specs.Charging.{Charges, with_used}
+use Rattle.sdr_model.specs.Charging.{Charges, with_covered}
 use Rattle.sdr_model.specs.Dry.{AreInOrder, StepsDry, addr_after, blocks_taken, next_addrs, with_blocks}
 use Rattle.sdr_model.specs.Rows.{ByRow}
 use Rattle.sdr_model.specs.Steps.{DoesWith, Outcome, taken_addresses}
@@ -22,13 +22,14 @@ use Rattle.sdr_undo.proofs.TakenLemmas.{Agree, does-with, run, run-next}
 use Rattle.sdr_zco_calls.proofs.ObjectCallLemmas.{charged-step}
 
 -- the blocks that are taken after a charge are marked behind the marks before it
-pub blocks-used : (w : World) (p : Option Pending) (amounts : Amounts) (n : ℕ) → with_blocks (with_used w p amounts) n
-    ≡ record (with_used w p amounts) { marks = w.marks ++ next_addrs w.taken n; shown = []; taken = w.taken + n }
+pub blocks-used : (w : World) (p : Option Pending) (amounts : Amounts) (n : ℕ) →
+    with_blocks (with_covered w p amounts) n
+    ≡ record (with_covered w p amounts) { marks = w.marks ++ next_addrs w.taken n; shown = []; taken = w.taken + n }
 blocks-used w None amounts n = refl
 blocks-used w (Some p) amounts n = refl
 
 -- a charge takes none
-pub taken-used : (w : World) (p : Option Pending) (amounts : Amounts) → (with_used w p amounts).taken ≡ w.taken
+pub taken-used : (w : World) (p : Option Pending) (amounts : Amounts) → (with_covered w p amounts).taken ≡ w.taken
 taken-used w None amounts = refl
 taken-used w (Some p) amounts = refl
 
@@ -39,7 +40,7 @@ module _ (w wn wb : World) (acct : Acct) (number n : ℕ) (amounts : Amounts) (r
   IsAllowed = IfOk r (MayCharge wn acct number amounts)
 
   abbrev pub IsTaken : Type 0
-  IsTaken = IfOk r (λ p. wb ≡ with_blocks (with_used wn p amounts) n)
+  IsTaken = IfOk r (λ p. wb ≡ with_blocks (with_covered wn p amounts) n)
 
   abbrev pub IsRefused : Type 0
   IsRefused = IfErr r (RefusesCharge wn acct number amounts)
@@ -48,10 +49,10 @@ module _ (w wn wb : World) (acct : Acct) (number n : ℕ) (amounts : Amounts) (r
   allowed-at {p} is allowed =
       subst (λ v. MayCharge v acct number amounts p) same (subst (λ r. IfOk r (MayCharge wn acct number amounts)) is allowed)
 
-  pub taken-at : {p : Option Pending} → r ≡ Ok p → IsTaken → wb ≡ with_blocks (with_used w p amounts) n
+  pub taken-at : {p : Option Pending} → r ≡ Ok p → IsTaken → wb ≡ with_blocks (with_covered w p amounts) n
   taken-at {p} is taken =
-      subst (λ r. IfOk r (λ p. wb ≡ with_blocks (with_used wn p amounts) n)) is taken
-      ∙ ap (λ v. with_blocks (with_used v p amounts) n) same
+      subst (λ r. IfOk r (λ p. wb ≡ with_blocks (with_covered wn p amounts) n)) is taken
+      ∙ ap (λ v. with_blocks (with_covered v p amounts) n) same
 
   pub counted-at : {p : Option Pending} → r ≡ Ok p → IsTaken → wb.taken ≡ w.taken + n
   counted-at {p} is taken = ap (λ (v : World). v.taken) (taken-at is taken ∙ blocks-used w p amounts n)
@@ -79,7 +80,7 @@ module _ (w w' : World) (call : Call) (acct : Acct) (number n : ℕ) (charge : S
   at = addr_after w.taken
 
   -- the call is charged, where its moves, what it leaves and its reply depend on the addresses of the blocks alone
-  pub blocks-step : (p : Option Pending) → MayCharge w acct number amounts p → let used = with_used w p amounts in
+  pub blocks-step : (p : Option Pending) → MayCharge w acct number amounts p → let used = with_covered w p amounts in
       taken_addresses (moves at) ≡ run at 0 n → AreInOrder w.taken (moves at) → blocks_taken (moves at) ≡ n
       → ((to : ℕ → ℕ) → Agree 0 n at to → moves at ≡ moves to)
       → ((to : ℕ → ℕ) → Agree 0 n at to → next used at ≡ next used to)
@@ -88,7 +89,7 @@ module _ (w w' : World) (call : Call) (acct : Acct) (number n : ℕ) (charge : S
       → w' ≡ record (next used at) { marks = w.marks ++ next_addrs w.taken n; shown = []; taken = w.taken + n }
       → StepsDry w call (moves at) w' (reply at)
   blocks-step p may taken in_order count moves_agree next_agree reply_agree kept put =
-      let used : World = with_used w p amounts in
+      let used : World = with_covered w p amounts in
       let after : World = record w' { taken = w.taken } in
       let left : after ≡ record (next used at) { marks = w.marks ++ run at 0 n; shown = [] } =
       ap (λ (v : World). record v { taken = w.taken }) put

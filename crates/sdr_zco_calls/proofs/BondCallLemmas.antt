@@ -17,10 +17,10 @@ use Rattle.sdr_model.specs.BondSteps.{bond_charge, bond_extents, bond_rise, bond
 use Rattle.sdr_model.specs.Charges.{capsule_charge, object_charge}
 use Rattle.sdr_model.specs.Few.{HasFewPieces, most_pieces}
 use Rattle.sdr_model.specs.ObjectSteps.{wire_length}
-use Rattle.sdr_model.specs.Things.{Owners, extent_block, inner_blocks}
+use Rattle.sdr_model.specs.Things.{Owners, block_for_extent, inner_blocks}
 use Rattle.sdr_model.specs.World.{World, thing_at}
 use Rattle.sdr_model.specs.Zco.{capsules_length, extents_length, object_at}
-use Rattle.sdr_model.specs.declared.things.Block.{Block}
+use Rattle.sdr_model.specs.declared.things.UsedBlock.{UsedBlock}
 use Rattle.sdr_model.specs.declared.things.Thing.TheVariants as things
 use Rattle.sdr_model.specs.declared.zco.Capsule.{Capsule}
 use Rattle.sdr_model.specs.declared.zco.Extent.{Extent}
@@ -109,12 +109,12 @@ rise-amounts amounts cs heap is rise = is ∙ λ i. record { file = sym (no_file
 -- extents whose blocks are owned
 owns-bonded : (owners : Owners) (next owner k end : ℕ) (at : ℕ → ℕ) (cs : List Capsule) → k + 3 * length cs ≤ end
     → ((i : ℕ) → i < end → IsOwned owners next owner (at i))
-    → All (Owns owners next owner) (map extent_block (bonded_extents at k cs))
+    → All (Owns owners next owner) (map block_for_extent (bonded_extents at k cs))
 owns-bonded owners next owner k end at [] most owned = All-nil (Owns owners next owner)
 owns-bonded owners next owner k end at (c ∷ cs) most owned =
     All-cons (Owns owners next owner)
-    (extent_block (record { block = at (k + 2); source = at (k + 1); offset = 0; length = length c.text }))
-    (map extent_block (bonded_extents at (k + 3) cs))
+    (block_for_extent (record { block = at (k + 2); source = at (k + 1); offset = 0; length = length c.text }))
+    (map block_for_extent (bonded_extents at (k + 3) cs))
     (owned (k + 2) (omega (arith, most)))
     (owns-bonded owners next owner (k + 3) end at cs (omega (arith, most)) owned)
 
@@ -127,16 +127,16 @@ pub owned-bonded : (owners now : Owners) (next more k : ℕ) (at : ℕ → ℕ) 
 owned-bonded owners now next more k at z higher stay owns owned = record {
   below = omega (arith, owns.below);
   inside = all_blocks P (bonded at z) (All-nil P)
-      (subst (All P) (sym (map-append extent_block (front ++ z.extents) back
-      ∙ ap (λ l. l ++ map extent_block back) (map-append extent_block front z.extents)))
-      (All-append P (map extent_block front ++ map extent_block z.extents) (map extent_block back)
-      (All-append P (map extent_block front) (map extent_block z.extents)
+      (subst (All P) (sym (map-append block_for_extent (front ++ z.extents) back
+      ∙ ap (λ l. l ++ map block_for_extent back) (map-append block_for_extent front z.extents)))
+      (All-append P (map block_for_extent front ++ map block_for_extent z.extents) (map block_for_extent back)
+      (All-append P (map block_for_extent front) (map block_for_extent z.extents)
       (owns-bonded now more k 0 end at z.headers (omega (arith, size)) owned) (extents_of P z kept))
       (owns-bonded now more k (3 * length z.headers) end at z.trailers (omega (arith, size)) owned)))
       (All-nil P);
 }
   where
-    P : Block → Type 0
+    P : UsedBlock → Type 0
     P = Owns now more k
 
     front : List Extent

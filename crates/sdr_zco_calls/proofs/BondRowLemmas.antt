@@ -7,7 +7,7 @@ use Rattle.sdr_base.specs.declared.refusal.Refusal.{Refusal}
 use Rattle.sdr_model.specs.declared.accounts.Pending.{Pending}
 use Rattle.sdr_model.specs.Amounts.{amounts_by}
 use Rattle.sdr_model.specs.BondSteps.{bond_charge, bond_moves, bonded, capsules_of, with_bonded}
-use Rattle.sdr_model.specs.Charging.{Charges, with_used}
+use Rattle.sdr_model.specs.Charging.{Charges, with_covered}
 use Rattle.sdr_model.specs.Dry.{StepsDry, addr_after, dry_moves, next_addr, next_addrs, with_blocks}
 use Rattle.sdr_model.specs.ObjectSteps.{with_object}
 use Rattle.sdr_model.specs.RowMoves.{bond_moves_of}
@@ -148,7 +148,7 @@ module _ (w wn wb : World) (r : Result (Option Pending) Refusal) (same : wn ≡ 
       → w' ≡ with_object (with_bonded wb (λ i. first + 8 * i) 0 capsules) k after
       → StepsDry w call (dry_moves w call replies.Done) w' replies.Done
   bond-step w' p ok allowed taken put =
-      let used : World = with_used w p amounts in
+      let used : World = with_covered w p amounts in
       let texts : List Capsule → World = with_bonded (with_blocks used n) (λ i. first + 8 * i) 0 in
       subst (λ o. StepsDry w call (bond_moves_of o at) w' replies.Done) there
       (blocks-step w w' call z.account number n (bond_charge cs) amounts (λ at. bond_moves at 0 cs) with_texts

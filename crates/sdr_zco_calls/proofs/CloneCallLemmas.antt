@@ -13,7 +13,7 @@ use Rattle.sdr_model.specs.Accounts.{most_amount}
 use Rattle.sdr_model.specs.declared.accounts.Pending.{Pending}
 use Rattle.sdr_model.specs.Amounts.{amounts_by}
 use Rattle.sdr_model.specs.Charges.{object_charge}
-use Rattle.sdr_model.specs.Charging.{Charges, with_used}
+use Rattle.sdr_model.specs.Charging.{Charges, with_covered}
 use Rattle.sdr_model.specs.Cuts.{cut_all, placed}
 use Rattle.sdr_model.specs.Dry.{StepsDry, addr_after, dry_moves, next_addr, with_blocks}
 use Rattle.sdr_model.specs.ObjectSteps.{InRange, with_object}
@@ -22,7 +22,7 @@ use Rattle.sdr_model.specs.PartSteps.{asked_extents, clone_moves, object_of}
 use Rattle.sdr_model.specs.RowMoves.{clone_moves_of}
 use Rattle.sdr_model.specs.Rows.{ByRow}
 use Rattle.sdr_model.specs.Steps.{DoesWith, On, Outcome}
-use Rattle.sdr_model.specs.Things.{Owners, extent_block}
+use Rattle.sdr_model.specs.Things.{Owners, block_for_extent}
 use Rattle.sdr_model.specs.World.{World, thing_at}
 use Rattle.sdr_model.specs.Zco.{object_at}
 use Rattle.sdr_model.specs.declared.answer.Reply.TheVariants as replies
@@ -69,10 +69,10 @@ clone-charge w acct at from to z small =
 -- extents whose blocks are owned
 owns-placed : (owners : Owners) (next owner k end : ℕ) (at : ℕ → ℕ) (es : List Extent) → k + length es ≤ end
     → ((i : ℕ) → i < end → IsOwned owners next owner (at i))
-    → All (Owns owners next owner) (map extent_block (placed at k es))
+    → All (Owns owners next owner) (map block_for_extent (placed at k es))
 owns-placed owners next owner k end at [] most owned = All-nil (Owns owners next owner)
 owns-placed owners next owner k end at (e ∷ es) most owned =
-    All-cons (Owns owners next owner) (extent_block (record e { block = at k })) (map extent_block (placed at (suc k) es))
+    All-cons (Owns owners next owner) (block_for_extent (record e { block = at k })) (map block_for_extent (placed at (suc k) es))
     (owned k (omega (arith, most))) (owns-placed owners next owner (suc k) end at es (omega (arith, most)) owned)
 
 -- The call that clones a part of an object that is there, which lies inside its part. The clone's first block is the next.
@@ -159,9 +159,9 @@ module _ (w wn wb : World) (r : Result (Option Pending) Refusal) (same : wn ≡ 
       (λ at. replies.At (at 0)) row is p (allowed-at w wn wb z.account number n amounts r same ok allowed)
       (clone-taken at extents ∙ ap (run at 0) (sym count)) (clone-in_order w.taken extents) (clone-blocks at extents ∙ sym count)
       (λ to agree. clone-agree at to extents (λ i from below. agree i from (omega (arith, below, count))))
-      (next-agree (with_used w p amounts) at)
+      (next-agree (with_covered w p amounts) at)
       (λ to agree. ap (λ a. replies.At a) (agree 0 (omega arith) (omega (arith, count))))
       (taken-used w p amounts)
       (put ∙ ap (λ v. with_object v made clone) (taken-at w wn wb z.account number n amounts r same ok taken)
-      ∙ ap₂ (λ k y. with_object (with_blocks (with_used w p amounts) n) k y) here object
+      ∙ ap₂ (λ k y. with_object (with_blocks (with_covered w p amounts) n) k y) here object
       ∙ ap (λ v. with_object v (next_addr w.taken) (object_of z.account (placed at 1 extents))) (blocks-used w p amounts n))))

@@ -7,27 +7,29 @@ use Rattle.sdr_base.specs.declared.kind.Space.{Space}
 use Rattle.sdr_base.specs.declared.kind.Space.TheVariants as spaces
 use Rattle.sdr_model.specs.Charges.{bytes_charge, extent_charge, space_in}
 use Rattle.sdr_model.specs.Cuts.{cut, cut_all, left_out, placed}
-use Rattle.sdr_model.specs.Things.{extent_block}
+use Rattle.sdr_model.specs.Things.{block_for_extent}
 use Rattle.sdr_model.specs.World.{World}
 use Rattle.sdr_model.specs.Zco.{extents_length, naming, source_at}
-use Rattle.sdr_model.specs.declared.things.Block.{Block}
+use Rattle.sdr_model.specs.declared.things.UsedBlock.{UsedBlock}
 use Rattle.sdr_model.specs.declared.zco.Extent.{Extent}
 
 -- what holds of each extent's block holds of the blocks of those that are left
-pub All-cut_all : (P : Block → Type 0) (from to : ℕ) (es : List Extent) → All P (map extent_block es)
-    → All P (map extent_block (cut_all from to es))
+pub All-cut_all : (P : UsedBlock → Type 0) (from to : ℕ) (es : List Extent) → All P (map block_for_extent es)
+    → All P (map block_for_extent (cut_all from to es))
 All-cut_all P from to [] all = All-nil P
 All-cut_all P from to (e ∷ es) all =
     kept ((cut from to e).length == 0)
-    (All-cut_all P (from - e.length) (to - e.length) es (All-tail P (extent_block e) (map extent_block es) all))
+    (All-cut_all P (from - e.length) (to - e.length) es (All-tail P (block_for_extent e) (map block_for_extent es) all))
   where
     rest : List Extent
     rest = cut_all (from - e.length) (to - e.length) es
 
-    kept : (b : Bool) → All P (map extent_block rest) → All P (map extent_block (cond b rest (cut from to e ∷ rest)))
+    kept : (b : Bool) → All P (map block_for_extent rest) →
+        All P (map block_for_extent (cond b rest (cut from to e ∷ rest)))
     kept true left = left
     kept false left =
-        All-cons P (extent_block e) (map extent_block rest) (All-head P (extent_block e) (map extent_block es) all) left
+        All-cons P (block_for_extent e) (map block_for_extent rest)
+            (All-head P (block_for_extent e) (map block_for_extent es) all) left
 
 -- the extents that are left out name a source no more often than all
 pub naming-left_out : (source from to : ℕ) (es : List Extent) → naming source (left_out from to es) ≤ naming source es

@@ -11,7 +11,7 @@ use Rattle.sdr_changes.proofs.ComponentLemmas.{allowed_at, grown_at, refused_at}
 use Rattle.sdr_draft.proofs.ChargeLemmas.{charge_allowed, charge_refused}
 use Rattle.sdr_draft.specs.Allowed.{MayCharge, RefusesCharge}
 use Rattle.sdr_model.specs.Amounts.{amounts_by}
-use Rattle.sdr_model.specs.Charging.{Charges, with_used}
+use Rattle.sdr_model.specs.Charging.{Charges, with_covered}
 use Rattle.sdr_model.specs.Dry.{AreInOrder, StepsDry, blocks_taken, next_addr, with_blocks}
 use Rattle.sdr_model.specs.ObjectSteps.{with_object}
 use Rattle.sdr_model.specs.Rows.{ByRow}
@@ -28,20 +28,20 @@ use Rattle.sdr_parts.specs.declared.component.Component.{Component}
 
 -- a charge and blocks leave the things
 pub thing_at-blocks : (w : World) (p : Option Pending) (amounts : Amounts) (count k : ℕ)
-    → thing_at (with_blocks (with_used w p amounts) count) k ≡ thing_at w k
+    → thing_at (with_blocks (with_covered w p amounts) count) k ≡ thing_at w k
 thing_at-blocks w None amounts count k = refl
 thing_at-blocks w (Some p) amounts count k = refl
 
 -- the one block that is taken after a charge
 put_one : (w : World) (p : Option Pending) (amounts : Amounts) (k : ℕ) (z : ZcoObject)
-    → record (with_object (with_blocks (with_used w p amounts) 1) k z) { taken = w.taken }
-    ≡ record (with_object (with_used w p amounts) k z) { marks = w.marks ++ next_addr w.taken ∷ []; shown = [] }
+    → record (with_object (with_blocks (with_covered w p amounts) 1) k z) { taken = w.taken }
+    ≡ record (with_object (with_covered w p amounts) k z) { marks = w.marks ++ next_addr w.taken ∷ []; shown = [] }
 put_one w None amounts k z = refl
 put_one w (Some p) amounts k z = refl
 
 -- it is counted
 taken_one : (w w' : World) (p : Option Pending) (amounts : Amounts) (k : ℕ) (z : ZcoObject)
-    → w' ≡ with_object (with_blocks (with_used w p amounts) 1) k z → w'.taken ≡ w.taken + 1
+    → w' ≡ with_object (with_blocks (with_covered w p amounts) 1) k z → w'.taken ≡ w.taken + 1
 taken_one w w' None amounts k z is = ap (λ (v : World). v.taken) is
 taken_one w w' (Some p) amounts k z is = ap (λ (v : World). v.taken) is
 
@@ -64,7 +64,7 @@ module _ (w w' : World) (call : Call) (acct : Acct) (number : ℕ) (charge : Spa
   -- it is charged, and goes on
   pub charged-step : (p : Option Pending) (moves : List Move) (reply : Reply) → MayCharge w acct number amounts p
       → AreInOrder w.taken moves → w'.taken ≡ w.taken + blocks_taken moves
-      → goes (record { moves = moves; after = record w' { taken = w.taken }; reply = reply }) (with_used w p amounts)
+      → goes (record { moves = moves; after = record w' { taken = w.taken }; reply = reply }) (with_covered w p amounts)
       → StepsDry w call moves w' reply
   charged-step p moves reply may in_order counted on =
       let o : Outcome = record { moves = moves; after = record w' { taken = w.taken }; reply = reply } in
@@ -76,7 +76,7 @@ pub one-step : (w w' : World) (call : Call) (acct : Acct) (number need : ℕ) (c
     → ((o : Outcome) → Charges w o acct number charge (λ used. Takes w o need (λ addr. with_object used (at addr) (object addr)) reply)
     → ByRow w o call)
     → amounts ≡ amounts_by charge → (p : Option Pending) → MayCharge w acct number amounts p → let addr = next_addr w.taken in
-    w' ≡ with_object (with_blocks (with_used w p amounts) 1) (at addr) (object addr)
+    w' ≡ with_object (with_blocks (with_covered w p amounts) 1) (at addr) (object addr)
     → StepsDry w call (Took need addr ∷ []) w' (reply addr)
 one-step w w' call acct number need charge amounts at object reply row is p may put =
     let addr = next_addr w.taken in
@@ -109,7 +109,7 @@ module _ (w w' : World) (call : Call) (k number need : ℕ) (z : ZcoObject) (mad
   -- it is charged
   pub component-step : (r : Result (Option Pending) Refusal) (p : Option Pending) → r ≡ Ok p
       → IfOk r (λ p. IfSome (object_at w k) (λ z. MayCharge w z.account number (component_charges w component) p))
-      → IfOk r (λ p. Grows (object_at w k) k component (with_blocks (with_used w p (component_charges w component)) 1) w')
+      → IfOk r (λ p. Grows (object_at w k) k component (with_blocks (with_covered w p (component_charges w component)) 1) w')
       → StepsDry w call (Took need (next_addr w.taken) ∷ []) w' replies.Done
   component-step r p ok may added =
       let of : Component = made (next_addr w.taken) in

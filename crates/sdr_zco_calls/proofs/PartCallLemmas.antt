@@ -9,13 +9,13 @@ use Rattle.sdr_model.specs.Queue.{with_served}
 use Rattle.sdr_model.specs.RowMoves.{block_of_capsule, first_header, last_trailer}
 use Rattle.sdr_model.specs.Rows.{ByRow}
 use Rattle.sdr_model.specs.Steps.{On, Outcome, gave}
-use Rattle.sdr_model.specs.Things.{Owners, capsule_block, extent_block}
+use Rattle.sdr_model.specs.Things.{Owners, block_for_capsule, block_for_extent}
 use Rattle.sdr_model.specs.World.{World}
 use Rattle.sdr_model.specs.Zco.{object_at}
 use Rattle.sdr_model.specs.declared.answer.Reply.TheVariants as replies
 use Rattle.sdr_model.specs.declared.call.Call.{Call}
 use Rattle.sdr_model.specs.declared.call.Call.TheVariants as calls
-use Rattle.sdr_model.specs.declared.things.Block.{Block}
+use Rattle.sdr_model.specs.declared.things.UsedBlock.{UsedBlock}
 use Rattle.sdr_model.specs.declared.things.Thing.TheVariants as things
 use Rattle.sdr_model.specs.declared.zco.Capsule.{Capsule}
 use Rattle.sdr_model.specs.declared.zco.ZcoObject.{ZcoObject}
@@ -24,30 +24,30 @@ use Rattle.sdr_undo.specs.Owners.{Owns, OwnsInside}
 
 -- it still owns the others
 module _ (owners : Owners) (next k : ℕ) (z : ZcoObject) (owns : OwnsInside owners next k (things.Object z)) where
-  abbrev P : Block → Type 0
+  abbrev P : UsedBlock → Type 0
   P = Owns owners next k
 
-  abbrev front : List Capsule → List Block
-  front headers = map capsule_block headers ++ map extent_block z.extents
+  abbrev front : List Capsule → List UsedBlock
+  front headers = map block_for_capsule headers ++ map block_for_extent z.extents
 
   pub owned-without_header : OwnsInside owners next k (things.Object (record z { headers = drop 1 z.headers }))
   owned-without_header = record { below = owns.below; inside = by z.headers owns.inside }
     where
-      by : (headers : List Capsule) → All P (front headers ++ map capsule_block z.trailers)
-          → All P (front (drop 1 headers) ++ map capsule_block z.trailers)
+      by : (headers : List Capsule) → All P (front headers ++ map block_for_capsule z.trailers)
+          → All P (front (drop 1 headers) ++ map block_for_capsule z.trailers)
       by [] all = all
-      by (c ∷ cs) all = All-tail P (capsule_block c) (front cs ++ map capsule_block z.trailers) all
+      by (c ∷ cs) all = All-tail P (block_for_capsule c) (front cs ++ map block_for_capsule z.trailers) all
 
   pub owned-without_trailers : (n : ℕ) → OwnsInside owners next k (things.Object (record z { trailers = take n z.trailers }))
   owned-without_trailers n = record { below = owns.below; inside = by (front z.headers) owns.inside }
     where
-      by : (blocks : List Block) → All P (blocks ++ map capsule_block z.trailers)
-          → All P (blocks ++ map capsule_block (take n z.trailers))
+      by : (blocks : List UsedBlock) → All P (blocks ++ map block_for_capsule z.trailers)
+          → All P (blocks ++ map block_for_capsule (take n z.trailers))
       by [] all =
-          All-map P capsule_block (take n z.trailers) (All-take (λ c. P (capsule_block c)) n z.trailers (All-from_map P capsule_block z.trailers all))
+          All-map P block_for_capsule (take n z.trailers) (All-take (λ c. P (block_for_capsule c)) n z.trailers (All-from_map P block_for_capsule z.trailers all))
       by (b ∷ bs) all =
-          All-cons P b (bs ++ map capsule_block (take n z.trailers)) (All-head P b (bs ++ map capsule_block z.trailers) all)
-          (by bs (All-tail P b (bs ++ map capsule_block z.trailers) all))
+          All-cons P b (bs ++ map block_for_capsule (take n z.trailers)) (All-head P b (bs ++ map block_for_capsule z.trailers) all)
+          (by bs (All-tail P b (bs ++ map block_for_capsule z.trailers) all))
 
 -- the call in which it goes
 module _ (w w' : World) (addr : ℕ) (z : ZcoObject) (there : object_at w addr ≡ Some z) where

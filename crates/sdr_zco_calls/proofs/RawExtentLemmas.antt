@@ -11,7 +11,7 @@ use Rattle.sdr_draft.specs.Allowed.{MayCharge}
 use Rattle.sdr_model.proofs.ThingsLemmas.{get-with_at, same_address, same_things}
 use Rattle.sdr_model.specs.Amounts.{amounts_by}
 use Rattle.sdr_model.specs.Charges.{bytes_charge}
-use Rattle.sdr_model.specs.Charging.{Charges, with_used}
+use Rattle.sdr_model.specs.Charging.{Charges, with_covered}
 use Rattle.sdr_model.specs.Dry.{StepsDry, addr_after, dry_moves, next_addr, next_addrs, with_blocks}
 use Rattle.sdr_model.specs.ObjectSteps.{AppendsRaw, AppendsSource, InRange, raw_append_moves, with_extent, with_object}
 use Rattle.sdr_model.specs.RowMoves.{append_moves}
@@ -20,7 +20,7 @@ use Rattle.sdr_model.specs.SourceSteps.{new_source}
 use Rattle.sdr_model.specs.Steps.{DoesWith, On, Outcome, Refuses, with_thing}
 use Rattle.sdr_model.specs.Things.{with_at}
 use Rattle.sdr_model.specs.World.{World, as_raw, thing_at}
-use Rattle.sdr_model.specs.Zco.{as_object, object_at, source_at, source_on, uses_of}
+use Rattle.sdr_model.specs.Zco.{as_object, object_at, source_at, source_naming, uses_of}
 use Rattle.sdr_model.specs.declared.accounts.Pending.{Pending}
 use Rattle.sdr_model.specs.declared.answer.Reply.TheVariants as replies
 use Rattle.sdr_model.specs.declared.call.Call.{Call}
@@ -54,14 +54,14 @@ made_behind w k src z object thing there none =
 
 -- the two blocks that are taken after a charge, where things change too
 put_two : (w : World) (p : Option Pending) (amounts : Amounts) (k src : ℕ) (object thing : Thing)
-    → record (with_thing (with_thing (with_blocks (with_used w p amounts) 2) src thing) k object) { taken = w.taken }
-    ≡ record (with_thing (with_thing (with_used w p amounts) src thing) k object) { marks = w.marks ++ next_addrs w.taken 2; shown = [] }
+    → record (with_thing (with_thing (with_blocks (with_covered w p amounts) 2) src thing) k object) { taken = w.taken }
+    ≡ record (with_thing (with_thing (with_covered w p amounts) src thing) k object) { marks = w.marks ++ next_addrs w.taken 2; shown = [] }
 put_two w None amounts k src object thing = refl
 put_two w (Some p) amounts k src object thing = refl
 
 -- they are counted
 taken_two : (w : World) (p : Option Pending) (amounts : Amounts) (k src : ℕ) (object thing : Thing)
-    → (with_thing (with_thing (with_blocks (with_used w p amounts) 2) src thing) k object).taken ≡ w.taken + 2
+    → (with_thing (with_thing (with_blocks (with_covered w p amounts) 2) src thing) k object).taken ≡ w.taken + 2
 taken_two w None amounts k src object thing = refl
 taken_two w (Some p) amounts k src object thing = refl
 
@@ -81,7 +81,7 @@ module _ (w : World) (k number named offset bytes : ℕ) (z : ZcoObject) (text :
       DoesWith w o raw_append_moves (λ at. with_object (with_thing used (at 0) taking) k (extended (at 0) (at 1))) (λ at. replies.Done)
 
   module _ (there : object_at w k ≡ Some z) (none : source_at w named ≡ None) (raw : as_raw (thing_at w named) ≡ Some text)
-      (unnamed : source_on w named ≡ None) (inside : (bytes == 0 || nat_lt (length text) (offset + bytes)) ≡ false) where
+      (unnamed : source_naming w named ≡ None) (inside : (bytes == 0 || nat_lt (length text) (offset + bytes)) ≡ false) where
     -- its row
     pub raw-row : (o : Outcome) → Charges w o z.account number (bytes_charge spaces.Heap bytes) (AppendsAt o)
         → ByRow w o (calls.AppendExtent k number named offset bytes)
@@ -101,14 +101,14 @@ module _ (w : World) (k number named offset bytes : ℕ) (z : ZcoObject) (text :
     pub raw-step : (w' : World) (p : Option Pending) (amounts : Amounts) → amounts ≡ amounts_by (bytes_charge spaces.Heap bytes)
         → MayCharge w z.account number amounts p
         → let src = next_addr w.taken in get w.things src ≡ None
-        → w' ≡ with_thing (with_object (with_blocks (with_used w p amounts) 2) k (extended src (next_addr (w.taken + 1)))) src taking
+        → w' ≡ with_thing (with_object (with_blocks (with_covered w p amounts) 2) k (extended src (next_addr (w.taken + 1)))) src taking
         → let call : Call = calls.AppendExtent k number named offset bytes in
         StepsDry w call (dry_moves w call replies.Done) w' replies.Done
     raw-step w' p amounts is may fresh put =
         let call : Call = calls.AppendExtent k number named offset bytes in
         let src : ℕ = next_addr w.taken in
         let object : Thing = things.Object (extended src (next_addr (w.taken + 1))) in
-        let charged : World = with_blocks (with_used w p amounts) 2 in
+        let charged : World = with_blocks (with_covered w p amounts) 2 in
         let after : w' ≡ with_thing (with_thing charged src taking) k object =
         put
         ∙ made_behind charged k src z object taking (ap as_object (thing_at-blocks w p amounts 2 k) ∙ there)

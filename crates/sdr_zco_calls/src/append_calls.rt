@@ -1,6 +1,6 @@
 // What the call that adds an extent does to a world.
 ghost use Rattle.std.specs.Prelude.{◌≡◌, ◌||◌, ◌+◌, ◌==◌, IsSome, None, nat_lt};
-ghost use Rattle.sdr_calls.specs.Answers.{Answers};
+ghost use Rattle.sdr_calls.specs.Answers.{CallsMemory};
 ghost use Rattle.sdr_draft.specs.Calling.{MayCall};
 ghost use Rattle.sdr_model.specs.Zco.{object_at, source_at};
 ghost use Rattle.sdr_parts.specs.declared.component.Component.TheVariants as components;
@@ -68,7 +68,7 @@ fn append_source(world: &mut Undoable, asked: &Append) -> Result<Reply, NoMemory
     requires may { MayCall world.old.now }
     requires object { IsSome (object_at world.old.now asked.now.object) }
     requires source { IsSome (source_at world.old.now asked.now.named) }
-    ensures { Answers (Call.AppendExtent asked.now.object asked.now.ticket asked.now.named
+    ensures { CallsMemory (Call.AppendExtent asked.now.object asked.now.ticket asked.now.named
         asked.now.offset asked.now.bytes)
         world.old world.new result }
 {
@@ -93,7 +93,7 @@ fn append_raw(world: &mut Undoable, asked: &Append) -> Result<Reply, NoMemory>
     requires may { MayCall world.old.now }
     requires object { IsSome (object_at world.old.now asked.now.object) }
     requires no_source { source_at world.old.now asked.now.named ≡ None }
-    ensures { Answers (Call.AppendExtent asked.now.object asked.now.ticket asked.now.named
+    ensures { CallsMemory (Call.AppendExtent asked.now.object asked.now.ticket asked.now.named
         asked.now.offset asked.now.bytes)
         world.old world.new result }
 {
@@ -128,7 +128,7 @@ fn append_raw(world: &mut Undoable, asked: &Append) -> Result<Reply, NoMemory>
 /// all things.
 pub fn append_extent(world: &mut Undoable, asked: &Append) -> Result<Reply, NoMemory>
     requires may { MayCall world.old.now }
-    ensures { Answers (Call.AppendExtent asked.now.object asked.now.ticket asked.now.named
+    ensures { CallsMemory (Call.AppendExtent asked.now.object asked.now.ticket asked.now.named
         asked.now.offset asked.now.bytes)
         world.old world.new result }
 {

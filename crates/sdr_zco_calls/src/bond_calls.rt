@@ -1,6 +1,6 @@
 // Objects whose headers and trailers become extents.
 ghost use Rattle.std.specs.Prelude.{◌≡◌, ◌≤◌, ◌<◌, ◌+◌, ◌*◌, ◌^◌, ◌++◌, [], ℕ, IfOk, OnOk, length, sum_by};
-ghost use Rattle.sdr_calls.specs.Answers.{Answers};
+ghost use Rattle.sdr_calls.specs.Answers.{CallsMemory};
 ghost use Rattle.sdr_draft.specs.Calling.{MayCall};
 ghost use Rattle.sdr_model.specs.Amounts.{amounts_by};
 ghost use Rattle.sdr_model.specs.BondSteps.{bond_charge, bonded, bonded_extents, capsules_of};
@@ -103,7 +103,7 @@ fn bond_charge(capsules: &[Capsule]) -> Amounts
 /// each header and trailer, and goes over all things for the charge.
 pub fn bond(alloc: Global, world: &mut Undoable, addr: Addr, number: u64) -> Result<Reply, NoMemory>
     requires may { MayCall world.old.now }
-    ensures { Answers (Call.Bond addr number) world.old world.new result }
+    ensures { CallsMemory (Call.Bond addr number) world.old world.new result }
 {
     let Some(object) = object(world, addr) else {
         return Ok(misnamed(world, addr));

@@ -1,6 +1,6 @@
 // What calls that add headers and trailers do to a world.
 ghost use Rattle.std.specs.Prelude.{◌≡◌};
-ghost use Rattle.sdr_calls.specs.Answers.{Answers};
+ghost use Rattle.sdr_calls.specs.Answers.{CallsMemory};
 ghost use Rattle.sdr_draft.specs.Calling.{MayCall};
 ghost use Rattle.sdr_parts.specs.Sides.{capsule_call};
 
@@ -24,7 +24,7 @@ fn add_capsule(
     text: &Bytes,
 ) -> Result<Reply, NoMemory>
     requires may { MayCall world.old.now }
-    ensures { Answers (capsule_call side addr number text.now) world.old world.new result }
+    ensures { CallsMemory (capsule_call side addr number text.now) world.old world.new result }
 {
     if object(world, addr).is_none() {
         return Ok(misnamed(world, addr));
@@ -50,7 +50,7 @@ pub fn prepend_header(
     text: &Bytes,
 ) -> Result<Reply, NoMemory>
     requires may { MayCall world.old.now }
-    ensures { Answers (Call.PrependHeader addr number text.now) world.old world.new result }
+    ensures { CallsMemory (Call.PrependHeader addr number text.now) world.old world.new result }
 {
     add_capsule(alloc, world, Side::Front, addr, number, text)
 }
@@ -63,7 +63,7 @@ pub fn append_trailer(
     text: &Bytes,
 ) -> Result<Reply, NoMemory>
     requires may { MayCall world.old.now }
-    ensures { Answers (Call.AppendTrailer addr number text.now) world.old world.new result }
+    ensures { CallsMemory (Call.AppendTrailer addr number text.now) world.old world.new result }
 {
     add_capsule(alloc, world, Side::Back, addr, number, text)
 }

@@ -1,6 +1,6 @@
 // What the call that clones a part of an object does to a world.
 ghost use Rattle.std.specs.Prelude.{◌≡◌, ◌≤◌, ◌<◌, ◌+◌, ◌*◌, ◌^◌, ℕ, length, IfOk};
-ghost use Rattle.sdr_calls.specs.Answers.{Answers};
+ghost use Rattle.sdr_calls.specs.Answers.{CallsMemory};
 ghost use Rattle.sdr_draft.specs.Calling.{MayCall};
 ghost use Rattle.sdr_model.specs.Cuts.{placed};
 ghost use Rattle.sdr_model.specs.PartSteps.{asked_extents, object_of};
@@ -68,7 +68,7 @@ pub fn clone_part(
     bytes: u64,
 ) -> Result<Reply, NoMemory>
     requires may { MayCall world.old.now }
-    ensures { Answers (Call.ClonePart addr number offset bytes) world.old world.new result }
+    ensures { CallsMemory (Call.ClonePart addr number offset bytes) world.old world.new result }
 {
     let Some(object) = object(world, addr) else {
         return Ok(misnamed(world, addr));

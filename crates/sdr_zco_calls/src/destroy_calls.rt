@@ -1,5 +1,5 @@
 // What a call that destroys an object does to a world.
-ghost use Rattle.sdr_calls.specs.Answers.{Answers};
+ghost use Rattle.sdr_calls.specs.Answers.{CallsMemory};
 ghost use Rattle.sdr_draft.specs.Calling.{MayCall};
 
 use crate::gone::gone_things;
@@ -15,7 +15,7 @@ use std::alloc::Global;
 /// logarithm of the object's sources.
 pub fn destroy(alloc: Global, world: &mut Undoable, addr: Addr) -> Result<Reply, NoMemory>
     requires may { MayCall world.old.now }
-    ensures { Answers (Call.Destroy addr) world.old world.new result }
+    ensures { CallsMemory (Call.Destroy addr) world.old world.new result }
 {
     let Some(object) = object(world, addr) else {
         return Ok(misnamed(world, addr));

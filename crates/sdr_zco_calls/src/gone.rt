@@ -43,18 +43,18 @@ fn add_passing(world: &Undoable, addr: Addr, gone: &mut Items<Addr>) -> Result<(
     Ok(())
 }
 
-// Adds it where it loses its last extent, as so many that go name it, and so many in all.
-fn add_last(
+// Adds the blocks of the source at `addr` to those that go, if all its `uses` are among the `going` extents.
+fn add_if_last(
     world: &Undoable,
     addr: Addr,
-    count: u64,
+    going: u64,
     uses: u64,
     gone: &mut Items<Addr>,
 ) -> Result<(), NoMemory>
     ensures { OnOk result (gone.new ≡ gone.old ++
-        (if count == uses then source_blocks addr (source_at world.now.now addr) else [])) }
+        (if going == uses then source_blocks addr (source_at world.now.now addr) else [])) }
 {
-    if count == uses {
+    if going == uses {
         add_passing(world, addr, gone)?;
     }
     Ok(())
@@ -119,7 +119,7 @@ pub fn gone_things(
     for extent in extents {
         let count = count_one(&mut seen, extent.source)?;
         let all = count_at(&uses, extent.source);
-        add_last(world, extent.source, count, all, &mut gone)?;
+        add_if_last(world, extent.source, count, all, &mut gone)?;
     }
     Ok(gone)
 }

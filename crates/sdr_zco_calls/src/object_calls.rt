@@ -1,7 +1,7 @@
 // What calls on objects do to a world.
 ghost use Rattle.std.specs.Option.{option_copied};
 ghost use Rattle.std.specs.Prelude.{◌≡◌, IfSome};
-ghost use Rattle.sdr_calls.specs.Answers.{Answers};
+ghost use Rattle.sdr_calls.specs.Answers.{CallsMemory};
 ghost use Rattle.sdr_draft.specs.Calling.{MayCall};
 ghost use Rattle.sdr_model.specs.Zco.{object_at};
 ghost use Rattle.sdr_model.specs.declared.things.Thing.{Thing};
@@ -31,7 +31,7 @@ pub fn object(world: &Undoable, addr: Addr) -> Option<&ZcoObject>
 
 pub fn zco_length(world: &mut Undoable, addr: Addr) -> Result<Reply, NoMemory>
     requires may { MayCall world.old.now }
-    ensures { Answers (Call.ZcoLength addr) world.old world.new result }
+    ensures { CallsMemory (Call.ZcoLength addr) world.old world.new result }
 {
     let Some(object) = object(world, addr) else {
         return Ok(misnamed(world, addr));
@@ -43,7 +43,7 @@ pub fn zco_length(world: &mut Undoable, addr: Addr) -> Result<Reply, NoMemory>
 
 pub fn source_length(world: &mut Undoable, addr: Addr) -> Result<Reply, NoMemory>
     requires may { MayCall world.old.now }
-    ensures { Answers (Call.SourceLength addr) world.old world.new result }
+    ensures { CallsMemory (Call.SourceLength addr) world.old world.new result }
 {
     let Some(object) = object(world, addr) else {
         return Ok(misnamed(world, addr));
@@ -61,7 +61,7 @@ pub fn create(
     number: u64,
 ) -> Result<Reply, NoMemory>
     requires may { MayCall world.old.now }
-    ensures { Answers (Call.Create acct number) world.old world.new result }
+    ensures { CallsMemory (Call.Create acct number) world.old world.new result }
 {
     let addr = world.next();
     world.touch(addr)?;
@@ -78,7 +78,7 @@ pub fn create(
 /// the world.
 pub fn delimit(world: &mut Undoable, addr: Addr, offset: u64, bytes: u64) -> Result<Reply, NoMemory>
     requires may { MayCall world.old.now }
-    ensures { Answers (Call.Delimit addr offset bytes) world.old world.new result }
+    ensures { CallsMemory (Call.Delimit addr offset bytes) world.old world.new result }
 {
     let Some(object) = object(world, addr) else {
         return Ok(misnamed(world, addr));

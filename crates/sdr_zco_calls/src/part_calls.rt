@@ -1,8 +1,8 @@
 // What calls that take parts of objects off do to a world.
 ghost use Rattle.std.specs.Prelude.{◌≡◌, [], Contains, true};
-ghost use Rattle.sdr_calls.specs.Answers.{Answers};
+ghost use Rattle.sdr_calls.specs.Answers.{CallsMemory};
 ghost use Rattle.sdr_draft.specs.Calling.{MayCall};
-ghost use Rattle.sdr_draft.specs.Keeps.{Keeps};
+ghost use Rattle.sdr_draft.specs.Keeps.{SameBegin};
 ghost use Rattle.sdr_model.specs.ObjectSteps.{with_object};
 ghost use Rattle.sdr_model.specs.Queue.{with_served};
 ghost use Rattle.sdr_model.specs.declared.things.Thing.{Thing as GhostThing};
@@ -21,7 +21,7 @@ fn put_and_serve(world: &mut Undoable, addr: Addr, object: ZcoObject)
     requires may_put { MayPut world.old addr (GhostThing.Object object) }
     ensures put { world.new.now
         ≡ record (with_served (with_object world.old.now addr object) object.account) { shown = [] } }
-    ensures keeps { Keeps world.old world.new }
+    ensures keeps { SameBegin world.old world.new }
 {
     let acct = object.account;
     world.put(addr, Thing::Object(object));
@@ -34,7 +34,7 @@ fn put_and_serve(world: &mut Undoable, addr: Addr, object: ZcoObject)
 #[tactic(auto, using(crate::proofs::PartCallLemmas::first_discarded))]
 pub fn discard_first_header(world: &mut Undoable, addr: Addr) -> Result<Reply, NoMemory>
     requires may { MayCall world.old.now }
-    ensures { Answers (Call.DiscardFirstHeader addr) world.old world.new result }
+    ensures { CallsMemory (Call.DiscardFirstHeader addr) world.old world.new result }
 {
     let Some(object) = object(world, addr) else {
         return Ok(misnamed(world, addr));
@@ -55,7 +55,7 @@ pub fn discard_first_header(world: &mut Undoable, addr: Addr) -> Result<Reply, N
 /// takes about the logarithm of the world.
 pub fn discard_last_trailer(world: &mut Undoable, addr: Addr) -> Result<Reply, NoMemory>
     requires may { MayCall world.old.now }
-    ensures { Answers (Call.DiscardLastTrailer addr) world.old world.new result }
+    ensures { CallsMemory (Call.DiscardLastTrailer addr) world.old world.new result }
 {
     let Some(object) = object(world, addr) else {
         return Ok(misnamed(world, addr));

@@ -1,8 +1,8 @@
 // What calls on sources do to a world.
 ghost use Rattle.std.specs.Prelude.{◌≡◌, ◌<◌, ◌^◌, [], IfOk, IfSome, IsSome, OnErr, OnOk};
-ghost use Rattle.sdr_calls.specs.Answers.{Answers};
+ghost use Rattle.sdr_calls.specs.Answers.{CallsMemory};
 ghost use Rattle.sdr_draft.specs.Calling.{MayCall};
-ghost use Rattle.sdr_draft.specs.Keeps.{Keeps};
+ghost use Rattle.sdr_draft.specs.Keeps.{SameBegin};
 ghost use Rattle.sdr_model.specs.Dry.{with_taken, next_addr};
 ghost use Rattle.sdr_model.specs.SourceSteps.{flagged, new_source};
 ghost use Rattle.sdr_model.specs.Steps.{with_thing};
@@ -22,7 +22,7 @@ fn made(world: &mut Undoable, subject: Subject, length: u64) -> Result<Reply, No
     ensures reply { IfOk result (λ reply. reply ≡ Reply.At (next_addr world.old.now.taken)) }
     ensures made { OnOk result (let addr = next_addr world.old.now.taken in world.new.now
         ≡ with_taken (with_thing world.old.now addr (things.Source (new_source subject length))) addr) }
-    ensures keeps { Keeps world.old world.new }
+    ensures keeps { SameBegin world.old world.new }
     ensures same { OnErr result (world.new.now ≡ world.old.now) }
 {
     let addr = world.make(Thing::Source(ZcoSource {
@@ -40,7 +40,7 @@ pub fn file_ref(
     length: u64,
 ) -> Result<Reply, NoMemory>
     requires may { MayCall world.old.now }
-    ensures { Answers (Call.FileRef path.now length) world.old world.new result }
+    ensures { CallsMemory (Call.FileRef path.now length) world.old world.new result }
 {
     let bytes = path.len() as u64;
     if bytes < 1 || bytes > LONGEST_PATH {
@@ -55,7 +55,7 @@ pub fn file_ref(
 
 pub fn bulk_ref(world: &mut Undoable, item: u64, length: u64) -> Result<Reply, NoMemory>
     requires may { MayCall world.old.now }
-    ensures { Answers (Call.BulkRef item length) world.old world.new result }
+    ensures { CallsMemory (Call.BulkRef item length) world.old world.new result }
 {
     if length > LONGEST_SOURCE {
         return Ok(bad_length(length, LONGEST_SOURCE));
@@ -66,7 +66,7 @@ pub fn bulk_ref(world: &mut Undoable, item: u64, length: u64) -> Result<Reply, N
 /// Makes a source of a raw object. It goes over all things.
 pub fn obj_ref(world: &mut Undoable, addr: Addr) -> Result<Reply, NoMemory>
     requires may { MayCall world.old.now }
-    ensures { Answers (Call.ObjRef addr) world.old world.new result }
+    ensures { CallsMemory (Call.ObjRef addr) world.old world.new result }
 {
     let Some(bytes) = world.raw(addr) else {
         return Ok(misnamed(world, addr));
@@ -83,7 +83,7 @@ fn flag(world: &mut Undoable, addr: Addr) -> Result<(), NoMemory>
     requires there { IsSome (source_at world.old.now addr) }
     ensures flagged { OnOk result (IfSome (source_at world.old.now addr) (λ s. world.new.now
         ≡ record (with_thing world.old.now addr (things.Source (flagged s))) { shown = [] })) }
-    ensures keeps { Keeps world.old world.new }
+    ensures keeps { SameBegin world.old world.new }
     ensures same { OnErr result (world.new.now ≡ world.old.now) }
 {
     let Thing::Source(mut source) = world.take(addr)? else {
@@ -98,7 +98,7 @@ fn flag(world: &mut Undoable, addr: Addr) -> Result<(), NoMemory>
 /// Lets a source go that no extent names, and flags it where one does. It goes over all things and extents.
 pub fn destroy_ref(world: &mut Undoable, addr: Addr) -> Result<Reply, NoMemory>
     requires may { MayCall world.old.now }
-    ensures { Answers (Call.DestroyRef addr) world.old world.new result }
+    ensures { CallsMemory (Call.DestroyRef addr) world.old world.new result }
 {
     let Some(source) = world.source(addr) else {
         return Ok(misnamed(world, addr));
@@ -121,7 +121,7 @@ pub fn destroy_ref(world: &mut Undoable, addr: Addr) -> Result<Reply, NoMemory>
 /// The extents that name a source. It goes over all things and extents.
 pub fn count(world: &mut Undoable, addr: Addr) -> Result<Reply, NoMemory>
     requires may { MayCall world.old.now }
-    ensures { Answers (Call.Count addr) world.old world.new result }
+    ensures { CallsMemory (Call.Count addr) world.old world.new result }
 {
     if world.source(addr).is_none() {
         return Ok(misnamed(world, addr));

@@ -1,8 +1,8 @@
 // What a call that strips an object does to a world.
 ghost use Rattle.std.specs.Prelude.{◌≡◌, IfSome, IsSome, OnErr, OnOk};
-ghost use Rattle.sdr_calls.specs.Answers.{Answers};
+ghost use Rattle.sdr_calls.specs.Answers.{CallsMemory};
 ghost use Rattle.sdr_draft.specs.Calling.{MayCall};
-ghost use Rattle.sdr_draft.specs.Keeps.{Keeps, StayTouched};
+ghost use Rattle.sdr_draft.specs.Keeps.{SameBegin, StayTouched};
 ghost use Rattle.sdr_model.specs.ObjectSteps.{with_object};
 ghost use Rattle.sdr_model.specs.PartSteps.{stripped};
 ghost use Rattle.sdr_model.specs.Zco.{object_at};
@@ -27,7 +27,7 @@ fn put_cuts(world: &mut Undoable, addr: Addr, cuts: Items<Extent>) -> Result<(),
     ensures put { OnOk result (IfSome (object_at world.old.now addr) (λ z.
         world.new.now ≡ with_object world.old.now addr (stripped z))) }
     ensures others { StayTouched world.old world.new }
-    ensures keeps { Keeps world.old world.new }
+    ensures keeps { SameBegin world.old world.new }
     ensures same { OnErr result (world.new.now ≡ world.old.now) }
 {
     let Thing::Object(mut object) = world.take(addr)? else {
@@ -43,7 +43,7 @@ fn put_cuts(world: &mut Undoable, addr: Addr, cuts: Items<Extent>) -> Result<(),
 /// all things and extents, once more where the object loses any.
 pub fn strip(alloc: Global, world: &mut Undoable, addr: Addr) -> Result<Reply, NoMemory>
     requires may { MayCall world.old.now }
-    ensures { Answers (Call.Strip addr) world.old world.new result }
+    ensures { CallsMemory (Call.Strip addr) world.old world.new result }
 {
     let Some(object) = object(world, addr) else {
         return Ok(misnamed(world, addr));

@@ -1,6 +1,6 @@
 // What calls that ask bytes of objects do to a world.
 ghost use Rattle.std.specs.Prelude.{◌≡◌, ◌++◌, true, IfOk, OnOk};
-ghost use Rattle.sdr_calls.specs.Answers.{Answers};
+ghost use Rattle.sdr_calls.specs.Answers.{CallsMemory};
 ghost use Rattle.sdr_draft.specs.Calling.{MayCall};
 ghost use Rattle.sdr_model.specs.Pieces.{AsksBytes, asked_addr, asked_count, filled, piece_told, pieces_asked, pieces_told};
 ghost use Rattle.sdr_model.specs.Reading.{reads_media};
@@ -71,7 +71,7 @@ fn filled(alloc: Global, pieces: &[Piece]) -> Result<Bytes, NoMemory>
 pub fn give(alloc: Global, world: &mut Undoable, call: &Call) -> Result<Reply, NoMemory>
     requires may { MayCall world.old.now }
     requires reads { reads_media call.now ≡ true }
-    ensures { Answers call.now world.old world.new result }
+    ensures { CallsMemory call.now world.old world.new result }
 {
     let (addr, count) = asked(call);
     let Some(object) = object(world, addr) else {

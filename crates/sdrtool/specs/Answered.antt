@@ -7,13 +7,13 @@ use Rattle.sdr_base.specs.declared.sink.Sink.{Ghosts as SinkGhosts}
 use Rattle.sdr_base.specs.declared.source.Source.{Ghosts as SourceGhosts}
 use Rattle.sdr_disk.specs.declared.disk.Disk.{Ghosts as DiskGhosts}
 use Rattle.sdr_shell.specs.Words.{AnswersWords}
-use Rattle.sdr_shell.specs.declared.outcome.Outcome.{Outcome}
+use Rattle.sdr_shell.specs.declared.outcome.RunOutcome.{RunOutcome}
 use Rattle.sdrtool.specs.declared.answering.Answered.{Answered}
 
 -- The top call was made on a disk, and the status and the disk that it gave stand.
 pub record IsAnswered {D M S K : Type 0} (d : DiskGhosts D) (m : MediaGhosts M) (s : SourceGhosts S) (k : SinkGhosts K)
     (words : List (RcStr Global)) (disk : D) (files : M) (input input' : S) (output output' : K) (result : Answered D) : Type 0 where
-  pub outcome : Outcome D M
+  pub outcome : RunOutcome D M
   pub answers : AnswersWords d m s k words disk files input input' output output' outcome
   pub status : result.status ≡ outcome.status
   pub disk_is : result.disk ≡ outcome.disk

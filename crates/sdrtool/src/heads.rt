@@ -30,7 +30,7 @@ pub fn head_of<D: Disk>(disk: &mut D) -> Result<Head, DiskFault>
     ensures told { IfOk result (λ head. IfTold (D.bytes disk.old) (λ x. Tells x head)) }
     ensures cause { HasCause (D.faults disk.old) (D.faults disk.new) result }
     ensures size { D.size disk.new ≡ D.size disk.old }
-    ensures reads { Reads D.bytes D.moment D.may_leave disk.old disk.new }
+    ensures reads { Reads D.bytes D.moment D.may_hold_after disk.old disk.new }
 {
     let mut head = [0; HEAD];
     let len = disk.len().min(HEAD as u64) as usize;
@@ -49,7 +49,7 @@ pub fn is_zero<D: Disk>(disk: &mut D, bytes: u64) -> Result<bool, DiskFault>
     requires { bytes ≤ D.size disk.old }
     ensures cause { HasCause (D.faults disk.old) (D.faults disk.new) result }
     ensures size { D.size disk.new ≡ D.size disk.old }
-    ensures reads { Reads D.bytes D.moment D.may_leave disk.old disk.new }
+    ensures reads { Reads D.bytes D.moment D.may_hold_after disk.old disk.new }
 {
     let mut place = 0;
     while place < bytes {

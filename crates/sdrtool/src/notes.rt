@@ -30,7 +30,7 @@ pub fn note_loss<D: Disk>(
     disk: &mut D,
 ) -> Result<(), DiskFault>
     requires { IsInLimits frame }
-    ensures { Reads D.bytes D.moment D.may_leave disk.old disk.new }
+    ensures { Reads D.bytes D.moment D.may_hold_after disk.old disk.new }
 {
     let bytes = frame.disk_bytes();
     if disk.len() < bytes {

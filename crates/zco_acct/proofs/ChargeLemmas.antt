@@ -3,7 +3,7 @@ use Rattle.std.proofs.Common.{◌≡◌, ℕ, List, [], ◌∷◌, ◌++◌, tru
 use Rattle.std.specs.Prelude.{Option, find}
 use Rattle.std.specs.Option.{option_or}
 use Rattle.sdr_base.specs.Blocks.{Blocks}
-use Rattle.sdr_base.specs.Entries.{Entries, Stands}
+use Rattle.sdr_base.specs.Entries.{Entries, BlocksAre}
 use Rattle.sdr_base.specs.Making.{besides}
 use Rattle.sdr_base.specs.Objects.{Heap, OnlyUnmoved}
 use Rattle.sdr_base.specs.declared.account.Acct.{Acct}
@@ -16,7 +16,7 @@ use Rattle.sdr_base.proofs.HeapLemmas.{heap_blocks}
 use Rattle.sdr_base.proofs.WritingLemmas.{reaches_less}
 use Rattle.sdr_model.specs.Amounts.{minus, plus}
 use Rattle.sdr_model.specs.declared.accounts.Ticket.{Ticket}
-use Rattle.zco_acct.specs.Charges.{ChargesAccount, ChargeStops, SomeGrant, UsesGrant, charged, with_used}
+use Rattle.zco_acct.specs.Charges.{ChargesAccount, ChargeStops, SomeGrant, UsesGrant, charged, tickets_covered}
 use Rattle.zco_acct.specs.Kept.{SomeQueue, queue_entries}
 use Rattle.zco_acct.specs.Refusals.{Allows, GrantsOf, IsGrant, IsUsable, RefusedAs, charge_refusal, left_of, named_ticket, room_refusal, ticket_left, ticket_refusal, uncovered_by, unusable}
 use Rattle.zco_acct.specs.Walks.{has_number}
@@ -48,13 +48,14 @@ left_is number tickets (Some found) is =
 -- the tickets where the grant of the first of a number is used
 used : (number : ℕ) (amounts : Amounts) (xs : List Ticket) (t : Ticket) (ys : List Ticket) →
     find (has_number number) xs ≡ None → has_number number t ≡ true →
-    with_used number amounts (xs ++ (t ∷ ys)) ≡ xs ++ (record t { left = minus t.left amounts } ∷ ys)
-unfolding with_used
+    tickets_covered number amounts (xs ++ (t ∷ ys)) ≡ xs ++ (record t { left = minus t.left amounts } ∷ ys)
+unfolding tickets_covered
 used number amounts [] t ys none is =
-    ap (λ v. cond v (record t { left = minus t.left amounts } ∷ ys) (t ∷ with_used number amounts ys)) is
+    ap (λ v. cond v (record t { left = minus t.left amounts } ∷ ys) (t ∷ tickets_covered number amounts ys)) is
 used number amounts (x ∷ xs) t ys none is =
     elim (has_number number x) as (λ v. cond v (Some x) (find (has_number number) xs) ≡ None →
-    cond v (record x { left = minus x.left amounts } ∷ (xs ++ (t ∷ ys))) (x ∷ with_used number amounts (xs ++ (t ∷ ys)))
+    cond v (record x { left = minus x.left amounts } ∷ (xs ++ (t ∷ ys)))
+        (x ∷ tickets_covered number amounts (xs ++ (t ∷ ys)))
     ≡ x ∷ (xs ++ (record t { left = minus t.left amounts } ∷ ys))) [
       | true ↦ λ k. let d : Some x ≡ None = k in cc
       | false ↦ λ k. ap (λ (l : List Ticket). x ∷ l) (used number amounts xs t ys k is)
@@ -72,8 +73,8 @@ pub charged_is : {number : ℕ} {tickets : List Ticket} {found : Found} (amounts
     ≡ is.first.before ++ (record found.ticket { left = minus found.ticket.left amounts; granted = true } ∷ is.first.behind)
 charged_is {number} {tickets} {found} amounts is =
     let f = is.first in
-    ap (λ b. cond b tickets (with_used number amounts tickets)) is.nonzero
-    ∙ ap (with_used number amounts) f.whole
+    ap (λ b. cond b tickets (tickets_covered number amounts tickets)) is.nonzero
+    ∙ ap (tickets_covered number amounts) f.whole
     ∙ used number amounts f.before found.ticket f.behind f.none f.passes
     ∙ ap (λ (x : Ticket). f.before ++ (x ∷ f.behind))
     (sym (still_granted found.ticket (minus found.ticket.left amounts) is.granted))
@@ -81,18 +82,19 @@ charged_is {number} {tickets} {found} amounts is =
 -- the blocks of the queue after a charge
 stands_charged : (old mid : Heap) (acct : Acct) (number : ℕ) (amounts : Amounts) (tickets : List Ticket) (grant : Option Found) →
     IsGrant number tickets grant → UsesGrant grant amounts old mid → (rest : Entries) →
-    Stands old.blocks (queue_entries acct tickets ++ rest) →
-    Stands mid.blocks (queue_entries acct (charged tickets number amounts) ++ rest)
+    BlocksAre old.blocks (queue_entries acct tickets ++ rest) →
+    BlocksAre mid.blocks (queue_entries acct (charged tickets number amounts) ++ rest)
 stands_charged old mid acct number amounts tickets None is u rest s =
-    subst (λ (b : Blocks). Stands b (queue_entries acct (charged tickets number amounts) ++ rest)) (sym (heap_blocks u))
-    (subst (λ (ts : List Ticket). Stands old.blocks (queue_entries acct ts ++ rest))
-    (sym (ap (λ b. cond b tickets (with_used number amounts tickets)) (eq-eqb number 0 is))) s)
+    subst (λ (b : Blocks). BlocksAre b (queue_entries acct (charged tickets number amounts) ++ rest))
+        (sym (heap_blocks u))
+    (subst (λ (ts : List Ticket). BlocksAre old.blocks (queue_entries acct ts ++ rest))
+    (sym (ap (λ b. cond b tickets (tickets_covered number amounts tickets)) (eq-eqb number 0 is))) s)
 stands_charged old mid acct number amounts tickets (Some found) is u rest s =
     let f = is.first in
-    subst (λ (ts : List Ticket). Stands mid.blocks (queue_entries acct ts ++ rest)) (sym (charged_is amounts is))
+    subst (λ (ts : List Ticket). BlocksAre mid.blocks (queue_entries acct ts ++ rest)) (sym (charged_is amounts is))
     (regranted old.blocks mid.blocks acct rest f.before found.ticket f.behind (minus found.ticket.left amounts)
     (heap_blocks u)
-    (subst (λ (ts : List Ticket). Stands old.blocks (queue_entries acct ts ++ rest)) f.whole s))
+    (subst (λ (ts : List Ticket). BlocksAre old.blocks (queue_entries acct ts ++ rest)) f.whole s))
 
 -- all but the blocks stays where a grant is used
 pub used_besides : (old mid : Heap) (amounts : Amounts) (grant : Option Found) → UsesGrant grant amounts old mid →
@@ -125,7 +127,7 @@ charges old mid new {acct} {number} {amounts} {after} grant g sum free u w = rec
   allows = may_charge amounts grant g free;
   changes = λ tickets k. record {
     kept = λ rest s.
-        subst (λ (b : Blocks). Stands b (queue_entries acct (charged tickets number amounts) ++ rest)) (sym (heap_blocks w))
+        subst (λ (b : Blocks). BlocksAre b (queue_entries acct (charged tickets number amounts) ++ rest)) (sym (heap_blocks w))
         (stands_charged old mid acct number amounts tickets grant (g.grants tickets k) u rest s);
   };
   others = λ tickets k.

@@ -4,7 +4,7 @@ use Rattle.sdr_base.specs.declared.account.Amounts.{Amounts}
 use Rattle.sdr_base.specs.declared.kind.Space.TheVariants as spaces
 use Rattle.sdr_base.specs.declared.refusal.Refusal.TheVariants as refusals
 use Rattle.sdr_model.specs.declared.accounts.Ticket.{Ticket}
-use Rattle.zco_acct.specs.Charges.{charged, with_used}
+use Rattle.zco_acct.specs.Charges.{charged, tickets_covered}
 use Rattle.zco_acct.specs.Refusals.{charge_refusal, uncovered_by}
 
 abbrev heap_space : ℕ → Amounts
@@ -45,7 +45,7 @@ row_covered : charge_refusal (third ∷ fifth ∷ []) 3 (heap_space 72) (heap_sp
 row_covered = refl
 
 row_used : charged (third ∷ fifth ∷ []) 3 (heap_space 72) ≡ record third { left = heap_space 528 } ∷ fifth ∷ []
-unfolding with_used
+unfolding tickets_covered
 row_used = refl
 
 -- one that waits can't be used, nor one that isn't there

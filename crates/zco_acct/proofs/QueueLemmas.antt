@@ -5,7 +5,7 @@ use Rattle.std.specs.Option.{option_or}
 use Rattle.std.proofs.lemmas.List.Elements.{All-head, All-tail}
 use Rattle.std.proofs.lemmas.List.Folds.{find-append}
 use Rattle.sdr_base.specs.Blocks.{Blocks}
-use Rattle.sdr_base.specs.Entries.{Entries, Few, Stands}
+use Rattle.sdr_base.specs.Entries.{Entries, Few, BlocksAre}
 use Rattle.sdr_base.specs.Linked.{first_of}
 use Rattle.sdr_base.specs.Objects.{Heap}
 use Rattle.sdr_base.specs.declared.account.Acct.{Acct}
@@ -51,7 +51,7 @@ first_fits (t ∷ ts) f = (All-head TicketFits t ts f).block
 
 -- one between two parts is there, wherever they stand
 pub stands_there : (blocks : Blocks) (acct : Acct) (rest : Entries) (xs : List Ticket) (t : Ticket) (ys : List Ticket) →
-    Stands blocks (queue_entries acct (xs ++ (t ∷ ys)) ++ rest) → All TicketFits (t ∷ ys) →
+    BlocksAre blocks (queue_entries acct (xs ++ (t ∷ ys)) ++ rest) → All TicketFits (t ∷ ys) →
     KeepsTicket (blocks t.block) acct (first_of block_of 0 ys) t
 stands_there blocks acct rest xs t ys s f = record {
   block = linked_found block_of (queued_block acct) blocks [] rest 0 0 xs t ys s;
@@ -65,7 +65,7 @@ pub here : {heap : Heap} {acct : Acct} {tickets : List Ticket} → KeepsQueue he
     KeepsTicket (heap.blocks t.block) acct (first_of block_of 0 ys) t
 here {heap} {acct} {tickets} k xs t ys e =
     stands_there heap.blocks acct k.rest xs t ys
-    (subst (λ (ts : List Ticket). Stands heap.blocks (queue_entries acct ts ++ k.rest)) e k.stands)
+    (subst (λ (ts : List Ticket). BlocksAre heap.blocks (queue_entries acct ts ++ k.rest)) e k.stands)
     (fits_from xs t ys (subst (All TicketFits) e k.fits))
 
 -- no ticket stands at 0

@@ -18,14 +18,14 @@ use Rattle.zco_acct.specs.Words.{maxima_in, occupied_in, with_occupied}
 use Rattle.zco_acct.specs.declared.queue.Found.{Found}
 
 -- the tickets, where the grant of the first of a number covers of these amounts what it can
-unfoldable pub with_used : ℕ → Amounts → List Ticket → List Ticket
-with_used number amounts [] = []
-with_used number amounts (t ∷ ts) =
-    if t.number == number then record t { left = minus t.left amounts } ∷ ts else t ∷ with_used number amounts ts
+unfoldable pub tickets_covered : ℕ → Amounts → List Ticket → List Ticket
+tickets_covered number amounts [] = []
+tickets_covered number amounts (t ∷ ts) =
+    if t.number == number then record t { left = minus t.left amounts } ∷ ts else t ∷ tickets_covered number amounts ts
 
 -- the tickets after a charge; 0 names none
 abbrev pub charged : List Ticket → ℕ → Amounts → List Ticket
-charged tickets number amounts = if number == 0 then tickets else with_used number amounts tickets
+charged tickets number amounts = if number == 0 then tickets else tickets_covered number amounts tickets
 
 -- whichever queue is kept allows the charge: the grant of its ticket covers what it can, the rest is occupied, and all else
 -- stays

@@ -1,7 +1,7 @@
 -- The queue of tickets that is kept in a heap for an account.
 use Rattle.std.specs.Prelude.{◌≡◌, ◌<◌, ◌^◌, ℕ, List, ◌++◌, All, Option, Some}
 use Rattle.sdr_base.specs.Blocks.{Block}
-use Rattle.sdr_base.specs.Entries.{Entries, Stands}
+use Rattle.sdr_base.specs.Entries.{Entries, BlocksAre}
 use Rattle.sdr_base.specs.Linked.{first_of, last_of, linked}
 use Rattle.sdr_base.specs.Objects.{Heap}
 use Rattle.sdr_base.specs.Tickets.{ticket_block}
@@ -41,7 +41,7 @@ pub record TicketFits (t : Ticket) : Type 0 where
 -- the heap keeps these tickets in the queue of an account
 pub record KeepsQueue (heap : Heap) (acct : Acct) (tickets : List Ticket) : Type 0 where
   pub rest : Entries
-  pub stands : Stands heap.blocks (queue_entries acct tickets ++ rest)
+  pub stands : BlocksAre heap.blocks (queue_entries acct tickets ++ rest)
   pub first : heap.roots (first_word acct) ≡ first_of block_of 0 tickets
   pub last : heap.roots (last_word acct) ≡ last_of block_of 0 tickets
   pub fits : All TicketFits tickets

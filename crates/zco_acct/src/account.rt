@@ -2,7 +2,7 @@
 ghost use Rattle.std.specs.Prelude.{◌≡◌, ◌≤◌, ◌<◌, IfOk, IfErr, OnOk};
 ghost use Rattle.sdr_base.specs.Moves.{KeepsSome};
 ghost use Rattle.sdr_base.specs.Objects.{OnlyFault, OnlyUnmoved};
-ghost use Rattle.sdr_base.specs.Works.{Looks, Works};
+ghost use Rattle.sdr_base.specs.Works.{Looks, Spends};
 ghost use Rattle.sdr_model.specs.Amounts.{amount, minus};
 ghost use Rattle.zco_acct.specs.Changes.{MaximumStops, SetsMaximum};
 ghost use Rattle.zco_acct.specs.Words.{begin_of, first_word, last_word, maxima_in, maximum_word};
@@ -129,7 +129,7 @@ pub fn set_maximum<O: Objects>(o: &mut O, acct: Acct, space: Space, value: u64) 
     requires kept { KeepsSome (O.keeps o.old) }
     ensures set { OnOk result (SetsMaximum acct space value (O.heap o.old) (O.heap o.new)) }
     ensures refused { IfErr result (MaximumStops space value (O.heap o.old) (O.heap o.new)) }
-    ensures works { Works O.HasHeap 1 o.old o.new result }
+    ensures works { Spends O.HasHeap 1 o.old o.new result }
 {
     check_failed(o)?;
     if value > MOST_AMOUNT {
@@ -147,7 +147,7 @@ pub fn set_occupied<O: Objects>(o: &mut O, acct: Acct, amounts: &Amounts) -> Res
     requires kept { KeepsSome (O.keeps o.old) }
     ensures set { OnOk result (O.heap o.new ≡ with_occupied (O.heap o.old) acct amounts.now) }
     ensures refused { IfErr result (OnlyUnmoved (O.heap o.old) (O.heap o.new)) }
-    ensures works { Works O.HasHeap 3 o.old o.new result }
+    ensures works { Spends O.HasHeap 3 o.old o.new result }
 {
     o.set_root(occupancy_word(acct, Space::File), amounts.file)?;
     o.set_root(occupancy_word(acct, Space::Bulk), amounts.bulk)?;
@@ -161,7 +161,7 @@ pub fn release<O: Objects>(o: &mut O, acct: Acct, amounts: &Amounts) -> Result<(
     ensures released { OnOk result (O.heap o.new
         ≡ with_occupied (O.heap o.old) acct (minus (occupied_in (O.heap o.old) acct) amounts.now)) }
     ensures refused { IfErr result (OnlyUnmoved (O.heap o.old) (O.heap o.new)) }
-    ensures works { Works O.HasHeap 3 o.old o.new result }
+    ensures works { Spends O.HasHeap 3 o.old o.new result }
 {
     let before = occupied(o, acct)?;
     set_occupied(o, acct, &minus(&before, amounts))

@@ -2,7 +2,7 @@
 ghost use Rattle.std.specs.Prelude.{◌≡◌, IfOk, IfErr, OnOk};
 ghost use Rattle.sdr_base.specs.Moves.{KeepsSome};
 ghost use Rattle.sdr_base.specs.Objects.{OnlyUnmoved};
-ghost use Rattle.sdr_base.specs.Works.{Looks, Works};
+ghost use Rattle.sdr_base.specs.Works.{Looks, Spends};
 ghost use Rattle.sdr_model.specs.Amounts.{plus};
 ghost use Rattle.zco_acct.specs.Charges.{ChargesAccount, ChargeStops, SomeGrant, UsesGrant};
 ghost use Rattle.zco_acct.specs.Kept.{SomeQueue};
@@ -26,7 +26,7 @@ pub fn charge<O: Objects>(o: &mut O, acct: Acct, ticket: u64, amounts: &Amounts)
         (ChargesAccount acct ticket amounts.now (O.heap o.old) (O.heap o.new)) }
     ensures refused { IfErr result
         (ChargeStops acct ticket amounts.now (O.heap o.old) (O.heap o.new)) }
-    ensures works { Works O.HasHeap 5 o.old o.new result }
+    ensures works { Spends O.HasHeap 5 o.old o.new result }
 {
     let grant = grant_of(o, acct, ticket)?;
     let uncovered = minus(amounts, &left_of(&grant));
@@ -127,7 +127,7 @@ fn use_grant<O: Objects>(o: &mut O, grant: &Option<Found>, amounts: &Amounts) ->
     ensures used { OnOk result
         (UsesGrant grant.now amounts.now (O.heap o.old) (O.heap o.new)) }
     ensures refused { IfErr result (OnlyUnmoved (O.heap o.old) (O.heap o.new)) }
-    ensures works { Works O.HasHeap 2 o.old o.new result }
+    ensures works { Spends O.HasHeap 2 o.old o.new result }
 {
     match grant {
         None => check_failed(o),

@@ -4,7 +4,7 @@ ghost use Rattle.sdr_base.specs.Blocks.{UsesRange};
 ghost use Rattle.sdr_base.specs.Moves.{KeepsSome};
 ghost use Rattle.sdr_base.specs.Objects.{OnlyFault, OnlyUnmoved};
 ghost use Rattle.sdr_base.specs.Stored.{number_at};
-ghost use Rattle.sdr_base.specs.Works.{Looks, Works};
+ghost use Rattle.sdr_base.specs.Works.{Looks, Spends};
 ghost use Rattle.zco_acct.specs.Kept.{SomeTicket};
 ghost use Rattle.zco_acct.specs.Tickets.{TellsTicket, amounts_at, queued_at, with_grant};
 
@@ -81,7 +81,7 @@ pub fn put_grant<O: Objects>(o: &mut O, addr: Addr, left: &Amounts) -> Result<()
     requires inside { UsesRange (O.heap o.old).blocks addr 56 32 }
     ensures granted { OnOk result (O.heap o.new ≡ with_grant (O.heap o.old) addr left.now) }
     ensures refused { IfErr result (OnlyUnmoved (O.heap o.old) (O.heap o.new)) }
-    ensures works { Works O.HasHeap 2 o.old o.new result }
+    ensures works { Spends O.HasHeap 2 o.old o.new result }
 {
     let mut bytes = [0; 32];
     BigEndian::write_u64_into(&[left.file, left.bulk, left.heap, 1], &mut bytes);

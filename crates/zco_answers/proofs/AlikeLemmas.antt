@@ -11,13 +11,13 @@ use Rattle.std.specs.declared.cmp.Ordering.TheVariants.{Less, Equal, Greater}
 use Rattle.sdr_base.proofs.SectionLemmas.{section-gone}
 use Rattle.sdr_base.proofs.StandingLemmas.{moved}
 use Rattle.sdr_base.specs.Blocks.{Blocks}
-use Rattle.sdr_base.specs.Entries.{Entries, Stands, Swaps}
+use Rattle.sdr_base.specs.Entries.{Entries, BlocksAre, Swaps}
 use Rattle.sdr_base.specs.Section.{section}
 
 -- with whatever stands behind, the one list stands where the other does
 pub record StandAlike (xs ys : Entries) : Type 0 where
-  pub forth : (b : Blocks) (rest : Entries) → Stands b (xs ++ rest) → Stands b (ys ++ rest)
-  pub back : (b : Blocks) (rest : Entries) → Stands b (ys ++ rest) → Stands b (xs ++ rest)
+  pub forth : (b : Blocks) (rest : Entries) → BlocksAre b (xs ++ rest) → BlocksAre b (ys ++ rest)
+  pub back : (b : Blocks) (rest : Entries) → BlocksAre b (ys ++ rest) → BlocksAre b (xs ++ rest)
 
 pub alike_same : {xs ys : Entries} → xs ≡ ys → StandAlike xs ys
 alike_same {xs} same = subst (λ (es : Entries). StandAlike xs es) same (record { forth = λ b rest s. s; back = λ b rest s. s })
@@ -35,12 +35,13 @@ alike_behind {xs} {ys} part alike = record {
   back = λ b rest s. behind b ys xs rest (alike.back b (part ++ rest)) s;
 }
   where
-    behind : (b : Blocks) (us vs rest : Entries) → (Stands b (us ++ (part ++ rest)) → Stands b (vs ++ (part ++ rest))) →
-        Stands b ((part ++ us) ++ rest) → Stands b ((part ++ vs) ++ rest)
+    behind : (b : Blocks) (us vs rest : Entries) →
+        (BlocksAre b (us ++ (part ++ rest)) → BlocksAre b (vs ++ (part ++ rest))) →
+        BlocksAre b ((part ++ us) ++ rest) → BlocksAre b ((part ++ vs) ++ rest)
     behind b us vs rest goes s =
-        subst (λ (es : Entries). Stands b es) (sym (append_assoc part vs rest))
+        subst (λ (es : Entries). BlocksAre b es) (sym (append_assoc part vs rest))
         (moved vs part rest
-        (goes (moved part us rest (subst (λ (es : Entries). Stands b es) (append_assoc part us rest) s))))
+        (goes (moved part us rest (subst (λ (es : Entries). BlocksAre b es) (append_assoc part us rest) s))))
 
 -- a part may stand in front of the others
 front_alike : (before part behind : Entries) → StandAlike (before ++ (part ++ behind)) (part ++ (before ++ behind))
@@ -52,11 +53,11 @@ front_alike before part behind = record {
     line : (xs ys rest : Entries) → (xs ++ (ys ++ behind)) ++ rest ≡ xs ++ (ys ++ (behind ++ rest))
     line xs ys rest = append_assoc xs (ys ++ behind) rest ∙ ap (λ (es : Entries). xs ++ es) (append_assoc ys behind rest)
 
-    step : (b : Blocks) (xs ys rest : Entries) → Stands b ((xs ++ (ys ++ behind)) ++ rest) →
-        Stands b ((ys ++ (xs ++ behind)) ++ rest)
+    step : (b : Blocks) (xs ys rest : Entries) → BlocksAre b ((xs ++ (ys ++ behind)) ++ rest) →
+        BlocksAre b ((ys ++ (xs ++ behind)) ++ rest)
     step b xs ys rest s =
-        subst (λ (es : Entries). Stands b es) (sym (line ys xs rest))
-        (moved xs ys (behind ++ rest) (subst (λ (es : Entries). Stands b es) (line xs ys rest) s))
+        subst (λ (es : Entries). BlocksAre b es) (sym (line ys xs rest))
+        (moved xs ys (behind ++ rest) (subst (λ (es : Entries). BlocksAre b es) (line xs ys rest) s))
 
 -- the part that another takes the place of, or that takes it, may
 pub was_alike : {es es' part part' : Entries} (w : Swaps es es' part part') → StandAlike es (part ++ (w.before ++ w.behind))

@@ -4,11 +4,11 @@ use Rattle.std.specs.Prelude.{Result, is_some}
 use Rattle.sdr_answers.proofs.KindLemmas.{own_in_use}
 use Rattle.sdr_answers.proofs.ListLemmas.{IsSmall}
 use Rattle.sdr_answers.proofs.RowLemmas.{misnamed_refused}
-use Rattle.sdr_answers.specs.Answering.{Answered, IsRefused, IsServed}
+use Rattle.sdr_answers.specs.Answering.{Answered, IsRefused, IsReady}
 use Rattle.sdr_audit.specs.Standing.{HeapStandsFor}
 use Rattle.sdr_base.specs.Blocks.{IsKind}
 use Rattle.sdr_base.specs.Objects.{Heap, Misses}
-use Rattle.sdr_base.specs.Works.{Works}
+use Rattle.sdr_base.specs.Works.{Spends}
 use Rattle.sdr_base.specs.declared.has_heap.HasHeap.{Ghosts}
 use Rattle.sdr_base.specs.declared.kind.Kind.TheVariants as kinds
 use Rattle.sdr_base.specs.declared.refusal.Refusal.{Refusal}
@@ -28,15 +28,15 @@ use Rattle.zco_answers.proofs.AppendSourceCalls.{source_appended, source_refused
 use Rattle.zco_answers.proofs.ObjectLemmas.{no_object}
 use Rattle.zco_obj.specs.AppendStops.{AppendStops, RawPieceStops, SourceStops}
 use Rattle.zco_obj.specs.Appending.{AppendsPiece}
-use Rattle.zco_obj.specs.declared.extent.Piece.{Piece}
+use Rattle.zco_obj.specs.declared.extent.ExtentPiece.{ExtentPiece}
 
 -- a call on a heap that stands for a world in which it is served
-module _ (old new : Heap) (w : World) (unmoved : old.moves ≡ []) (s : HeapStandsFor old w) (served : IsServed w) (small : IsSmall old)
+module _ (old new : Heap) (w : World) (unmoved : old.moves ≡ []) (s : HeapStandsFor old w) (served : IsReady w) (small : IsSmall old)
     (addr number named offset bytes : ℕ) where
   abbrev call : Call
   call = calls.AppendExtent addr number named offset bytes
 
-  abbrev piece : Piece
+  abbrev piece : ExtentPiece
   piece = record { of = named; offset = offset; bytes = bytes }
 
   -- it was appended
@@ -61,11 +61,11 @@ module _ (old new : Heap) (w : World) (unmoved : old.moves ≡ []) (s : HeapStan
 
 -- so many lines it touches at most, by whether a source is there in the world
 pub append_works : {S T : Type 0} {m : Ghosts S} {a b : S} {r : Result T Stop} (old : Heap) (w : World) (named : ℕ) →
-    HeapStandsFor old w → IsServed w → Works m 73 a b r → (IsKind (old.blocks named) kinds.Source → Works m 42 a b r) →
-    Works m (if is_some (source_at w named) then 42 else 73) a b r
+    HeapStandsFor old w → IsReady w → Spends m 73 a b r → (IsKind (old.blocks named) kinds.Source → Spends m 42 a b r) →
+    Spends m (if is_some (source_at w named) then 42 else 73) a b r
 append_works {S} {T} {m} {a} {b} {r} old w named s served most less = by (source_at w named) refl
   where
-    by : (o : Option ZcoSource) → source_at w named ≡ o → Works m (if is_some o then 42 else 73) a b r
+    by : (o : Option ZcoSource) → source_at w named ≡ o → Spends m (if is_some o then 42 else 73) a b r
     by None is = most
     by (Some source) is =
         less (own_in_use old w named (things.Source source) s served.whole.valid (source_is (thing_at w named) source is))

@@ -16,7 +16,7 @@ use Rattle.sdr_audit.specs.Standing.{HeapStandsFor, thing_entries}
 use Rattle.sdr_audit.specs.Ties.{Ties, names_raw_at}
 use Rattle.sdr_base.proofs.StandingLemmas.{times-append}
 use Rattle.sdr_base.specs.Blocks.{Blocks}
-use Rattle.sdr_base.specs.Entries.{Entries, Stands, times}
+use Rattle.sdr_base.specs.Entries.{Entries, BlocksAre, times}
 use Rattle.sdr_base.specs.Linked.{linked}
 use Rattle.sdr_base.specs.Objects.{Heap}
 use Rattle.sdr_base.specs.Raws.{raw_entries}
@@ -38,7 +38,7 @@ use Rattle.sdr_model.specs.Steps.{On, Outcome}
 use Rattle.sdr_model.specs.Things.{Things}
 use Rattle.sdr_model.specs.Valid.{IsValid}
 use Rattle.sdr_model.specs.World.{World, as_raw, thing_at}
-use Rattle.sdr_model.specs.Zco.{count_of, extents_length, naming, source_at, source_on, space_of, uses_in}
+use Rattle.sdr_model.specs.Zco.{count_of, extents_length, naming, source_at, source_naming, space_of, uses_in}
 use Rattle.sdr_model.specs.declared.things.Thing.{Thing}
 use Rattle.sdr_model.specs.declared.things.Thing.TheVariants as things
 use Rattle.sdr_model.specs.declared.zco.Extent.{Extent}
@@ -207,7 +207,7 @@ module _ (w : World) (addr : ℕ) (z : ZcoObject) (e : Extent) (there : thing_at
       nothing false = refl
 
   -- no raw object is named otherwise
-  pub same_source_on : (raw : ℕ) → source_on longer raw ≡ source_on w raw
+  pub same_source_on : (raw : ℕ) → source_naming longer raw ≡ source_naming w raw
   same_source_on raw =
       same_first raw w.things addr (Some (things.Object (object.with_extent z e))) (ap (names_raw_at raw) there)
 
@@ -220,7 +220,7 @@ last_listed prev (row ∷ rows) e = let ih = last_listed row.addr rows e in omeg
 
 -- the last extent of an object and a source beside it are at two addresses
 pub last_apart : {b : Blocks} (addr : ℕ) (row : ObjectRow) (e : ExtentRow) (at : ℕ) (source : CountedSource) (rest : Entries) →
-    Stands b (object_entries addr (with_extent row e) ++ (counted_entries at source ++ rest)) → e.addr ≢ at
+    BlocksAre b (object_entries addr (with_extent row e) ++ (counted_entries at source ++ rest)) → e.addr ≢ at
 unfolding times
 last_apart addr row e at source rest s same =
     let headers = capsule_entries row.headers in

@@ -3,13 +3,13 @@ use Rattle.std.proofs.Common.{◌≡◌, ◌≢◌, ◌∙◌, ℕ, List, [], �
 use Rattle.sdr_answers.proofs.ListLemmas.{IsSmall}
 use Rattle.sdr_answers.proofs.RawLemmas.{no_raw}
 use Rattle.sdr_answers.proofs.RowLemmas.{misnamed_refused, moved_answered, row_refused}
-use Rattle.sdr_answers.specs.Answering.{Answered, IsRefused, IsServed}
+use Rattle.sdr_answers.specs.Answering.{Answered, IsRefused, IsReady}
 use Rattle.sdr_audit.proofs.ChangeLemmas.{apart, nothing_at}
 use Rattle.sdr_audit.specs.Rows.{object_row}
 use Rattle.sdr_audit.specs.Standing.{HeapStandsFor, other_entries, thing_entries, with_taken_marked}
 use Rattle.sdr_audit.specs.Ties.{or_null, ties_of}
 use Rattle.sdr_base.proofs.StandingLemmas.{found}
-use Rattle.sdr_base.specs.Entries.{Entries, Stands}
+use Rattle.sdr_base.specs.Entries.{Entries, BlocksAre}
 use Rattle.sdr_base.specs.Objects.{Heap, Misses}
 use Rattle.sdr_base.specs.Raws.{raw_block, raw_entries}
 use Rattle.sdr_base.specs.Section.{section}
@@ -33,7 +33,7 @@ use Rattle.sdr_model.specs.Rows.{ByRow}
 use Rattle.sdr_model.specs.Steps.{DoesWith, On, Outcome, with_thing}
 use Rattle.sdr_model.specs.Things.{extent_need, source_need}
 use Rattle.sdr_model.specs.World.{World, as_raw, thing_at}
-use Rattle.sdr_model.specs.Zco.{as_object, as_source, object_at, source_at, source_on}
+use Rattle.sdr_model.specs.Zco.{as_object, as_source, object_at, source_at, source_naming}
 use Rattle.sdr_model.specs.declared.answer.Reply.TheVariants as replies
 use Rattle.sdr_model.specs.declared.call.Call.{Call}
 use Rattle.sdr_model.specs.declared.call.Call.TheVariants as calls
@@ -54,19 +54,19 @@ use Rattle.zco_obj.specs.Appending.{AppendsRaw, HasPiece, IsWithin, OfRaw, taken
 use Rattle.zco_obj.specs.Beside.{KeepsWithRaw}
 use Rattle.zco_obj.specs.Charging.{Pays, refusal_in}
 use Rattle.zco_obj.specs.Extents.{extent_of, with_extent}
-use Rattle.zco_obj.specs.declared.extent.Piece.{Piece}
+use Rattle.zco_obj.specs.declared.extent.ExtentPiece.{ExtentPiece}
 use Rattle.zco_ref.specs.Counting.{attached}
 use Rattle.zco_ref.specs.Kept.{KeepsRaw, counted_entries}
 use Rattle.zco_served.proofs.NamingCalls.{unnamed_at, used_as}
 use Rattle.zco_served.proofs.SourceLemmas.{no_source}
 
 -- a call on a heap that stands for a world in which it is served
-module _ (old new : Heap) (w : World) (unmoved : old.moves ≡ []) (s : HeapStandsFor old w) (served : IsServed w) (small : IsSmall old)
+module _ (old new : Heap) (w : World) (unmoved : old.moves ≡ []) (s : HeapStandsFor old w) (served : IsReady w) (small : IsSmall old)
     (addr number raw offset bytes : ℕ) where
   abbrev call : Call
   call = calls.AppendExtent addr number raw offset bytes
 
-  abbrev piece : Piece
+  abbrev piece : ExtentPiece
   piece = record { of = raw; offset = offset; bytes = bytes }
 
   abbrev charge : Space → ℕ
@@ -117,14 +117,15 @@ module _ (old new : Heap) (w : World) (unmoved : old.moves ≡ []) (s : HeapStan
         (on_some _ (λ (text : List ℕ). object.AppendsRaw w o addr p.object number raw text offset bytes) (as_raw (thing_at w raw)) p.text
         (ap as_raw p.raw_there) h)
 
-    on_range : (o : Outcome) → source_on w raw ≡ None → ranging o → ByRow w o call
-    on_range o unnamed h = on_raw o (on_none (ranging o) _ (source_on w raw) unnamed h)
+    on_range : (o : Outcome) → source_naming w raw ≡ None → ranging o → ByRow w o call
+    on_range o unnamed h = on_raw o (on_none (ranging o) _ (source_naming w raw) unnamed h)
 
-    on_charge : (o : Outcome) → source_on w raw ≡ None → IsWithin piece (length p.text) → charging o → ByRow w o call
+    on_charge : (o : Outcome) → source_naming w raw ≡ None → IsWithin piece (length p.text) → charging o →
+        ByRow w o call
     on_charge o unnamed within h =
         on_range o unnamed (on_false _ (charging o) _ (in_range offset bytes (length p.text) within.some within.within) h)
 
-    appended_row : (source block : ℕ) → source_on w raw ≡ None → IsWithin piece (length p.text) →
+    appended_row : (source block : ℕ) → source_naming w raw ≡ None → IsWithin piece (length p.text) →
         IsPaid w p.object.account number charge → ByRow w (outcome source block) call
     appended_row source block unnamed within paid =
         on_charge (outcome source block) unnamed within
@@ -140,16 +141,16 @@ module _ (old new : Heap) (w : World) (unmoved : old.moves ≡ []) (s : HeapStan
         ))
 
     -- the word of the raw object is kept
-    kept_word : KeepsRaw (old.blocks raw) (or_null (source_on w raw)) p.text
+    kept_word : KeepsRaw (old.blocks raw) (or_null (source_naming w raw)) p.text
     kept_word =
         let a = apart raw (things.Raw p.text) s p.raw_there in
         record {
-          block = found old.blocks raw (raw_block (or_null (source_on w raw)) p.text) [] a.rest a.stands;
+          block = found old.blocks raw (raw_block (or_null (source_naming w raw)) p.text) [] a.rest a.stands;
           small = (raw_kept old w s served small addr raw p).small;
         }
 
     -- where no source names it
-    module _ (unnamed : source_on w raw ≡ None) where
+    module _ (unnamed : source_naming w raw ≡ None) where
       kept_unnamed : KeepsRaw (old.blocks raw) 0 p.text
       kept_unnamed = subst (λ (n : ℕ). KeepsRaw (old.blocks raw) n p.text) (ap or_null unnamed) kept_word
 
@@ -198,7 +199,7 @@ module _ (old new : Heap) (w : World) (unmoved : old.moves ≡ []) (s : HeapStan
           let rest = raw_entries raw source p.text ++ section (thing_entries (ties_of w)) (raw_others w addr raw p) in
           let others = other_entries (with_taken_marked (after source block) (moves source block)) in
           last_apart addr row e source counted (rest ++ others)
-          (subst (λ (es : Entries). Stands new.blocks es)
+          (subst (λ (es : Entries). BlocksAre new.blocks es)
           (append_assoc (object_entries addr (with_extent row e)) (counted_entries source counted ++ rest) others)
           ((raw_after w addr raw p source block offset bytes unnamed served.whole.fits free).forth new.blocks others stands.blocks))
 
@@ -232,7 +233,7 @@ module _ (old new : Heap) (w : World) (unmoved : old.moves ≡ []) (s : HeapStan
             answered = refl;
           }
 
-    range_row : (off count have : ℕ) → source_on w raw ≡ None →
+    range_row : (off count have : ℕ) → source_naming w raw ≡ None →
         RangeRefused piece (length p.text) (stops.Refused (refusals.BadRange off count have)) → new ≡ old →
         ByRow w (record { moves = new.moves; after = w; reply = replies.Refused (refusals.BadRange off count have) }) call
     range_row off count have unnamed r same =
@@ -242,7 +243,7 @@ module _ (old new : Heap) (w : World) (unmoved : old.moves ≡ []) (s : HeapStan
         (on_true _ (charging (refusing refusal)) _ (out_of_range offset bytes (length p.text) r.3)
         (refl, refl, λ i. replies.Refused (refusals.BadRange (r.0 i) (r.1 i) (r.2 i)))))
 
-    unpaid_row : (refusal : Refusal) → source_on w raw ≡ None → IsWithin piece (length p.text) →
+    unpaid_row : (refusal : Refusal) → source_naming w raw ≡ None → IsWithin piece (length p.text) →
         refusal_in old p.object.account number (amounts_by charge) (tickets_of w.accounts p.object.account) ≡ Some refusal →
         new ≡ old →
         ByRow w (record { moves = new.moves; after = w; reply = replies.Refused refusal }) call
@@ -258,9 +259,9 @@ module _ (old new : Heap) (w : World) (unmoved : old.moves ≡ []) (s : HeapStan
     abbrev there : IsWithRawAt w addr raw
     there = raw_at old w s served small addr raw m.is_object m.unnamed.kind
 
-    none_on : source_on w raw ≡ None
+    none_on : source_naming w raw ≡ None
     none_on =
-        unnamed_at old new w unmoved s served raw (m.unnamed.none (or_null (source_on w raw)) there.text (kept_word there))
+        unnamed_at old new w unmoved s served raw (m.unnamed.none (or_null (source_naming w raw)) there.text (kept_word there))
 
     held : P there.text
     held = m.holds there.text (kept_unnamed there none_on)
@@ -291,7 +292,7 @@ module _ (old new : Heap) (w : World) (unmoved : old.moves ≡ []) (s : HeapStan
         step =
             inl (row_refused w call new (refusals.InUse bad count) (ap (λ (h : Heap). h.moves) m.1 ∙ unmoved)
             (on_raw p (refusing (refusals.InUse bad count))
-            (on_some (ranging p (refusing (refusals.InUse bad count))) _ (source_on w raw) u.0 u.1
+            (on_some (ranging p (refusing (refusals.InUse bad count))) _ (source_naming w raw) u.0 u.1
             (refl, refl, λ i. replies.Refused (refusals.InUse (m.0.stops.0 i) (u.2 i))))));
         left = λ reads. m.1;
         gave = refl;

@@ -7,7 +7,7 @@ use Rattle.std.specs.Prelude.{IfSome}
 use Rattle.sdr_answers.proofs.EntryLemmas.{source_there}
 use Rattle.sdr_answers.proofs.KindLemmas.{own_in_use}
 use Rattle.sdr_answers.proofs.ListLemmas.{IsSmall}
-use Rattle.sdr_answers.specs.Answering.{IsServed}
+use Rattle.sdr_answers.specs.Answering.{IsReady}
 use Rattle.sdr_audit.proofs.TiesLemmas.{same_first}
 use Rattle.sdr_audit.specs.Rows.{object_row, source_row}
 use Rattle.sdr_audit.specs.Standing.{HeapStandsFor, thing_entries}
@@ -37,7 +37,7 @@ use Rattle.sdr_model.specs.Steps.{with_thing}
 use Rattle.sdr_model.specs.Things.{Things}
 use Rattle.sdr_model.specs.Valid.{FitTogether, IsValidThing}
 use Rattle.sdr_model.specs.World.{World, thing_at}
-use Rattle.sdr_model.specs.Zco.{as_object, as_source, count_of, is_of_raw, source_on}
+use Rattle.sdr_model.specs.Zco.{as_object, as_source, count_of, is_of_raw, source_naming}
 use Rattle.sdr_model.specs.declared.things.Thing.{Thing}
 use Rattle.sdr_model.specs.declared.things.Thing.TheVariants as things
 use Rattle.sdr_model.specs.declared.zco.Extent.{Extent}
@@ -50,7 +50,7 @@ use Rattle.zco_answers.proofs.ObjectLemmas.{object_beside, object_is_at}
 use Rattle.zco_obj.specs.Appending.{taken_piece, taking_over}
 use Rattle.zco_obj.specs.Beside.{IsWithRaw, KeepsWithRaw}
 use Rattle.zco_obj.specs.Extents.{extent_of, with_extent}
-use Rattle.zco_obj.specs.declared.extent.Piece.{Piece}
+use Rattle.zco_obj.specs.declared.extent.ExtentPiece.{ExtentPiece}
 use Rattle.zco_ref.specs.Counting.{attached}
 use Rattle.zco_ref.specs.Kept.{SomeFew, counted_entries}
 use Rattle.zco_served.proofs.SourceLemmas.{counted_in, named_is_at, source_few}
@@ -64,15 +64,15 @@ pub record IsWithRawAt (w : World) (addr raw : ℕ) : Type 0 where
   pub raw_there : thing_at w raw ≡ Some (things.Raw text)
 
 -- a source of a raw object that no other names is the one that names it
-module _ (w : World) (raw addr : ℕ) (source : ZcoSource) (none : source_on w raw ≡ None)
+module _ (w : World) (raw addr : ℕ) (source : ZcoSource) (none : source_naming w raw ≡ None)
     (names : is_of_raw raw source.subject ≡ true) where
   abbrev with_source : World
   with_source = with_thing w addr (things.Source source)
 
-  pub named_first : source_on with_source raw ≡ Some addr
-  named_first = by (source_on with_source raw) refl
+  pub named_first : source_naming with_source raw ≡ Some addr
+  named_first = by (source_naming with_source raw) refl
     where
-      by : (o : Option ℕ) → source_on with_source raw ≡ o → source_on with_source raw ≡ Some addr
+      by : (o : Option ℕ) → source_naming with_source raw ≡ o → source_naming with_source raw ≡ Some addr
       by None is =
           absurd (true≢false (sym names
           ∙ unnamed_from with_source raw is addr source (ap as_source (here_at w.things addr (Some (things.Source source))))))
@@ -99,7 +99,7 @@ module _ (w : World) (addr raw : ℕ) (p : IsWithRawAt w addr raw) where
 
   -- stand behind both
   pub raw_before : StandAlike (section f w.things)
-      (object_entries addr (object_row p.object) ++ (raw_entries raw (or_null (source_on w raw)) p.text ++ section f raw_others))
+      (object_entries addr (object_row p.object) ++ (raw_entries raw (or_null (source_naming w raw)) p.text ++ section f raw_others))
   raw_before = two_first f w.things addr raw (things.Object p.object) (things.Raw p.text) raw_apart p.there p.raw_there
 
   -- once a source has taken the raw object over and the object has an extent of that
@@ -125,11 +125,11 @@ module _ (w : World) (addr raw : ℕ) (p : IsWithRawAt w addr raw) where
     abbrev g : ℕ → Thing → Entries
     g = thing_entries (ties_of after)
 
-    abbrev piece : Piece
+    abbrev piece : ExtentPiece
     piece = record { of = raw; offset = offset; bytes = bytes }
 
     -- where no source names the raw object, and the one that takes it over comes where nothing was
-    module _ (unnamed : source_on w raw ≡ None) (fits : FitTogether w) (free : thing_at w source ≡ None) where
+    module _ (unnamed : source_naming w raw ≡ None) (fits : FitTogether w) (free : thing_at w source ≡ None) where
       -- nothing that was there is where it is
       new_apart : (q : ℕ) (thing : Thing) → thing_at w q ≡ Some thing → q ≢ source
       new_apart q thing there same =
@@ -143,13 +143,13 @@ module _ (w : World) (addr raw : ℕ) (p : IsWithRawAt w addr raw) where
           apart_at w.things source (Some (things.Source taking)) addr (new_apart addr (things.Object p.object) p.there) ∙ p.there
 
       -- it names the raw object
-      named : source_on after raw ≡ Some source
+      named : source_naming after raw ≡ Some source
       named =
           same_source_on mid addr p.object raw_extent mid_there raw
           ∙ named_first w raw source taking unnamed (eq-eqb raw raw refl)
 
       -- and others are named by what named them
-      others_named : (q : ℕ) → q ≢ raw → source_on after q ≡ source_on w q
+      others_named : (q : ℕ) → q ≢ raw → source_naming after q ≡ source_naming w q
       others_named q apart =
           same_source_on mid addr p.object raw_extent mid_there q
           ∙ same_first q w.things source (Some (things.Source taking))
@@ -246,24 +246,24 @@ module _ (w : World) (addr raw : ℕ) (p : IsWithRawAt w addr raw) where
           (ap as_source (here_at w.things source (Some (things.Source taking)))) space))
 
 -- in a heap that stands for a world in which calls are served
-module _ (heap : Heap) (w : World) (s : HeapStandsFor heap w) (served : IsServed w) (small : IsSmall heap) (addr raw : ℕ) where
+module _ (heap : Heap) (w : World) (s : HeapStandsFor heap w) (served : IsReady w) (small : IsSmall heap) (addr raw : ℕ) where
   -- the counts of the source that names the raw object can be added
-  naming_few : (o : Option ℕ) → source_on w raw ≡ o → or_null o ≢ 0 → SomeFew (heap.blocks (or_null o))
+  naming_few : (o : Option ℕ) → source_naming w raw ≡ o → or_null o ≢ 0 → SomeFew (heap.blocks (or_null o))
   naming_few None is some = absurd (some refl)
   naming_few (Some a) is some =
       let n = source_there w raw a is in source_few heap w a n.source s served small n.there
 
   -- both are kept
   pub raw_kept : (p : IsWithRawAt w addr raw) →
-      KeepsWithRaw heap addr (object_row p.object) (tickets_of w.accounts p.object.account) raw (or_null (source_on w raw)) p.text
+      KeepsWithRaw heap addr (object_row p.object) (tickets_of w.accounts p.object.account) raw (or_null (source_naming w raw)) p.text
   raw_kept p =
       let valid : length p.text ≤ longest_raw =
       subst (λ (o : Option Thing). IfSome o IsValidThing) p.raw_there (served.whole.valid.things raw) in
       record {
-        beside = object_beside heap w addr p.object s served small p.there (raw_entries raw (or_null (source_on w raw)) p.text)
+        beside = object_beside heap w addr p.object s served small p.there (raw_entries raw (or_null (source_naming w raw)) p.text)
             (section (thing_entries (ties_of w)) (raw_others w addr raw p)) (raw_before w addr raw p);
         small = (named_is_at heap w raw s served (own_in_use heap w raw (things.Raw p.text) s served.whole.valid p.raw_there)).keeps.small;
-        named = naming_few (source_on w raw) refl;
+        named = naming_few (source_naming w raw) refl;
         short = omega (arith, valid);
       }
 
@@ -280,7 +280,7 @@ module _ (heap : Heap) (w : World) (s : HeapStandsFor heap w) (served : IsServed
       record {
         row = object_row p.object;
         tickets = tickets_of w.accounts p.object.account;
-        named_by = or_null (source_on w raw);
+        named_by = or_null (source_naming w raw);
         bytes = p.text;
         keeps = raw_kept p;
       }

@@ -2,7 +2,7 @@
 use Rattle.std.proofs.Common.{◌≡◌, ◌∙◌, ℕ, List, [], ◌∷◌, ◌++◌, Some, None, false, true, inl, refl, sym, ap, subst, append_assoc}
 use Rattle.sdr_answers.proofs.ListLemmas.{IsSmall}
 use Rattle.sdr_answers.proofs.RowLemmas.{TakesAim, moved_answered, row_refused, took_has}
-use Rattle.sdr_answers.specs.Answering.{Answered, IsRefused, IsServed}
+use Rattle.sdr_answers.specs.Answering.{Answered, IsRefused, IsReady}
 use Rattle.sdr_audit.specs.Rows.{object_row}
 use Rattle.sdr_audit.specs.Standing.{HeapStandsFor, thing_entries, with_taken_marked}
 use Rattle.sdr_audit.specs.Ties.{ties_of}
@@ -45,18 +45,18 @@ use Rattle.zco_obj.specs.AppendStops.{RangeRefused, SourceAllowed, SourceStops}
 use Rattle.zco_obj.specs.Appending.{AppendsSource, IsWithin, OfSource}
 use Rattle.zco_obj.specs.Charging.{Pays, refusal_in}
 use Rattle.zco_obj.specs.Extents.{extent_of, with_extent}
-use Rattle.zco_obj.specs.declared.extent.Piece.{Piece}
+use Rattle.zco_obj.specs.declared.extent.ExtentPiece.{ExtentPiece}
 use Rattle.zco_ref.specs.Counting.{attached}
 use Rattle.zco_ref.specs.Kept.{CountedSource, counted_entries}
 use Rattle.zco_served.proofs.SourceLemmas.{counted_in, source_stands}
 
 -- a call on a heap that stands for a world in which it is served
-module _ (old new : Heap) (w : World) (unmoved : old.moves ≡ []) (s : HeapStandsFor old w) (served : IsServed w) (small : IsSmall old)
+module _ (old new : Heap) (w : World) (unmoved : old.moves ≡ []) (s : HeapStandsFor old w) (served : IsReady w) (small : IsSmall old)
     (addr number named offset bytes : ℕ) where
   abbrev call : Call
   call = calls.AppendExtent addr number named offset bytes
 
-  abbrev piece : Piece
+  abbrev piece : ExtentPiece
   piece = record { of = named; offset = offset; bytes = bytes }
 
   -- where the source is

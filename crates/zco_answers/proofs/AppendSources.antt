@@ -2,7 +2,7 @@
 use Rattle.std.proofs.Common.{◌≡◌, ◌≢◌, ◌∙◌, ◌<◌, ◌^◌, ◌++◌, ℕ, Some, None, refl, sym, ap, subst}
 use Rattle.std.specs.FinMap as finite
 use Rattle.sdr_answers.proofs.ListLemmas.{IsSmall}
-use Rattle.sdr_answers.specs.Answering.{IsServed}
+use Rattle.sdr_answers.specs.Answering.{IsReady}
 use Rattle.sdr_audit.specs.Rows.{object_row}
 use Rattle.sdr_audit.specs.Standing.{HeapStandsFor, thing_entries}
 use Rattle.sdr_audit.specs.Ties.{or_null, ties_of}
@@ -34,7 +34,7 @@ use Rattle.zco_answers.proofs.AppendLemmas.{counted_once, longer_row, lost_again
 use Rattle.zco_answers.proofs.ObjectLemmas.{object_beside, object_is_at, short_source}
 use Rattle.zco_obj.specs.Beside.{IsWithSource, KeepsWithSource}
 use Rattle.zco_obj.specs.Extents.{extent_of, with_extent}
-use Rattle.zco_obj.specs.declared.extent.Piece.{Piece}
+use Rattle.zco_obj.specs.declared.extent.ExtentPiece.{ExtentPiece}
 use Rattle.zco_ref.specs.Counting.{attached}
 use Rattle.zco_ref.specs.Kept.{count_in, counted_entries}
 use Rattle.zco_served.proofs.SourceLemmas.{counted_in, source_is_at, source_stands}
@@ -83,7 +83,7 @@ module _ (w : World) (addr named : ℕ) (p : IsPair w addr named) where
     abbrev g : ℕ → Thing → Entries
     g = thing_entries (ties_of after)
 
-    abbrev piece : Piece
+    abbrev piece : ExtentPiece
     piece = record { of = named; offset = offset; bytes = bytes }
 
     -- the others are written as before
@@ -117,7 +117,7 @@ module _ (w : World) (addr named : ℕ) (p : IsPair w addr named) where
         (λ space. extent_charge_more (of w.things) p.object pair_extent p.source (ap as_source p.named_there) space)
 
 -- in a heap that stands for a world in which calls are served
-module _ (heap : Heap) (w : World) (s : HeapStandsFor heap w) (served : IsServed w) (small : IsSmall heap) (addr named : ℕ) where
+module _ (heap : Heap) (w : World) (s : HeapStandsFor heap w) (served : IsReady w) (small : IsSmall heap) (addr named : ℕ) where
   few : (p : IsPair w addr named) (acct : Acct) → count_in acct (counted_in w named p.source) < 2 ^ 62
   few p accts.Inbound = counts_small heap w named accts.Inbound s small
   few p accts.Outbound = counts_small heap w named accts.Outbound s small

@@ -5,7 +5,7 @@ use Rattle.std.proofs.lemmas.Bool.Decides.{nat_tests}
 use Rattle.std.specs.FinMap as finite
 use Rattle.sdr_answers.proofs.ListLemmas.{IsSmall}
 use Rattle.sdr_answers.proofs.RowLemmas.{TakesAim, misnamed_refused, moved_answered, row_refused, took_has}
-use Rattle.sdr_answers.specs.Answering.{Answered, IsRefused, IsServed}
+use Rattle.sdr_answers.specs.Answering.{Answered, IsRefused, IsReady}
 use Rattle.sdr_audit.specs.Rows.{capsule_row, object_row}
 use Rattle.sdr_audit.specs.Standing.{HeapStandsFor, with_taken_marked}
 use Rattle.sdr_audit.specs.Ties.{TieAlike}
@@ -85,7 +85,7 @@ no_capsule count (inl none) = grind (arith, nat_tests)
 no_capsule count (inr long) = grind (arith, nat_tests)
 
 -- a call on a heap that stands for a world in which it is served
-module _ (old new : Heap) (w : World) (unmoved : old.moves ≡ []) (s : HeapStandsFor old w) (served : IsServed w)
+module _ (old new : Heap) (w : World) (unmoved : old.moves ≡ []) (s : HeapStandsFor old w) (served : IsReady w)
     (more : ZcoObject → Capsule → ZcoObject) (more_row : ObjectRow → CapsuleRow → ObjectRow) (adds : AddsOne more more_row)
     (call : Call) (changing : is_reading call ≡ false) (addr number : ℕ) (text : List ℕ)
     (row : (o : Outcome) → object.AddsCapsule w o addr number text more → ByRow w o call) where

@@ -16,7 +16,7 @@ use Rattle.sdr_model.specs.Accounts.{account_of, pending_in, tickets_of}
 use Rattle.sdr_model.specs.Amounts.{amount, amounts_by, first_above, minus, no_amounts}
 use Rattle.sdr_model.specs.Charges.{occupancies, occupancy, rooms}
 use Rattle.sdr_model.specs.Charging as model
-use Rattle.sdr_model.specs.Charging.{Charges, with_used}
+use Rattle.sdr_model.specs.Charging.{Charges, with_covered}
 use Rattle.sdr_model.specs.Queue.{barrier}
 use Rattle.sdr_model.specs.Steps.{Outcome, Refuses}
 use Rattle.sdr_model.specs.World.{World}
@@ -35,8 +35,8 @@ use Rattle.zco_granted.proofs.FoundLemmas.{IsFoundAt, found_at, found_pending, n
 -- the ticket that a charge uses is set at its place
 used_at : (number : ℕ) (amounts : Amounts) (ts : List Ticket) (place : ℕ) (t : Ticket) →
     position_or_len (has_number number) ts ≡ place → slice_get ts place ≡ Some t →
-    acct.with_used number amounts ts ≡ set ts place (record t { left = minus t.left amounts })
-unfolding acct.with_used
+    acct.tickets_covered number amounts ts ≡ set ts place (record t { left = minus t.left amounts })
+unfolding acct.tickets_covered
 used_at number amounts [] place t at there = absurd cc
 used_at number amounts (x ∷ xs) place t at there =
     by (x.number == number) refl place at there (λ p at there. used_at number amounts xs p t at there)
@@ -44,8 +44,8 @@ used_at number amounts (x ∷ xs) place t at there =
     by : (b : Bool) → (x.number == number) ≡ b → (p : ℕ) → cond (not b) (1 + position_or_len (has_number number) xs) 0 ≡ p →
         slice_get (x ∷ xs) p ≡ Some t →
         ((k : ℕ) → position_or_len (has_number number) xs ≡ k → slice_get xs k ≡ Some t →
-        acct.with_used number amounts xs ≡ set xs k (record t { left = minus t.left amounts })) →
-        (if b then record x { left = minus x.left amounts } ∷ xs else x ∷ acct.with_used number amounts xs)
+        acct.tickets_covered number amounts xs ≡ set xs k (record t { left = minus t.left amounts })) →
+        (if b then record x { left = minus x.left amounts } ∷ xs else x ∷ acct.tickets_covered number amounts xs)
         ≡ set (x ∷ xs) p (record t { left = minus t.left amounts })
     by true e zero at there rest =
         let same : x ≡ t = cc in ap (λ (u : Ticket). record u { left = minus u.left amounts } ∷ xs) same
@@ -55,24 +55,25 @@ used_at number amounts (x ∷ xs) place t at there =
 
 -- a charge leaves the ends of a queue
 used_first : (number : ℕ) (amounts : Amounts) (ts : List Ticket) →
-    first_of block_of 0 (acct.with_used number amounts ts) ≡ first_of block_of 0 ts
-unfolding acct.with_used
+    first_of block_of 0 (acct.tickets_covered number amounts ts) ≡ first_of block_of 0 ts
+unfolding acct.tickets_covered
 used_first number amounts [] = refl
 used_first number amounts (t ∷ ts) =
     elim (t.number == number) as (λ b. first_of block_of 0
-    (if b then record t { left = minus t.left amounts } ∷ ts else t ∷ acct.with_used number amounts ts) ≡ t.block) [
+    (if b then record t { left = minus t.left amounts } ∷ ts else t ∷ acct.tickets_covered number amounts ts)
+        ≡ t.block) [
       | true ↦ refl
       | false ↦ refl
     ]
 
 used_last : (number : ℕ) (amounts : Amounts) (prev : ℕ) (ts : List Ticket) →
-    last_of block_of prev (acct.with_used number amounts ts) ≡ last_of block_of prev ts
-unfolding acct.with_used
+    last_of block_of prev (acct.tickets_covered number amounts ts) ≡ last_of block_of prev ts
+unfolding acct.tickets_covered
 used_last number amounts prev [] = refl
 used_last number amounts prev (t ∷ ts) =
     let ih = used_last number amounts t.block ts in
     elim (t.number == number) as (λ b. last_of block_of prev
-    (if b then record t { left = minus t.left amounts } ∷ ts else t ∷ acct.with_used number amounts ts)
+    (if b then record t { left = minus t.left amounts } ∷ ts else t ∷ acct.tickets_covered number amounts ts)
     ≡ last_of block_of t.block ts) [
       | true ↦ refl
       | false ↦ ih
@@ -80,7 +81,7 @@ used_last number amounts prev (t ∷ ts) =
 
 pub charged_ends : (number : ℕ) (amounts : Amounts) (ts : List Ticket) → SameEnds ts (charged ts number amounts)
 charged_ends number amounts ts =
-    elim (number == 0) as (λ b. SameEnds ts (if b then ts else acct.with_used number amounts ts)) [
+    elim (number == 0) as (λ b. SameEnds ts (if b then ts else acct.tickets_covered number amounts ts)) [
       | true ↦ record { first = refl; last = refl }
       | false ↦ record { first = used_first number amounts ts; last = used_last number amounts 0 ts }
     ]
@@ -119,8 +120,8 @@ module _ (w : World) (one : Acct) (number : ℕ) (charge : Space → ℕ) where
   -- it doesn't: the row goes on in the world in which the grant is used
   pub record IsPaid : Type 1 where
     pub pending : Option Pending
-    pub used : with_used w pending amounts ≡ moved w w.things one (charged tickets number amounts)
-    pub goes : (o : Outcome) (goes : World → Type 0) → goes (with_used w pending amounts) → Charges w o one number charge goes
+    pub used : with_covered w pending amounts ≡ moved w w.things one (charged tickets number amounts)
+    pub goes : (o : Outcome) (goes : World → Type 0) → goes (with_covered w pending amounts) → Charges w o one number charge goes
 
   -- what isn't covered, where so much is left of a grant
   abbrev uncovered : Amounts → Amounts
@@ -134,20 +135,20 @@ module _ (w : World) (one : Acct) (number : ℕ) (charge : Space → ℕ) where
       (barrier (uncovered left) tickets) (first_above (uncovered left) (rooms w one)) none
 
   used_moved : (t : Ticket) (f : IsFoundAt number tickets t) → (number == 0) ≡ false →
-      with_used w (Some (pending_at one f.place t)) amounts ≡ moved w w.things one (charged tickets number amounts)
+      with_covered w (Some (pending_at one f.place t)) amounts ≡ moved w w.things one (charged tickets number amounts)
   used_moved t f e =
       let is : set tickets f.place (record t { left = minus t.left amounts }) ≡ charged tickets number amounts =
-      sym (ap (λ (b : Bool). if b then tickets else acct.with_used number amounts tickets) e
+      sym (ap (λ (b : Bool). if b then tickets else acct.tickets_covered number amounts tickets) e
       ∙ used_at number amounts tickets f.place t f.at f.there) in
       set_moved (set tickets f.place (record t { left = minus t.left amounts })) f.place t
       ∙ ap (λ (us : List Ticket). moved w w.things one us) is
     where
       set_moved : (us : List Ticket) (place : ℕ) (t : Ticket) →
-          with_used w (Some (pending_at one place t)) amounts
+          with_covered w (Some (pending_at one place t)) amounts
           ≡ moved w w.things one (set tickets place (record t { left = minus t.left amounts }))
       set_moved us place t = by one
         where
-          by : (a : Acct) → with_used w (Some (pending_at a place t)) amounts
+          by : (a : Acct) → with_covered w (Some (pending_at a place t)) amounts
               ≡ moved w w.things a (set (tickets_of w.accounts a) place (record t { left = minus t.left amounts }))
           by accts.Inbound = refl
           by accts.Outbound = refl
@@ -188,7 +189,7 @@ module _ (w : World) (one : Acct) (number : ℕ) (charge : Space → ℕ) where
           let free = rest_paid no_amounts none in
           record {
             pending = None;
-            used = stays w one ∙ ap (λ (b : Bool). moved w w.things one (if b then tickets else acct.with_used number amounts tickets)) (sym e);
+            used = stays w one ∙ ap (λ (b : Bool). moved w w.things one (if b then tickets else acct.tickets_covered number amounts tickets)) (sym e);
             goes = λ o goes h.
                 on_true _ _ (number == 0) e
                 (on_none _ _ (barrier (uncovered no_amounts) tickets) free.0
@@ -234,7 +235,7 @@ module _ (w : World) (one : Acct) (number : ℕ) (charge : Space → ℕ) where
           let f = found_at number tickets t here in
           on_false _ _ (number == 0) e
           (on_some _ _ (pending_in w.accounts one number) (pending_at one f.place t) (found_pending w.accounts one number t f)
-          (on_true _ _ t.granted is (rest t.left some (with_used w (Some (pending_at one f.place t)) amounts))))
+          (on_true _ _ t.granted is (rest t.left some (with_covered w (Some (pending_at one f.place t)) amounts))))
       granted t here e false is some =
           let f = found_at number tickets t here in
           let same : refusals.NotAwarded number ≡ that = cc in

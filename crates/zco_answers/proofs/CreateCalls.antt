@@ -2,7 +2,7 @@
 use Rattle.std.proofs.Common.{◌≡◌, ◌∙◌, ℕ, List, [], ◌∷◌, ◌++◌, Some, None, Bool, true, false, cond, inl, refl, sym, ap, arith}
 use Rattle.std.specs.FinMap as finite
 use Rattle.sdr_answers.proofs.RowLemmas.{TakesAim, moved_answered, row_refused, took_has}
-use Rattle.sdr_answers.specs.Answering.{Answered, IsRefused, IsServed}
+use Rattle.sdr_answers.specs.Answering.{Answered, IsRefused, IsReady}
 use Rattle.sdr_audit.proofs.ChangeLemmas.{nothing_at}
 use Rattle.sdr_audit.specs.Standing.{HeapStandsFor, with_taken_marked}
 use Rattle.sdr_audit.specs.Ties.{TieAlike}
@@ -47,7 +47,7 @@ names_nothing acct = record { raws = λ raw. refl; sources = λ source b. by (is
     by false = refl
 
 -- a call on a heap that stands for a world in which it is served
-module _ (old new : Heap) (w : World) (unmoved : old.moves ≡ []) (s : HeapStandsFor old w) (served : IsServed w) (acct : Acct)
+module _ (old new : Heap) (w : World) (unmoved : old.moves ≡ []) (s : HeapStandsFor old w) (served : IsReady w) (acct : Acct)
     (number : ℕ) where
   abbrev charge : Space → ℕ
   charge = in_space spaces.Heap object_bytes

@@ -5,7 +5,7 @@ use Rattle.std.specs.Option.{option_map_or}
 use Rattle.std.specs.Prelude.{All}
 use Rattle.sdr_answers.proofs.ListLemmas.{IsSmall}
 use Rattle.sdr_answers.proofs.RowLemmas.{HasMoves, gave_has, gave_takes, misnamed_refused}
-use Rattle.sdr_answers.specs.Answering.{Aim, Answered, IsRefused, IsServed}
+use Rattle.sdr_answers.specs.Answering.{Aim, Answered, IsRefused, IsReady}
 use Rattle.sdr_audit.specs.Rows.{extent_row, object_row}
 use Rattle.sdr_audit.specs.Standing.{HeapStandsFor, entries_of, with_taken_marked}
 use Rattle.sdr_base.specs.Entries.{Changes}
@@ -58,13 +58,13 @@ use Rattle.zco_answers.proofs.PayingLemmas.{freed_occupied}
 use Rattle.zco_answers.specs.Answering.{call_lines, grants_of}
 use Rattle.zco_granted.proofs.AccountLemmas.{unmarked}
 use Rattle.zco_granted.proofs.ComingLemmas.{log_full}
-use Rattle.zco_granted.specs.Answering.{KeepsTickets, Serves}
+use Rattle.zco_granted.specs.Answering.{KeepsTickets, Grants}
 use Rattle.zco_obj.specs.Destroying.{DestroysObject, DestroyStops, KeepsSources, ObjectGone, charges_of, gone_object, gone_parts, parts_lines}
 use Rattle.zco_obj.specs.Gone.{NamedSource, gone_blocks, sources_left}
 use Rattle.zco_obj.specs.Reading.{Tells}
 
 -- a call on a heap that stands for a world in which it is served
-module _ (old : Heap) (w : World) (unmoved : old.moves ≡ []) (s : HeapStandsFor old w) (served : IsServed w) (small : IsSmall old)
+module _ (old : Heap) (w : World) (unmoved : old.moves ≡ []) (s : HeapStandsFor old w) (served : IsReady w) (small : IsSmall old)
     (addr : ℕ) where
   -- of an object that is there
   module _ (at : IsObjectAt w addr) where
@@ -145,7 +145,7 @@ module _ (old : Heap) (w : World) (unmoved : old.moves ≡ []) (s : HeapStandsFo
 
     -- it is gone, and the queue was served
     pub gone_answered : {mid new : Heap} {acct : Acct} → ObjectGone addr (object_row z) rows old mid →
-        Tells old.blocks addr (λ r. r.account) acct → Serves acct mid new → Answered w (calls.Destroy addr) new [] replies.Done
+        Tells old.blocks addr (λ r. r.account) acct → Grants acct mid new → Answered w (calls.Destroy addr) new [] replies.Done
     gone_answered {mid} {new} {acct} g told serves =
         let stands : HeapStandsFor new (with_served lost z.account) =
         subst (λ (a : Acct). HeapStandsFor new (with_served lost a)) (own_account told)
@@ -209,7 +209,7 @@ module _ (old : Heap) (w : World) (unmoved : old.moves ≡ []) (s : HeapStandsFo
     pub gone : ObjectGone addr (object_row object.object) (rows object) old mid
     gone = d.gone (object_row object.object) (rows object) (keeps object)
 
-    pub destroyed : {new : Heap} {acct : Acct} → Tells old.blocks addr (λ r. r.account) acct → Serves acct mid new →
+    pub destroyed : {new : Heap} {acct : Acct} → Tells old.blocks addr (λ r. r.account) acct → Grants acct mid new →
         Answered w (calls.Destroy addr) new [] replies.Done
     destroyed told serves = gone_answered object gone told serves
 

@@ -3,11 +3,11 @@ use Rattle.std.proofs.Common.{◌≡◌, ◌∙◌, ◌+◌, ◌≤◌, ℕ, Lis
 use Rattle.std.proofs.lemmas.List.Elements.{All-cons, All-nil}
 use Rattle.std.specs.Prelude.{All, Some, if◌then◌else◌}
 use Rattle.sdr_answers.proofs.ListLemmas.{IsSmall}
-use Rattle.sdr_answers.specs.Answering.{IsServed}
+use Rattle.sdr_answers.specs.Answering.{IsReady}
 use Rattle.sdr_audit.specs.Rows.{extent_row, object_row}
 use Rattle.sdr_audit.specs.Standing.{HeapStandsFor, other_entries, thing_entries}
 use Rattle.sdr_audit.specs.Ties.{ties_of}
-use Rattle.sdr_base.specs.Entries.{Entries, Stands}
+use Rattle.sdr_base.specs.Entries.{Entries, BlocksAre}
 use Rattle.sdr_base.specs.Objects.{Heap}
 use Rattle.sdr_base.specs.Section.{section}
 use Rattle.sdr_base.specs.ZcoObjects.{ExtentRow, object_entries}
@@ -45,7 +45,7 @@ abbrev pub used : (w : World) (addr : ℕ) (z : ZcoObject) → FitTogether w →
 used w addr z fits there = used_by w z.extents fits z.extents (lie w addr z fits there) (λ q named. named)
 
 -- in a heap that stands for a world in which calls are served
-module _ (heap : Heap) (w : World) (s : HeapStandsFor heap w) (served : IsServed w) (small : IsSmall heap) (addr : ℕ) (z : ZcoObject)
+module _ (heap : Heap) (w : World) (s : HeapStandsFor heap w) (served : IsReady w) (small : IsSmall heap) (addr : ℕ) (z : ZcoObject)
     (there : thing_at w addr ≡ Some (things.Object z)) where
   abbrev pub mine : UsedBy w z.extents z.extents
   mine = used w addr z served.whole.fits there
@@ -109,7 +109,7 @@ module _ (heap : Heap) (w : World) (s : HeapStandsFor heap w) (served : IsServed
       let object = object_entries addr (object_row z) in
       record {
         rest = rest ++ other_entries w;
-        stands = subst (λ (es : Entries). Stands heap.blocks es)
+        stands = subst (λ (es : Entries). BlocksAre heap.blocks es)
             (append_assoc object (sources_entries sources ++ rest) (other_entries w)
             ∙ ap (λ (es : Entries). object ++ es) (append_assoc (sources_entries sources) rest (other_entries w)))
             (sources_behind.forth heap.blocks (other_entries w) s.blocks);

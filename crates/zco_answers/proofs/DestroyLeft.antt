@@ -4,7 +4,7 @@ use Rattle.std.proofs.lemmas.List.{length-map}
 use Rattle.std.specs.Prelude.{if◌then◌else◌}
 use Rattle.sdr_base.proofs.LinkedLemmas.{length-linked}
 use Rattle.sdr_base.proofs.StandingLemmas.{moved, moved_back}
-use Rattle.sdr_base.specs.Entries.{Entries, Few, Stands}
+use Rattle.sdr_base.specs.Entries.{Entries, Few, BlocksAre}
 use Rattle.sdr_base.specs.Making.{gave, with_moves}
 use Rattle.sdr_base.specs.Objects.{Heap}
 use Rattle.sdr_base.specs.ZcoObjects.{ExtentRow, ObjectRow, capsule_addr, capsule_block, capsule_entries, extent_addr, extent_block, extent_entries, object_entries}
@@ -81,11 +81,11 @@ module _ {heap : Heap} {object : ℕ} (k : SomeWithAll heap object) where
   sources_kept =
       let own = object_entries object row in
       let behind = k.beside.behind in
-      let all : Stands heap.blocks ((own ++ queue) ++ (named ++ behind)) =
-      subst (λ (es : Entries). Stands heap.blocks ((own ++ queue) ++ es)) k.beside.whole
-      (subst (λ (es : Entries). Stands heap.blocks es) (sym (append_assoc own queue k.beside.keeps.rest)) k.beside.keeps.stands) in
-      let first : Stands heap.blocks (named ++ (own ++ (queue ++ behind))) =
-      subst (λ (es : Entries). Stands heap.blocks (named ++ es)) (append_assoc own queue behind)
+      let all : BlocksAre heap.blocks ((own ++ queue) ++ (named ++ behind)) =
+      subst (λ (es : Entries). BlocksAre heap.blocks ((own ++ queue) ++ es)) k.beside.whole
+      (subst (λ (es : Entries). BlocksAre heap.blocks es) (sym (append_assoc own queue k.beside.keeps.rest)) k.beside.keeps.stands) in
+      let first : BlocksAre heap.blocks (named ++ (own ++ (queue ++ behind))) =
+      subst (λ (es : Entries). BlocksAre heap.blocks (named ++ es)) (append_assoc own queue behind)
       (moved (own ++ queue) named behind all) in
       record {
         rest = queue ++ behind;
@@ -143,8 +143,8 @@ queue_left {old} {mid} {object} {acct} with_all d told =
     let amounts = minus (occupied_in old row.account) (charges_of row k.sources) in
     let queue = queue_entries row.account k.tickets in
     let left = sources_left row.account row.extents k.sources in
-    let were : Stands old.blocks ((object_entries object row ++ sources_entries k.sources) ++ (queue ++ k.beside.behind)) =
-    subst (λ (es : Entries). Stands old.blocks es)
+    let were : BlocksAre old.blocks ((object_entries object row ++ sources_entries k.sources) ++ (queue ++ k.beside.behind)) =
+    subst (λ (es : Entries). BlocksAre old.blocks es)
     (sym (append_assoc (object_entries object row) (sources_entries k.sources) (queue ++ k.beside.behind))) mine.stands in
     let own : acct ≡ row.account = told.tells row (kept_alone k) in
     let kept : SomeQueue mid row.account = record {

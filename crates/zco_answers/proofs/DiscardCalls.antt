@@ -5,7 +5,7 @@ use Rattle.std.specs.Option.{option_map, option_map_or}
 use Rattle.std.specs.Prelude.{All, IfSome}
 use Rattle.sdr_answers.proofs.ListLemmas.{IsSmall}
 use Rattle.sdr_answers.proofs.RowLemmas.{HasMoves, gave_has, misnamed_refused, row_refused}
-use Rattle.sdr_answers.specs.Answering.{Aim, Answered, IsRefused, IsServed}
+use Rattle.sdr_answers.specs.Answering.{Aim, Answered, IsRefused, IsReady}
 use Rattle.sdr_audit.specs.Rows.{capsule_row, object_row}
 use Rattle.sdr_audit.specs.Standing.{HeapStandsFor, with_taken_marked}
 use Rattle.sdr_audit.specs.Ties.{TieAlike}
@@ -60,12 +60,12 @@ use Rattle.zco_answers.proofs.PayingLemmas.{freed_occupied}
 use Rattle.zco_answers.specs.Answering.{left_with}
 use Rattle.zco_granted.proofs.AccountLemmas.{unmarked}
 use Rattle.zco_granted.proofs.ComingLemmas.{log_full}
-use Rattle.zco_granted.specs.Answering.{KeepsTickets, Serves}
+use Rattle.zco_granted.specs.Answering.{KeepsTickets, Grants}
 use Rattle.zco_obj.specs.Discards.{Discarded, DiscardsCapsule, DiscardsOne, DiscardStops, GaveOne}
 use Rattle.zco_obj.specs.Reading.{Tells}
 
 -- a call on a heap that stands for a world in which it is served
-module _ (old : Heap) (w : World) (unmoved : old.moves ≡ []) (s : HeapStandsFor old w) (served : IsServed w) (small : IsSmall old)
+module _ (old : Heap) (w : World) (unmoved : old.moves ≡ []) (s : HeapStandsFor old w) (served : IsReady w) (small : IsSmall old)
     (pick : ZcoObject → Option Capsule) (without : ZcoObject → ZcoObject) (pick_row : ObjectRow → Option CapsuleRow)
     (without_row : ObjectRow → ObjectRow) (drops : DropsOne pick without pick_row without_row) (still : StillFits without_row) (call : Call)
     (changing : is_reading call ≡ false) (addr : ℕ)
@@ -194,7 +194,7 @@ module _ (old : Heap) (w : World) (unmoved : old.moves ≡ []) (s : HeapStandsFo
 
     -- it went, and the queue was served
     pub discard_answered : {mid heap new : Heap} {acct : Acct} (d : Dropped mid) → heap ≡ mid →
-        Tells mid.blocks addr (λ r. r.account) acct → Serves acct heap new → Answered w call new [] replies.Done
+        Tells mid.blocks addr (λ r. r.account) acct → Grants acct heap new → Answered w call new [] replies.Done
     discard_answered {mid} {heap} {new} {acct} d same told serves =
         let z = d.gone.object in
         let c = d.gone.capsule in

@@ -7,7 +7,7 @@ use Rattle.std.specs.Option.{option_map}
 use Rattle.std.specs.Prelude.{slice_get}
 use Rattle.sdr_audit.specs.Rows.{capsule_row, object_row}
 use Rattle.sdr_base.specs.Blocks.{Blocks}
-use Rattle.sdr_base.specs.Entries.{Changes, Entries, Stands}
+use Rattle.sdr_base.specs.Entries.{Changes, Entries, BlocksAre}
 use Rattle.sdr_base.specs.ZcoObjects.{CapsuleRow, ObjectRow}
 use Rattle.sdr_base.specs.declared.kind.Space.{Space}
 use Rattle.sdr_laws.proofs.ObjectRows.{first_less, last_less}
@@ -69,6 +69,6 @@ drops_trailer = record {
 pub framed : {b b' : Blocks} (es es' q : Entries) → Changes b b' es es' → Changes b b' (es ++ q) (es' ++ q)
 framed {b} {b'} es es' q c = record {
   kept = λ rest s.
-      subst (λ (xs : Entries). Stands b' xs) (sym (append_assoc es' q rest))
-      (c.kept (q ++ rest) (subst (λ (xs : Entries). Stands b xs) (append_assoc es q rest) s));
+      subst (λ (xs : Entries). BlocksAre b' xs) (sym (append_assoc es' q rest))
+      (c.kept (q ++ rest) (subst (λ (xs : Entries). BlocksAre b xs) (append_assoc es q rest) s));
 }

@@ -32,7 +32,7 @@ use Rattle.zco_answers.proofs.GoneUses.{AreUsed, UsedSource, all_gone, all_keys,
 use Rattle.zco_answers.proofs.MovingLemmas.{entries_at}
 use Rattle.zco_obj.specs.Gone as rows
 use Rattle.zco_obj.specs.Gone.{NamedSource, left_of, less_uses, sources_entries, sources_left}
-use Rattle.zco_ref.specs.Going.{left_by}
+use Rattle.zco_ref.specs.Going.{blocks_left}
 use Rattle.zco_ref.specs.Kept.{CountedSource, counted_entries, raw_part, tied_entries}
 use Rattle.zco_served.proofs.NamedLemmas.{named_at}
 use Rattle.zco_served.proofs.SourceLemmas.{IsRawOf, counted_in}
@@ -153,7 +153,7 @@ module _ (w : World) (addr : ℕ) (z : ZcoObject) (there : thing_at w addr ≡ S
     went : goes w out u.addr u.source ≡ true →
         AllByRecursion (λ k. thing_at lost k ≡ None) (gone_at w out u.addr u.source) →
         all_at (ties_of lost) lost.things (keys_at w out u.addr u.source)
-        ≡ left_by (medium_of u.source.subject) (subject_number u.source.subject) u.bytes
+        ≡ blocks_left (medium_of u.source.subject) (subject_number u.source.subject) u.bytes
     went goes_too none =
         let gone : gone_at w out u.addr u.source ≡ option_to_list (owned_raw u.source) ++ u.addr ∷ [] =
         ap (λ (b : Bool). if b then option_to_list (owned_raw u.source) ++ u.addr ∷ [] else []) goes_too in
@@ -182,7 +182,7 @@ module _ (w : World) (addr : ℕ) (z : ZcoObject) (there : thing_at w addr ≡ S
             IsRawOf w subject u.bytes →
             AllByRecursion (λ k. thing_at lost k ≡ None) (option_to_list (taken_over subject) ++ u.addr ∷ []) →
             all_at (ties_of lost) lost.things (u.addr ∷ option_to_list (raw_of subject))
-            ≡ left_by (medium_of subject) (subject_number subject) u.bytes
+            ≡ blocks_left (medium_of subject) (subject_number subject) u.bytes
         by (subjects.File path) is gone raw none = λ i. entries_at (ties_of lost) u.addr (none.0 i) ++ []
         by (subjects.Bulk item) is gone raw none = λ i. entries_at (ties_of lost) u.addr (none.0 i) ++ []
         by (subjects.Heap raw) is gone here none =
@@ -197,7 +197,7 @@ module _ (w : World) (addr : ℕ) (z : ZcoObject) (there : thing_at w addr ≡ S
       where
         choice : Bool → Entries
         choice b =
-            if b then left_by (medium_of u.source.subject) (subject_number u.source.subject) u.bytes
+            if b then blocks_left (medium_of u.source.subject) (subject_number u.source.subject) u.bytes
             else tied_entries u.addr (less_uses z.account (rows.naming u.addr extents) (counted_in w u.addr u.source)) u.bytes
 
         by : (b : Bool) → goes w out u.addr u.source ≡ b →

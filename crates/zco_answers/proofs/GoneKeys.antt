@@ -8,7 +8,7 @@ use Rattle.sdr_laws.proofs.GoneLemmas.{AreApart}
 use Rattle.sdr_laws.proofs.SourceViews.{by_addr}
 use Rattle.sdr_model.specs.Valid.{FitTogether}
 use Rattle.sdr_model.specs.World.{World, as_raw, thing_at}
-use Rattle.sdr_model.specs.Zco.{as_object, as_source, is_of_raw, raw_of, source_at, source_on, taken_over}
+use Rattle.sdr_model.specs.Zco.{as_object, as_source, is_of_raw, raw_of, source_at, source_naming, taken_over}
 use Rattle.sdr_model.specs.declared.things.Thing.{Thing}
 use Rattle.sdr_model.specs.declared.things.Thing.TheVariants as things
 use Rattle.sdr_model.specs.declared.zco.Extent.{Extent}
@@ -39,7 +39,7 @@ distinct_both (x ∷ xs) ys first second apart =
 -- whose an address is: a source's own, or that of the source which names the raw object there
 abbrev owner_by : World → ℕ → Option Thing → Option ℕ
 owner_by w k (Some (things.Source source)) = Some k
-owner_by w k found = source_on w k
+owner_by w k found = source_naming w k
 
 abbrev pub owner_of : World → ℕ → Option ℕ
 owner_of w k = owner_by w k (thing_at w k)

@@ -27,7 +27,7 @@ use Rattle.sdr_model.specs.declared.zco.ZcoSource.{ZcoSource}
 use Rattle.zco_answers.proofs.AppendLemmas.{same_space}
 use Rattle.zco_answers.proofs.GoneUses.{IsFound, UsedSource, goes, itself, named_later, named_of, some_naming}
 use Rattle.zco_obj.specs.Amounts.{charge_of}
-use Rattle.zco_obj.specs.Destroying.{capsule_charge, gone_object}
+use Rattle.zco_obj.specs.Destroying.{capsule_row_charge, gone_object}
 use Rattle.zco_obj.specs.Gone as rows
 use Rattle.zco_obj.specs.Gone.{NamedSource}
 use Rattle.zco_ref.specs.Going as ref
@@ -128,7 +128,7 @@ module _ (w : World) (all : List Extent) where
 
     -- an extent charges what its row does
     extent_same : (space : Space) (e : Extent) → IsFound w all us e.source →
-        rows.extent_charge sources space (extent_row e) ≡ extent_charge w space e
+        rows.extent_row_charge sources space (extent_row e) ≡ extent_charge w space e
     extent_same space e f =
         ap (λ (o : Option NamedSource). bytes_charge (rows.space_in o) e.length space) f.is
         ∙ ap (λ (of : Space). bytes_charge of e.length space) (same_space f.used.source.subject)
@@ -136,12 +136,12 @@ module _ (w : World) (all : List Extent) where
         (sym (ap (source_at w) (sym f.here) ∙ ap as_source f.used.there))
 
     extents_same : (space : Space) (es : List Extent) → ((q : ℕ) → names_source q es ≡ true → IsFound w all us q) →
-        sum_by (rows.extent_charge sources space) (map extent_row es) ≡ sum_by (extent_charge w space) es
+        sum_by (rows.extent_row_charge sources space) (map extent_row es) ≡ sum_by (extent_charge w space) es
     extents_same space [] found = refl
     extents_same space (e ∷ es) found =
         let rest = extents_same space es (λ q named. found q (named_later q e es named)) in
         let one = extent_same space e (found e.source (itself e es)) in
-        let row = sum_by-cons (rows.extent_charge sources space) (extent_row e) (map extent_row es) in
+        let row = sum_by-cons (rows.extent_row_charge sources space) (extent_row e) (map extent_row es) in
         let here = sum_by-cons (extent_charge w space) e es in omega (arith, rest, one, row, here)
 
 -- of an object whose extents all go
@@ -160,9 +160,9 @@ module _ (w : World) (z : ZcoObject) (us : List (UsedSource w z.extents))
   -- and it charges what its row does
   pub charge_same : (space : Space) →
       charge_of (in_space spaces.Heap object_bytes space)
-      (rows.extent_charge (map (named_of w z.extents) us) space) (capsule_charge space) (object_row z)
+      (rows.extent_row_charge (map (named_of w z.extents) us) space) (capsule_row_charge space) (object_row z)
       ≡ object_charge w space z
   charge_same space =
       let extents = extents_same w z.extents us space z.extents found in
-      let headers = sum_by-map (capsule_charge space) capsule_row z.headers in
-      let trailers = sum_by-map (capsule_charge space) capsule_row z.trailers in omega (arith, extents, headers, trailers)
+      let headers = sum_by-map (capsule_row_charge space) capsule_row z.headers in
+      let trailers = sum_by-map (capsule_row_charge space) capsule_row z.trailers in omega (arith, extents, headers, trailers)

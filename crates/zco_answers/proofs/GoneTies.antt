@@ -23,7 +23,7 @@ use Rattle.sdr_model.specs.Steps.{without_thing}
 use Rattle.sdr_model.specs.Things.{Things, with_at}
 use Rattle.sdr_model.specs.Valid.{FitTogether}
 use Rattle.sdr_model.specs.World.{World, as_raw, thing_at}
-use Rattle.sdr_model.specs.Zco.{as_object, as_source, count_of, is_of_raw, naming, source_on, uses_in}
+use Rattle.sdr_model.specs.Zco.{as_object, as_source, count_of, is_of_raw, naming, source_naming, uses_in}
 use Rattle.sdr_model.specs.declared.things.Thing.{Thing}
 use Rattle.sdr_model.specs.declared.things.Thing.TheVariants as things
 use Rattle.sdr_model.specs.declared.zco.Extent.{Extent}
@@ -207,7 +207,7 @@ module _ (w : World) (addr : ℕ) (z : ZcoObject) (there : thing_at w addr ≡ S
     -- where sources and extents still fit each other
     module _ (fits' : FitTogether (lost_world w addr out new)) where
       -- a raw object that is none of theirs is named by the same source
-      source_on_same : (q : ℕ) → AreApart q keys → source_on lost q ≡ source_on w q
+      source_on_same : (q : ℕ) → AreApart q keys → source_naming lost q ≡ source_naming w q
       source_on_same q apart =
           same_named w lost q fits fits'
           (record {
@@ -225,14 +225,14 @@ module _ (w : World) (addr : ℕ) (z : ZcoObject) (there : thing_at w addr ≡ S
 
       -- a raw object of one that stays is named by it, and one of a source that went by none
       pub named_still : (raw a : ℕ) (s : ZcoSource) → thing_at lost a ≡ Some (things.Source s) → is_of_raw raw s.subject ≡ true →
-          source_on lost raw ≡ Some a
+          source_naming lost raw ≡ Some a
       named_still raw a s at named = named_at lost raw a s fits' at named
 
       pub named_no_more : (raw a : ℕ) (s : ZcoSource) → thing_at w a ≡ Some (things.Source s) → is_of_raw raw s.subject ≡ true →
-          thing_at lost a ≡ None → source_on lost raw ≡ None
-      named_no_more raw a s was named none = by (source_on lost raw) refl
+          thing_at lost a ≡ None → source_naming lost raw ≡ None
+      named_no_more raw a s was named none = by (source_naming lost raw) refl
         where
-          by : (o : Option ℕ) → source_on lost raw ≡ o → source_on lost raw ≡ None
+          by : (o : Option ℕ) → source_naming lost raw ≡ o → source_naming lost raw ≡ None
           by None is = is
           by (Some b) is =
               let n = source_there lost raw b is in

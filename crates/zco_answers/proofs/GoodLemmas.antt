@@ -1,6 +1,6 @@
 -- Objects and queues are kept where a heap stands for a world in which calls on objects are served.
 use Rattle.sdr_answers.proofs.ListLemmas.{IsSmall}
-use Rattle.sdr_answers.specs.Answering.{IsServed}
+use Rattle.sdr_answers.specs.Answering.{IsReady}
 use Rattle.sdr_audit.specs.Rows.{object_row}
 use Rattle.sdr_audit.specs.Standing.{HeapStandsFor}
 use Rattle.sdr_base.specs.Objects.{Heap}
@@ -12,7 +12,7 @@ use Rattle.zco_answers.proofs.ObjectLemmas.{object_is_at, object_kept, object_wi
 use Rattle.zco_answers.specs.Answering.{IsGood}
 use Rattle.zco_granted.proofs.GoodLemmas as tickets
 
-pub good_of : (heap : Heap) (w : World) → HeapStandsFor heap w → IsServed w → IsSmall heap → IsGood heap
+pub good_of : (heap : Heap) (w : World) → HeapStandsFor heap w → IsReady w → IsSmall heap → IsGood heap
 good_of heap w s served small = record {
   queues = tickets.good_of heap w s served;
   objects = λ addr kind.

@@ -4,7 +4,7 @@ use Rattle.std.proofs.lemmas.List.{length-drop, length-take}
 use Rattle.std.proofs.lemmas.List.Elements.{All-drop, All-take}
 use Rattle.std.specs.Prelude.{Option, None, Some}
 use Rattle.sdr_base.proofs.StandingLemmas.{moved}
-use Rattle.sdr_base.specs.Entries.{Stands}
+use Rattle.sdr_base.specs.Entries.{BlocksAre}
 use Rattle.sdr_base.specs.Making.{with_moves}
 use Rattle.sdr_base.specs.Objects.{Heap}
 use Rattle.sdr_base.specs.ZcoObjects.{CapsuleRow, ObjectRow, object_entries}
@@ -76,7 +76,7 @@ module _ {picks : ObjectRow → Option CapsuleRow} {without : ObjectRow → Obje
   lost : Lost object some.row (without some.row) (picks some.row) old mid
   lost = lost_of (picks some.row) (d.discards some.row (kept_alone some.keeps))
 
-  still_stands : Stands mid.blocks (object_entries object (without some.row)
+  still_stands : BlocksAre mid.blocks (object_entries object (without some.row)
       ++ (queue_entries some.row.account some.tickets ++ some.keeps.rest))
   still_stands = lost.discarded.changes.kept (queue_entries some.row.account some.tickets ++ some.keeps.rest) some.keeps.stands
 

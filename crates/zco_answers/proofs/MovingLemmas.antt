@@ -11,7 +11,7 @@ use Rattle.sdr_base.proofs.StandingLemmas as standing
 use Rattle.sdr_base.proofs.StandingLemmas.{moved_back, stands_swapped_two, swaps_after, swaps_before}
 use Rattle.sdr_base.specs.Blocks.{Blocks}
 use Rattle.sdr_base.specs.Catalogue.{catalogue_entries}
-use Rattle.sdr_base.specs.Entries.{Changes, Entries, Stands, Swaps}
+use Rattle.sdr_base.specs.Entries.{Changes, Entries, BlocksAre, Swaps}
 use Rattle.sdr_base.specs.Section.{section}
 use Rattle.sdr_base.specs.Tickets.{ticket_entries}
 use Rattle.sdr_base.specs.declared.account.Acct.{Acct}
@@ -30,23 +30,24 @@ use Rattle.zco_granted.proofs.QueueLemmas.{same_entries}
 
 -- the blocks of two parts stand in front of all others
 pub both_focused : {b : Blocks} {xs xs' ys ys' p p' q q' : Entries} (u : Swaps xs xs' p p') (v : Swaps ys ys' q q') →
-    Stands b (xs ++ ys) → Stands b (p ++ (q ++ ((u.before ++ (u.behind ++ v.before)) ++ v.behind)))
+    BlocksAre b (xs ++ ys) → BlocksAre b (p ++ (q ++ ((u.before ++ (u.behind ++ v.before)) ++ v.behind)))
 both_focused {b} {xs} {xs'} {ys} {ys'} {p} {p'} {q} {q'} u v s =
     let z = u.before ++ (u.behind ++ v.before) in
     let r = q ++ v.behind in
     let first : xs ++ ys ≡ u.before ++ (p ++ (u.behind ++ ys)) =
     ap (λ (es : Entries). es ++ ys) u.was ∙ append_assoc u.before (p ++ u.behind) ys
     ∙ ap (λ (es : Entries). u.before ++ es) (append_assoc p u.behind ys) in
-    let one : Stands b (p ++ (u.before ++ (u.behind ++ ys))) =
-    standing.moved u.before p (u.behind ++ ys) (subst (λ (es : Entries). Stands b es) first s) in
+    let one : BlocksAre b (p ++ (u.before ++ (u.behind ++ ys))) =
+    standing.moved u.before p (u.behind ++ ys) (subst (λ (es : Entries). BlocksAre b es) first s) in
     let inner : u.before ++ (u.behind ++ ys) ≡ z ++ r =
     ap (λ (es : Entries). u.before ++ (u.behind ++ es)) v.was
     ∙ ap (λ (es : Entries). u.before ++ es) (sym (append_assoc u.behind v.before r))
     ∙ sym (append_assoc u.before (u.behind ++ v.before) r) in
-    let two : Stands b ((p ++ z) ++ r) =
-    subst (λ (es : Entries). Stands b es) (ap (λ (es : Entries). p ++ es) inner ∙ sym (append_assoc p z r)) one in
+    let two : BlocksAre b ((p ++ z) ++ r) =
+    subst (λ (es : Entries). BlocksAre b es) (ap (λ (es : Entries). p ++ es) inner ∙ sym (append_assoc p z r)) one in
     moved_back p q (z ++ v.behind)
-    (subst (λ (es : Entries). Stands b (q ++ es)) (append_assoc p z v.behind) (standing.moved (p ++ z) q v.behind two))
+    (subst (λ (es : Entries). BlocksAre b (q ++ es)) (append_assoc p z v.behind)
+        (standing.moved (p ++ z) q v.behind two))
 
 -- what is at an address is a part of the blocks of all things
 abbrev pub entries_at : Ties → ℕ → Option Thing → Entries
@@ -121,22 +122,23 @@ both_alike {b} {b'} w m acct ts part part' rest was now changes = record { kept 
     part_swap : Swaps (part ++ rest) (part' ++ rest) part part'
     part_swap = record { before = []; behind = rest; was = refl; is = refl }
 
-    first : (tail : Entries) → Stands b (entries_of w ++ tail) → Stands b ((part ++ rest) ++ (other_entries w ++ tail))
+    first : (tail : Entries) → BlocksAre b (entries_of w ++ tail) →
+        BlocksAre b ((part ++ rest) ++ (other_entries w ++ tail))
     first tail s =
         was.forth b (other_entries w ++ tail)
-        (subst (λ (es : Entries). Stands b es)
+        (subst (λ (es : Entries). BlocksAre b es)
         (append_assoc (section (thing_entries (ties_of w)) w.things) (other_entries w) tail) s)
 
-    last : (others tail : Entries) → Stands b' ((part' ++ rest) ++ (others ++ tail)) →
-        Stands b' ((section (thing_entries (ties_of (record w { things = m }))) m ++ others) ++ tail)
+    last : (others tail : Entries) → BlocksAre b' ((part' ++ rest) ++ (others ++ tail)) →
+        BlocksAre b' ((section (thing_entries (ties_of (record w { things = m }))) m ++ others) ++ tail)
     last others tail s =
-        subst (λ (es : Entries). Stands b' es)
+        subst (λ (es : Entries). BlocksAre b' es)
         (sym (append_assoc (section (thing_entries (ties_of (record w { things = m }))) m) others tail))
         (now.back b' (others ++ tail) s)
 
-    by : (a : Acct) (tail : Entries) → Stands b (entries_of w ++ tail) →
+    by : (a : Acct) (tail : Entries) → BlocksAre b (entries_of w ++ tail) →
         Changes b b' (part ++ queue_entries a (tickets_of w.accounts a)) (part' ++ queue_entries a ts) →
-        Stands b' (entries_of (moved w m a ts) ++ tail)
+        BlocksAre b' (entries_of (moved w m a ts) ++ tail)
     by accts.Inbound tail s changes =
         last (other_entries (moved w m accts.Inbound ts)) tail
         (stands_swapped_two (first tail s) part_swap (swaps_before tail (queue_swap w accts.Inbound ts)) changes)

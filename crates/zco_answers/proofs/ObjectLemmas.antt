@@ -7,7 +7,7 @@ use Rattle.std.specs.List.{AllByRecursion}
 use Rattle.std.specs.Prelude.{All, IfSome}
 use Rattle.sdr_answers.proofs.KindLemmas.{own_in_use, thing_is_at}
 use Rattle.sdr_answers.proofs.ListLemmas.{IsSmall}
-use Rattle.sdr_answers.specs.Answering.{IsServed}
+use Rattle.sdr_answers.specs.Answering.{IsReady}
 use Rattle.sdr_audit.proofs.ChangeLemmas.{apart}
 use Rattle.sdr_audit.specs.Rows.{capsule_row, extent_row, object_row}
 use Rattle.sdr_audit.specs.Standing.{HeapStandsFor, other_entries, thing_entries}
@@ -61,7 +61,7 @@ pub record IsObjectAt (w : World) (addr : ℕ) : Type 0 where
   pub there : thing_at w addr ≡ Some (things.Object object)
 
 -- in a heap that stands for a world in which calls are served
-module _ (heap : Heap) (w : World) (s : HeapStandsFor heap w) (served : IsServed w) (small : IsSmall heap) where
+module _ (heap : Heap) (w : World) (s : HeapStandsFor heap w) (served : IsReady w) (small : IsSmall heap) where
   -- each source is short
   pub short_source : (q : ℕ) (source : ZcoSource) → source_at w q ≡ Some source → source.length ≤ longest_source
   short_source q source is =
@@ -130,7 +130,7 @@ own_object addr (things.Object z) is = (z, refl)
 own_object addr thing is = absurd cc
 
 -- a block in use of the kind of objects is an object's
-pub object_is_at : (heap : Heap) (w : World) (addr : ℕ) → HeapStandsFor heap w → IsServed w →
+pub object_is_at : (heap : Heap) (w : World) (addr : ℕ) → HeapStandsFor heap w → IsReady w →
     IsKind (heap.blocks addr) kinds.Object → IsObjectAt w addr
 object_is_at heap w addr s served kind =
     let t = thing_is_at heap w addr kinds.Object s served.whole.valid refl kind in
@@ -148,7 +148,7 @@ no_object heap w addr s valid other = by (thing_at w addr) refl
     by (Some thing) at = refl
 
 -- an object is kept together with the queue of its account, and beside it what may stand behind it before all other things
-pub object_beside : (heap : Heap) (w : World) (addr : ℕ) (z : ZcoObject) → HeapStandsFor heap w → IsServed w → IsSmall heap →
+pub object_beside : (heap : Heap) (w : World) (addr : ℕ) (z : ZcoObject) → HeapStandsFor heap w → IsReady w → IsSmall heap →
     thing_at w addr ≡ Some (things.Object z) → (es rest : Entries) →
     StandAlike (section (thing_entries (ties_of w)) w.things) (object_entries addr (object_row z) ++ (es ++ rest)) →
     KeepsBeside heap addr (object_row z) (tickets_of w.accounts z.account) es
@@ -173,7 +173,7 @@ object_beside heap w addr z s served small there es rest alike =
     }
 
 -- so it is kept together with the queue
-pub object_with_queue : (heap : Heap) (w : World) (addr : ℕ) (z : ZcoObject) → HeapStandsFor heap w → IsServed w → IsSmall heap →
+pub object_with_queue : (heap : Heap) (w : World) (addr : ℕ) (z : ZcoObject) → HeapStandsFor heap w → IsReady w → IsSmall heap →
     thing_at w addr ≡ Some (things.Object z) →
     KeepsWithQueue heap addr (object_row z) (tickets_of w.accounts z.account)
 object_with_queue heap w addr z s served small there =

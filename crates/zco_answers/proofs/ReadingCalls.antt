@@ -2,7 +2,7 @@
 use Rattle.std.proofs.Common.{◌≡◌, ◌∙◌, ℕ, List, [], length, refl, ap, arith}
 use Rattle.sdr_answers.proofs.ListLemmas.{IsSmall}
 use Rattle.sdr_answers.proofs.RowLemmas.{looked, misnamed_refused}
-use Rattle.sdr_answers.specs.Answering.{Answered, IsRefused, IsServed}
+use Rattle.sdr_answers.specs.Answering.{Answered, IsRefused, IsReady}
 use Rattle.sdr_audit.specs.Rows.{capsule_row, extent_row, object_row}
 use Rattle.sdr_audit.specs.Standing.{HeapStandsFor}
 use Rattle.sdr_base.specs.Objects.{Heap, Misses}
@@ -29,7 +29,7 @@ wire_same z =
     omega (arith, headers, extents, trailers)
 
 -- a call on a heap that stands for a world in which it is served
-module _ (old new : Heap) (w : World) (unmoved : old.moves ≡ []) (s : HeapStandsFor old w) (served : IsServed w) (same : new ≡ old) where
+module _ (old new : Heap) (w : World) (unmoved : old.moves ≡ []) (s : HeapStandsFor old w) (served : IsReady w) (same : new ≡ old) where
   pub length_answered : (addr value : ℕ) → IsSmall old → TellsObject old.blocks addr wire_length value →
       Answered w (calls.ZcoLength addr) new [] (replies.Value value)
   length_answered addr value small t =

@@ -54,15 +54,15 @@ left_without w object =
     (object_at w object) w
 
 -- The world that a call leaves which its row answers, where that serves a queue.
-abbrev pub left_by : World → Call → World
-left_by w (calls.DiscardFirstHeader object) = left_with w object without_header
-left_by w (calls.DiscardLastTrailer object) = left_with w object without_trailer
-left_by w (calls.Destroy object) = left_without w object
-left_by w call = w
+abbrev pub world_left : World → Call → World
+world_left w (calls.DiscardFirstHeader object) = left_with w object without_header
+world_left w (calls.DiscardLastTrailer object) = left_with w object without_trailer
+world_left w (calls.Destroy object) = left_without w object
+world_left w call = w
 
 -- how many tickets it grants
 abbrev pub grants_of : World → Call → ℕ
-grants_of w call = grants_between w (left_by w call)
+grants_of w call = grants_between w (world_left w call)
 
 -- so many lines a call on objects touches at most: 32 for each ticket that it grants, beside its own, which are 28 for each block
 -- that goes where an object is destroyed

@@ -1,9 +1,9 @@
 // The call that gives an object a part of a source or of a raw object, as a step of the machine.
 ghost use Rattle.std.specs.Prelude.{[], ◌≡◌, ◌≤◌};
-ghost use Rattle.sdr_answers.specs.Answering.{Comes, IsServed};
+ghost use Rattle.sdr_answers.specs.Answering.{ComesInEach, IsReady};
 ghost use Rattle.sdr_audit.specs.Standing.{HeapStandsFor};
 ghost use Rattle.sdr_base.specs.Moves.{KeepsSome};
-ghost use Rattle.sdr_base.specs.Works.{Works};
+ghost use Rattle.sdr_base.specs.Works.{Spends};
 ghost use Rattle.sdr_model.specs.Fields.{IsWord};
 ghost use Rattle.sdr_model.specs.World.{World};
 ghost use Rattle.sdr_model.specs.declared.call.Call.TheVariants as calls;
@@ -30,10 +30,10 @@ pub fn append_extent<O: Objects>(
     requires source { IsWithSource (O.heap o.old) object named }
     requires raw { IsWithRaw (O.heap o.old) object named }
     requires unmoved { (O.heap o.old).moves ≡ [] }
-    ensures comes { Comes (calls.AppendExtent object ticket named offset bytes)
+    ensures comes { ComesInEach (calls.AppendExtent object ticket named offset bytes)
         (O.heap o.old) (O.heap o.new) page.old page.new result }
-    ensures works { (w : World) → HeapStandsFor (O.heap o.old) w → IsServed w →
-        Works O.HasHeap (call_lines w (calls.AppendExtent object ticket named offset bytes))
+    ensures works { (w : World) → HeapStandsFor (O.heap o.old) w → IsReady w →
+        Spends O.HasHeap (call_lines w (calls.AppendExtent object ticket named offset bytes))
         o.old o.new result }
     ensures word { IsWord named }
 {

@@ -1,9 +1,9 @@
 // The calls on headers and trailers, as steps of the machine.
 ghost use Rattle.std.specs.Prelude.{[], length, ◌+◌, ◌/◌, ◌≡◌, ◌≤◌};
-ghost use Rattle.sdr_answers.specs.Answering.{Comes, IsServed};
+ghost use Rattle.sdr_answers.specs.Answering.{ComesInEach, IsReady};
 ghost use Rattle.sdr_audit.specs.Standing.{HeapStandsFor};
 ghost use Rattle.sdr_base.specs.Moves.{KeepsSome};
-ghost use Rattle.sdr_base.specs.Works.{Works};
+ghost use Rattle.sdr_base.specs.Works.{Spends};
 ghost use Rattle.sdr_model.specs.Fields.{AreBytes};
 ghost use Rattle.sdr_model.specs.World.{World};
 ghost use Rattle.sdr_model.specs.declared.call.Call.TheVariants as calls;
@@ -28,9 +28,9 @@ pub fn prepend_header<O: Objects>(
     requires spare { 1 ≤ (O.heap o.old).spare }
     requires object { IsWithQueue (O.heap o.old) object }
     requires unmoved { (O.heap o.old).moves ≡ [] }
-    ensures comes { Comes (calls.PrependHeader object ticket text.now)
+    ensures comes { ComesInEach (calls.PrependHeader object ticket text.now)
         (O.heap o.old) (O.heap o.new) page.old page.new result }
-    ensures works { Works O.HasHeap (35 + (8 + length text.now) / 32) o.old o.new result }
+    ensures works { Spends O.HasHeap (35 + (8 + length text.now) / 32) o.old o.new result }
     ensures bytes { AreBytes text.now }
 {
     zco_obj::prepend_header(o, object, ticket, text)?;
@@ -50,9 +50,9 @@ pub fn append_trailer<O: Objects>(
     requires spare { 1 ≤ (O.heap o.old).spare }
     requires object { IsWithQueue (O.heap o.old) object }
     requires unmoved { (O.heap o.old).moves ≡ [] }
-    ensures comes { Comes (calls.AppendTrailer object ticket text.now)
+    ensures comes { ComesInEach (calls.AppendTrailer object ticket text.now)
         (O.heap o.old) (O.heap o.new) page.old page.new result }
-    ensures works { Works O.HasHeap (35 + (8 + length text.now) / 32) o.old o.new result }
+    ensures works { Spends O.HasHeap (35 + (8 + length text.now) / 32) o.old o.new result }
     ensures bytes { AreBytes text.now }
 {
     zco_obj::append_trailer(o, object, ticket, text)?;
@@ -71,10 +71,10 @@ pub fn discard_first_header<O: Objects, F: Notify>(
     requires spare { 1 ≤ (O.heap o.old).spare }
     requires object { IsWithQueue (O.heap o.old) object }
     requires unmoved { (O.heap o.old).moves ≡ [] }
-    ensures comes { Comes (calls.DiscardFirstHeader object)
+    ensures comes { ComesInEach (calls.DiscardFirstHeader object)
         (O.heap o.old) (O.heap o.new) page.old page.new result }
-    ensures works { (w : World) → HeapStandsFor (O.heap o.old) w → IsServed w →
-        Works O.HasHeap (call_lines w (calls.DiscardFirstHeader object)) o.old o.new result }
+    ensures works { (w : World) → HeapStandsFor (O.heap o.old) w → IsReady w →
+        Spends O.HasHeap (call_lines w (calls.DiscardFirstHeader object)) o.old o.new result }
 {
     zco_obj::discard_first_header(o, object)?;
     let acct = zco_obj::account(o, object)?;
@@ -94,10 +94,10 @@ pub fn discard_last_trailer<O: Objects, F: Notify>(
     requires spare { 1 ≤ (O.heap o.old).spare }
     requires object { IsWithQueue (O.heap o.old) object }
     requires unmoved { (O.heap o.old).moves ≡ [] }
-    ensures comes { Comes (calls.DiscardLastTrailer object)
+    ensures comes { ComesInEach (calls.DiscardLastTrailer object)
         (O.heap o.old) (O.heap o.new) page.old page.new result }
-    ensures works { (w : World) → HeapStandsFor (O.heap o.old) w → IsServed w →
-        Works O.HasHeap (call_lines w (calls.DiscardLastTrailer object)) o.old o.new result }
+    ensures works { (w : World) → HeapStandsFor (O.heap o.old) w → IsReady w →
+        Spends O.HasHeap (call_lines w (calls.DiscardLastTrailer object)) o.old o.new result }
 {
     zco_obj::discard_last_trailer(o, object)?;
     let acct = zco_obj::account(o, object)?;

@@ -1,8 +1,8 @@
 // The calls that make an object, and that tell how long one is, as steps of the machine.
 ghost use Rattle.std.specs.Prelude.{[], ◌≡◌, ◌≤◌};
-ghost use Rattle.sdr_answers.specs.Answering.{Comes};
+ghost use Rattle.sdr_answers.specs.Answering.{ComesInEach};
 ghost use Rattle.sdr_base.specs.Moves.{KeepsSome};
-ghost use Rattle.sdr_base.specs.Works.{Works};
+ghost use Rattle.sdr_base.specs.Works.{Spends};
 ghost use Rattle.sdr_model.specs.declared.call.Call.TheVariants as calls;
 ghost use Rattle.zco_acct.specs.Kept.{SomeQueue};
 ghost use Rattle.zco_obj.specs.Kept.{IsObject};
@@ -22,9 +22,9 @@ pub fn create<O: Objects>(
     requires spare { 1 ≤ (O.heap o.old).spare }
     requires queue { SomeQueue (O.heap o.old) acct }
     requires unmoved { (O.heap o.old).moves ≡ [] }
-    ensures comes { Comes (calls.Create acct ticket)
+    ensures comes { ComesInEach (calls.Create acct ticket)
         (O.heap o.old) (O.heap o.new) page.old page.new result }
-    ensures works { Works O.HasHeap 34 o.old o.new result }
+    ensures works { Spends O.HasHeap 34 o.old o.new result }
 {
     let addr = zco_obj::create(o, acct, ticket)?;
     page.clear();
@@ -36,9 +36,9 @@ pub fn length<O: Objects>(o: &mut O, object: Addr, page: &mut Page) -> Result<Re
     requires kept { KeepsSome (O.keeps o.old) }
     requires object { IsObject (O.heap o.old).blocks object }
     requires unmoved { (O.heap o.old).moves ≡ [] }
-    ensures comes { Comes (calls.ZcoLength object)
+    ensures comes { ComesInEach (calls.ZcoLength object)
         (O.heap o.old) (O.heap o.new) page.old page.new result }
-    ensures works { Works O.HasHeap 0 o.old o.new result }
+    ensures works { Spends O.HasHeap 0 o.old o.new result }
 {
     let value = zco_obj::length(o, object)?;
     page.clear();
@@ -50,9 +50,9 @@ pub fn source_length<O: Objects>(o: &mut O, object: Addr, page: &mut Page) -> Re
     requires kept { KeepsSome (O.keeps o.old) }
     requires object { IsObject (O.heap o.old).blocks object }
     requires unmoved { (O.heap o.old).moves ≡ [] }
-    ensures comes { Comes (calls.SourceLength object)
+    ensures comes { ComesInEach (calls.SourceLength object)
         (O.heap o.old) (O.heap o.new) page.old page.new result }
-    ensures works { Works O.HasHeap 0 o.old o.new result }
+    ensures works { Spends O.HasHeap 0 o.old o.new result }
 {
     let value = zco_obj::source_length(o, object)?;
     page.clear();

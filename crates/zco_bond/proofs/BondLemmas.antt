@@ -3,7 +3,7 @@ use Rattle.std.proofs.Common.{◌≡◌, ◌<◌, ◌^◌, ℕ, List, [], ◌∷
 use Rattle.std.specs.Prelude.{All}
 use Rattle.std.proofs.lemmas.List.Elements.{All-append, All-head, All-nil, All-cons, All-tail}
 use Rattle.sdr_base.specs.Blocks.{IsKind, Reaches}
-use Rattle.sdr_base.specs.Entries.{Changes, Entries, Stands}
+use Rattle.sdr_base.specs.Entries.{Changes, Entries, BlocksAre}
 use Rattle.sdr_base.specs.Linked.{linked}
 use Rattle.sdr_base.specs.Objects.{Heap, Misses, OnlyFault, OnlyUnmoved}
 use Rattle.sdr_base.specs.ZcoObjects.{CapsuleRow, ExtentRow, ObjectRow, extent_entries, object_block, object_entries}
@@ -189,8 +189,8 @@ module _ {object : ℕ} {old : Heap} (is : IsKind (old.blocks object) kinds.Obje
         abbrev S : Entries
         S = bonded_sources row.account (b.headers ++ b.trailers)
 
-        together : (rest : Entries) → Stands mid.blocks (object_entries object row ++ rest) →
-            Stands two.blocks ((object, object_block row) ∷ ((extent_entries J ++ S) ++ rest))
+        together : (rest : Entries) → BlocksAre mid.blocks (object_entries object row ++ rest) →
+            BlocksAre two.blocks ((object, object_block row) ∷ ((extent_entries J ++ S) ++ rest))
         together rest s = b.changes.kept rest s
 
         fit_all : All ExtentFits J
@@ -219,7 +219,7 @@ module _ {object : ℕ} {old : Heap} (is : IsKind (old.blocks object) kinds.Obje
               rest = O ++ (S ++ k.rest);
               stands =
                   moved O (extent_entries J) (S ++ k.rest)
-                  (subst (λ (es : Entries). Stands two.blocks (O ++ es)) (append_assoc (extent_entries J) S k.rest) (together k.rest k.stands));
+                  (subst (λ (es : Entries). BlocksAre two.blocks (O ++ es)) (append_assoc (extent_entries J) S k.rest) (together k.rest k.stands));
               at_first = b.ends.first;
               fits = fit_all;
               few = few_all;
@@ -264,7 +264,7 @@ module _ {object : ℕ} {old : Heap} (is : IsKind (old.blocks object) kinds.Obje
           kept = λ rest s.
               let e = t.tells (J k) (extents_then k) in
               let here = (w.sets row (J k) (b k).ends e).kept ((extent_entries (J k) ++ S k) ++ rest) (together k rest s) in
-              subst (λ (es : Entries). Stands new.blocks ((object, object_block (whole_of row (J k))) ∷ ((es ++ S k) ++ rest)))
+              subst (λ (es : Entries). BlocksAre new.blocks ((object, object_block (whole_of row (J k))) ∷ ((es ++ S k) ++ rest)))
               (sym (append-nil (extent_entries (J k)))) here;
         }
 

@@ -2,7 +2,7 @@
 use Rattle.std.proofs.Common.{◌≡◌, ◌≢◌, ◌+◌, ◌-◌, ◌≤◌, ◌==◌, ◌⊎◌, ℕ, List, [], ◌∷◌, ◌++◌, Bool, true, false, true≢false, inl, inr, length, refl, sym, ap, ◌∙◌, arith, subst, append_assoc, eq-eqb, eqb-true}
 use Rattle.std.specs.Prelude.{Option}
 use Rattle.sdr_base.specs.Blocks.{Block, Blocks, Reaches}
-use Rattle.sdr_base.specs.Entries.{Changes, Entries, Stands, times}
+use Rattle.sdr_base.specs.Entries.{Changes, Entries, BlocksAre, times}
 use Rattle.sdr_base.specs.Making.{Made, besides}
 use Rattle.sdr_base.specs.Objects.{Heap, OnlyShort, OnlyUnmoved, with_given}
 use Rattle.sdr_base.specs.Raws.{raw_block, raw_entries}
@@ -83,8 +83,8 @@ module _ {text : Text} {old one : Heap} {source : ℕ} (m : MakesSource text old
     abbrev R : Entries
     R = raw_entries m.raw source c.text
 
-    made_beside : (rest : Entries) → Stands old.blocks (chained gap.next front ++ (C ++ rest)) →
-        Stands one.blocks (chained gap.next front ++ ((S ++ R) ++ (C ++ rest)))
+    made_beside : (rest : Entries) → BlocksAre old.blocks (chained gap.next front ++ (C ++ rest)) →
+        BlocksAre one.blocks (chained gap.next front ++ ((S ++ R) ++ (C ++ rest)))
     made_beside rest s =
         moved_back (chained gap.next front) (S ++ R) (C ++ rest)
         ((m.makes next c (place_kept p)).kept (chained gap.next front ++ (C ++ rest)) s)
@@ -97,11 +97,11 @@ module _ {text : Text} {old one : Heap} {source : ℕ} (m : MakesSource text old
       abbrev F : Entries
       F = chained gap.next (front ++ (first_bytes extent source text.bytes ∷ []))
 
-      inserted : (rest : Entries) → Stands old.blocks (chained gap.next front ++ (C ++ rest)) →
-          Stands two.blocks (S ++ (F ++ (R ++ (C ++ rest))))
+      inserted : (rest : Entries) → BlocksAre old.blocks (chained gap.next front ++ (C ++ rest)) →
+          BlocksAre two.blocks (S ++ (F ++ (R ++ (C ++ rest))))
       inserted rest s =
           moved F S (R ++ (C ++ rest))
-          (subst (λ (es : Entries). Stands two.blocks (F ++ es)) (append_assoc S R (C ++ rest))
+          (subst (λ (es : Entries). BlocksAre two.blocks (F ++ es)) (append_assoc S R (C ++ rest))
           ((i.inserts front p.at_previous).kept ((S ++ R) ++ (C ++ rest)) (made_beside rest s)))
 
       source_there : KeepsSource (two.blocks source) (taking_over m.raw c.text)
@@ -126,10 +126,10 @@ module _ {text : Text} {old one : Heap} {source : ℕ} (m : MakesSource text old
         abbrev S' : Entries
         S' = counted_entries source (attached acct (taking_over m.raw c.text))
 
-        attached_then : (rest : Entries) → Stands old.blocks (chained gap.next front ++ (C ++ rest)) →
-            Stands three.blocks ((F ++ (S' ++ R)) ++ (C ++ rest))
+        attached_then : (rest : Entries) → BlocksAre old.blocks (chained gap.next front ++ (C ++ rest)) →
+            BlocksAre three.blocks ((F ++ (S' ++ R)) ++ (C ++ rest))
         attached_then rest s =
-            subst (λ (es : Entries). Stands three.blocks es)
+            subst (λ (es : Entries). BlocksAre three.blocks es)
             (ap (λ (es : Entries). F ++ es) (sym (append_assoc S' R (C ++ rest))) ∙ sym (append_assoc F (S' ++ R) (C ++ rest)))
             (moved_back F S' (R ++ (C ++ rest))
             ((a.becomes (taking_over m.raw c.text) source_there).changes.kept (F ++ (R ++ (C ++ rest))) (inserted rest s)))
@@ -147,10 +147,11 @@ module _ {text : Text} {old one : Heap} {source : ℕ} (m : MakesSource text old
         bonds_then {new} g e = record {
           kept = λ rest s.
               let given : new ≡ with_given three c.addr = g ∙ ap (λ (n : ℕ). with_given three n) p.at_text in
-              subst (λ n. Stands new.blocks ((chained gap.next (front ++ (first_bytes extent source n ∷ [])) ++ (S' ++ R)) ++ rest)) e
-              (subst (λ (b : Blocks). Stands b ((F ++ (S' ++ R)) ++ rest)) (sym (given_blocks c.addr three new given))
+              subst (λ n. BlocksAre new.blocks ((chained gap.next (front ++ (first_bytes extent source n ∷ [])) ++ (S' ++ R)) ++ rest)) e
+              (subst (λ (b : Blocks). BlocksAre b ((F ++ (S' ++ R)) ++ rest))
+                  (sym (given_blocks c.addr three new given))
               (went three.blocks c.addr (capsule_block 0 next c) (F ++ (S' ++ R)) rest
-              (attached_then rest (subst (λ (es : Entries). Stands old.blocks es) (append_assoc (chained gap.next front) C rest) s))));
+              (attached_then rest (subst (λ (es : Entries). BlocksAre old.blocks es) (append_assoc (chained gap.next front) C rest) s))));
         }
 
   -- each block came where nothing was
@@ -201,8 +202,8 @@ module _ {text : Text} {old one : Heap} {source : ℕ} (m : MakesSource text old
         (q ≡ text.of) ⊎ ((q ≢ extent) × ((q ≢ source) × ((q ≢ m.raw) × is_free old.blocks q)))
     left_free q free = by (q == text.of) refl
       where
-        stood : Stands old.blocks ((X ++ T) ++ p.rest)
-        stood = subst (λ (es : Entries). Stands old.blocks es) (sym (append_assoc X T p.rest)) p.stands
+        stood : BlocksAre old.blocks ((X ++ T) ++ p.rest)
+        stood = subst (λ (es : Entries). BlocksAre old.blocks es) (sym (append_assoc X T p.rest)) p.stands
 
         none : times q ((F' ++ (N' ++ R')) ++ p.rest) ≡ 0
         none = unlisted q (changes.kept p.rest stood) free

@@ -2,7 +2,7 @@
 use Rattle.std.proofs.Common.{◌≡◌, ◌≢◌, ◌+◌, ◌/◌, ◌≤◌, ℕ, List, [], ◌++◌, refl, sym, subst, append-nil}
 use Rattle.std.specs.Prelude.{sum_by}
 use Rattle.std.proofs.lemmas.List.Elements.{All-nil}
-use Rattle.sdr_base.specs.Entries.{Stands}
+use Rattle.sdr_base.specs.Entries.{BlocksAre}
 use Rattle.sdr_base.specs.Objects.{Heap, OnlyFault}
 use Rattle.sdr_base.specs.ZcoObjects.{CapsuleRow, ExtentRow, capsule_entries}
 use Rattle.sdr_base.specs.declared.account.Acct.{Acct}
@@ -39,7 +39,7 @@ chain_begun acct first gap Touches old none = record {
     first = refl;
     last = refl;
     kept = λ rest s.
-        subst (λ (fs : List ExtentRow). Stands old.blocks (chained gap.next fs ++ (capsule_entries rows ++ rest))) (sym (append-nil front)) s;
+        subst (λ (fs : List ExtentRow). BlocksAre old.blocks (chained gap.next fs ++ (capsule_entries rows ++ rest))) (sym (append-nil front)) s;
     made = none_made old;
     fresh = fresh_none old.blocks;
     lines = none;

@@ -4,7 +4,7 @@ use Rattle.std.proofs.lemmas.Bool.{ne_eqb}
 use Rattle.std.specs.Prelude.{if◌then◌else◌}
 use Rattle.sdr_base.proofs.StandingLemmas.{at-nowhere, nowhere-at, times-append}
 use Rattle.sdr_base.specs.Blocks.{Block, Blocks}
-use Rattle.sdr_base.specs.Entries.{Entries, Stands, times}
+use Rattle.sdr_base.specs.Entries.{Entries, BlocksAre, times}
 use Rattle.sdr_base.specs.Linked.{linked}
 use Rattle.sdr_base.specs.ZcoObjects.{ExtentRow, extent_addr, extent_block}
 use Rattle.sdr_base.specs.declared.account.Acct.{Acct}
@@ -13,7 +13,7 @@ use Rattle.sdr_base.specs.declared.moves.Move.{Move}
 use Rattle.sdr_base.specs.declared.moves.Move.TheVariants.{Gave, Short, Took}
 use Rattle.sdr_model.specs.Amounts.{minus}
 use Rattle.sdr_model.specs.declared.accounts.Ticket.{Ticket}
-use Rattle.zco_acct.specs.Charges.{charged, with_used}
+use Rattle.zco_acct.specs.Charges.{charged, tickets_covered}
 use Rattle.zco_acct.specs.Kept.{block_of, queue_entries, queued_block}
 use Rattle.zco_bond.specs.Fresh.{Fresh, TakesFree, free_after, is_free}
 
@@ -58,11 +58,11 @@ pub fresh_none : (blocks : Blocks) → Fresh [] blocks blocks
 fresh_none blocks = record { takes = tt; left = λ q free. free }
 
 -- what is free isn't listed
-pub unlisted : {b : Blocks} {es : Entries} (q : ℕ) → Stands b es → is_free b q → times q es ≡ 0
+pub unlisted : {b : Blocks} {es : Entries} (q : ℕ) → BlocksAre b es → is_free b q → times q es ≡ 0
 unlisted {b} {es} q s free = nowhere-at q es (sym (s.same q) ∙ free)
 
 -- what isn't listed is free
-pub free_unlisted : {b : Blocks} {es : Entries} (q : ℕ) → Stands b es → times q es ≡ 0 → is_free b q
+pub free_unlisted : {b : Blocks} {es : Entries} (q : ℕ) → BlocksAre b es → times q es ≡ 0 → is_free b q
 free_unlisted {b} {es} q s none = s.same q ∙ at-nowhere q es none
 
 -- an address that isn't listed is another one
@@ -86,14 +86,14 @@ times_pushed q prev next (x ∷ xs) e block = let ih = times_pushed q x.addr nex
 
 -- a queue lists what it did once a grant was used
 times_used : (q number : ℕ) (amounts : Amounts) (acct : Acct) (prev next : ℕ) (ts : List Ticket) →
-    times q (linked block_of (queued_block acct) prev next (with_used number amounts ts))
+    times q (linked block_of (queued_block acct) prev next (tickets_covered number amounts ts))
     ≡ times q (linked block_of (queued_block acct) prev next ts)
-unfolding times linked with_used
+unfolding times linked tickets_covered
 times_used q number amounts acct prev next [] = refl
 times_used q number amounts acct prev next (t ∷ ts) =
     let ih = times_used q number amounts acct t.block next ts in
     elim (t.number == number) as (λ b. times q (linked block_of (queued_block acct) prev next
-    (if b then record t { left = minus t.left amounts } ∷ ts else t ∷ with_used number amounts ts))
+    (if b then record t { left = minus t.left amounts } ∷ ts else t ∷ tickets_covered number amounts ts))
     ≡ cond (t.block == q) 1 0 + times q (linked block_of (queued_block acct) t.block next ts)) [
       | true ↦ refl
       | false ↦ ap (λ (n : ℕ). cond (t.block == q) 1 0 + n) ih
@@ -102,14 +102,14 @@ times_used q number amounts acct prev next (t ∷ ts) =
 times_charged : (q number : ℕ) (amounts : Amounts) (acct : Acct) (ts : List Ticket) →
     times q (queue_entries acct (charged ts number amounts)) ≡ times q (queue_entries acct ts)
 times_charged q number amounts acct ts =
-    elim (number == 0) as (λ b. times q (queue_entries acct (if b then ts else with_used number amounts ts)) ≡ times q (queue_entries acct ts)) [
+    elim (number == 0) as (λ b. times q (queue_entries acct (if b then ts else tickets_covered number amounts ts)) ≡ times q (queue_entries acct ts)) [
       | true ↦ refl
       | false ↦ times_used q number amounts acct 0 0 ts
     ]
 
 -- what is free once an account was charged was so before
 pub free_charged : {old new : Blocks} (q number : ℕ) (amounts : Amounts) (acct : Acct) (ts : List Ticket) (es rest : Entries) →
-    Stands old (es ++ (queue_entries acct ts ++ rest)) → Stands new (es ++ (queue_entries acct (charged ts number amounts) ++ rest)) →
+    BlocksAre old (es ++ (queue_entries acct ts ++ rest)) → BlocksAre new (es ++ (queue_entries acct (charged ts number amounts) ++ rest)) →
     is_free new q → is_free old q
 free_charged q number amounts acct ts es rest s t free =
     let was = queue_entries acct ts in

@@ -3,7 +3,7 @@ use Rattle.std.proofs.Common.{◌≡◌, ◌≢◌, ℕ, List, [], ◌∷◌, �
 use Rattle.std.specs.Prelude.{◌==◌, if◌then◌else◌}
 use Rattle.std.proofs.lemmas.Bool.{ne_eqb}
 use Rattle.sdr_base.specs.Blocks.{Blocks}
-use Rattle.sdr_base.specs.Entries.{Entries, Stands}
+use Rattle.sdr_base.specs.Entries.{Entries, BlocksAre}
 use Rattle.sdr_base.specs.Linked.{first_of, last_of, linked}
 use Rattle.sdr_base.specs.ZcoObjects.{ExtentRow, ObjectRow, capsule_entries, extent_addr, extent_block, extent_entries, object_block, object_entries}
 use Rattle.sdr_base.proofs.LinkedLemmas.{last-append, last_nonzero, linked-append}
@@ -27,7 +27,7 @@ in_two xs ys =
     ∙ ap (λ (es : Entries). chained (first_of extent_addr 0 ys) xs ++ es) (any_extent (last_of extent_addr 0 xs) 0 ys)
 
 -- the first one of two chains
-pub either_first : {b : Blocks} (xs ys : List ExtentRow) (rest : Entries) (first second : ℕ) → Stands b (chained 0 xs ++ rest) →
+pub either_first : {b : Blocks} (xs ys : List ExtentRow) (rest : Entries) (first second : ℕ) → BlocksAre b (chained 0 xs ++ rest) →
     first ≡ first_of extent_addr 0 xs → second ≡ first_of extent_addr 0 ys → either first second ≡ first_of extent_addr 0 (xs ++ ys)
 unfolding linked
 either_first [] ys rest first second s e f = ap (λ v. if v then second else first) (eq-eqb first 0 e) ∙ f
@@ -36,7 +36,7 @@ either_first {b} (x ∷ xs) ys rest first second s e f =
     ap (λ v. if v then second else first) (ne_eqb first 0 nz) ∙ e
 
 -- the last one of two chains
-pub either_last : {b : Blocks} (xs ys : List ExtentRow) (rest : Entries) (last before : ℕ) → Stands b (chained 0 ys ++ rest) →
+pub either_last : {b : Blocks} (xs ys : List ExtentRow) (rest : Entries) (last before : ℕ) → BlocksAre b (chained 0 ys ++ rest) →
     last ≡ last_of extent_addr 0 ys → before ≡ last_of extent_addr 0 xs → either last before ≡ last_of extent_addr 0 (xs ++ ys)
 either_last xs [] rest last before s e f =
     ap (λ v. if v then before else last) (eq-eqb last 0 e) ∙ f ∙ ap (last_of extent_addr 0) (sym (append-nil xs))

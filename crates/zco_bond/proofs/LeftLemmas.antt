@@ -4,7 +4,7 @@ use Rattle.std.specs.Prelude.{All, sum_by}
 use Rattle.std.proofs.lemmas.List.Concat.{flat_map-append}
 use Rattle.std.proofs.lemmas.List.Elements.{All-head, All-push, All-tail}
 use Rattle.std.proofs.lemmas.List.Sums.{sum_by-append, sum_by-cons, sum_by_push}
-use Rattle.sdr_base.specs.Entries.{Entries, Stands}
+use Rattle.sdr_base.specs.Entries.{Entries, BlocksAre}
 use Rattle.sdr_base.specs.Linked.{first_of, last_of, linked}
 use Rattle.sdr_base.specs.Making.{Made}
 use Rattle.sdr_base.specs.Objects.{Heap}
@@ -46,8 +46,8 @@ pub record BondLeft (acct : Acct) (gap : Gap) (front : List ExtentRow) (rows : L
   pub small : All IsSmall bonded
   pub first : chain.first ≡ first_of extent_addr gap.next (bonded_extents bonded)
   pub last : chain.last ≡ last_of extent_addr gap.previous (bonded_extents bonded)
-  pub kept : (rest : Entries) → Stands old.blocks (chained gap.next front ++ (capsule_entries rows ++ rest)) →
-      Stands now.blocks (chained gap.next (front ++ bonded_extents bonded) ++ (capsule_entries left ++ (bonded_sources acct bonded ++ rest)))
+  pub kept : (rest : Entries) → BlocksAre old.blocks (chained gap.next front ++ (capsule_entries rows ++ rest)) →
+      BlocksAre now.blocks (chained gap.next (front ++ bonded_extents bonded) ++ (capsule_entries left ++ (bonded_sources acct bonded ++ rest)))
   pub made : Made (bonding_moves bonded) old now
   pub fresh : Fresh (bonding_moves bonded) old.blocks now.blocks
   pub lines : Touches (sum_by bond_lines (capsules_of bonded))
@@ -73,9 +73,9 @@ module _ {acct : Acct} {gap : Gap} {front : List ExtentRow} {rows : List Capsule
       by : (xs : List CapsuleRow) → l.left ≡ xs → l.left ≡ []
       by [] e = e
       by (x ∷ xs) e =
-          let s : Stands now.blocks (chained gap.next (front ++ bonded_extents l.bonded)
+          let s : BlocksAre now.blocks (chained gap.next (front ++ bonded_extents l.bonded)
           ++ (capsule_entries (x ∷ xs) ++ (bonded_sources acct l.bonded ++ c.rest))) =
-          subst (λ (ys : List CapsuleRow). Stands now.blocks (chained gap.next (front ++ bonded_extents l.bonded)
+          subst (λ (ys : List CapsuleRow). BlocksAre now.blocks (chained gap.next (front ++ bonded_extents l.bonded)
           ++ (capsule_entries ys ++ (bonded_sources acct l.bonded ++ c.rest)))) e (l.kept c.rest c.stands) in
           absurd (nonzero now.blocks x.addr _ (chained gap.next (front ++ bonded_extents l.bonded)) _ s
           (ap (first_of capsule_addr 0) (sym e) ∙ sym l.at_cursor ∙ z))
@@ -97,9 +97,9 @@ module _ {acct : Acct} {gap : Gap} {front : List ExtentRow} {rows : List Capsule
           let F = chained gap.next front in
           let F' = chained gap.next (front ++ bonded_extents l.bonded) in
           let B = bonded_sources acct l.bonded in
-          subst (λ (es : Entries). Stands now.blocks es) (sym (append_assoc F' B rest))
-          (subst (λ (ys : List CapsuleRow). Stands now.blocks (F' ++ (capsule_entries ys ++ (B ++ rest)))) none
-          (l.kept rest (subst (λ (es : Entries). Stands old.blocks es) (append_assoc F (capsule_entries rows) rest) s)));
+          subst (λ (es : Entries). BlocksAre now.blocks es) (sym (append_assoc F' B rest))
+          (subst (λ (ys : List CapsuleRow). BlocksAre now.blocks (F' ++ (capsule_entries ys ++ (B ++ rest)))) none
+          (l.kept rest (subst (λ (es : Entries). BlocksAre old.blocks es) (append_assoc F (capsule_entries rows) rest) s)));
     };
     made = l.made;
     fresh = l.fresh;
@@ -132,16 +132,17 @@ module _ {acct : Acct} {gap : Gap} {front : List ExtentRow} {rows : List Capsule
         fits_from CapsuleFits (capsules_of l.bonded) (here ∷ one_left.behind)
         (subst (All CapsuleFits) (l.whole ∙ ap (λ (ys : List CapsuleRow). capsules_of l.bonded ++ ys) one_left.is) c.fits)
 
-    pub one_stands : (rest : Entries) → Stands old.blocks (chained gap.next front ++ (capsule_entries rows ++ rest)) →
-        Stands now.blocks (chained gap.next (front ++ bonded_extents l.bonded)
+    pub one_stands : (rest : Entries) → BlocksAre old.blocks
+        (chained gap.next front ++ (capsule_entries rows ++ rest)) →
+        BlocksAre now.blocks (chained gap.next (front ++ bonded_extents l.bonded)
         ++ ((here.addr, capsule_block 0 next here) ∷ (capsule_entries one_left.behind ++ (bonded_sources acct l.bonded ++ rest))))
     unfolding linked
     one_stands rest s =
         let F = chained gap.next (front ++ bonded_extents l.bonded) in
         let B = bonded_sources acct l.bonded in
-        subst (λ (es : Entries). Stands now.blocks (F ++ ((here.addr, capsule_block 0 next here) ∷ (es ++ (B ++ rest)))))
+        subst (λ (es : Entries). BlocksAre now.blocks (F ++ ((here.addr, capsule_block 0 next here) ∷ (es ++ (B ++ rest)))))
         (any_previous here.addr 0 0 one_left.behind)
-        (subst (λ (ys : List CapsuleRow). Stands now.blocks (F ++ (capsule_entries ys ++ (B ++ rest)))) one_left.is (l.kept rest s))
+        (subst (λ (ys : List CapsuleRow). BlocksAre now.blocks (F ++ (capsule_entries ys ++ (B ++ rest)))) one_left.is (l.kept rest s))
 
     -- the next one is at the place
     pub place_there : (bytes : ℕ) →
@@ -202,8 +203,8 @@ module _ {acct : Acct} {gap : Gap} {front : List ExtentRow} {rows : List Capsule
           subst (λ n. Fresh (moves_of n here.addr t.raw t.source extent) now.blocks new.blocks) (v.bytes next here here_kept)
           (subst (λ n. Fresh (moves_of seen.bytes n t.raw t.source extent) now.blocks new.blocks) (place_there seen.bytes).at_text t.fresh)
 
-      kept_on : (rest : Entries) → Stands old.blocks (chained gap.next front ++ (capsule_entries rows ++ rest)) →
-          Stands new.blocks (chained gap.next (front ++ bonded_extents bs) ++ (capsule_entries one_left.behind ++ (bonded_sources acct bs ++ rest)))
+      kept_on : (rest : Entries) → BlocksAre old.blocks (chained gap.next front ++ (capsule_entries rows ++ rest)) →
+          BlocksAre new.blocks (chained gap.next (front ++ bonded_extents bs) ++ (capsule_entries one_left.behind ++ (bonded_sources acct bs ++ rest)))
       kept_on rest s =
           let E = front ++ bonded_extents l.bonded in
           let F = chained gap.next E in
@@ -212,20 +213,21 @@ module _ {acct : Acct} {gap : Gap} {front : List ExtentRow} {rows : List Capsule
           let H = capsule_entries one_left.behind in
           let S = bonded_sources acct l.bonded in
           let B = bonded_source acct b in
-          let one : Stands now.blocks ((F ++ C) ++ (H ++ (S ++ rest))) =
-          subst (λ (es : Entries). Stands now.blocks es) (sym (append_assoc F C (H ++ (S ++ rest)))) (one_stands rest s) in
-          let two : Stands new.blocks (X ++ (B ++ (H ++ (S ++ rest)))) =
-          subst (λ (es : Entries). Stands new.blocks es) (append_assoc X B (H ++ (S ++ rest)))
+          let one : BlocksAre now.blocks ((F ++ C) ++ (H ++ (S ++ rest))) =
+          subst (λ (es : Entries). BlocksAre now.blocks es) (sym (append_assoc F C (H ++ (S ++ rest)))) (one_stands rest s) in
+          let two : BlocksAre new.blocks (X ++ (B ++ (H ++ (S ++ rest)))) =
+          subst (λ (es : Entries). BlocksAre new.blocks es) (append_assoc X B (H ++ (S ++ rest)))
           ((t.bonds E next here (place_there seen.bytes)).kept (H ++ (S ++ rest)) one) in
-          let three : Stands new.blocks (X ++ (H ++ (B ++ (S ++ rest)))) = swapped new.blocks X B H (S ++ rest) two in
-          let four : Stands new.blocks ((X ++ H) ++ (S ++ (B ++ rest))) =
+          let three : BlocksAre new.blocks (X ++ (H ++ (B ++ (S ++ rest)))) = swapped new.blocks X B H (S ++ rest) two
+              in
+          let four : BlocksAre new.blocks ((X ++ H) ++ (S ++ (B ++ rest))) =
           swapped new.blocks (X ++ H) B S rest
-          (subst (λ (es : Entries). Stands new.blocks es) (sym (append_assoc X H (B ++ (S ++ rest)))) three) in
-          let five : Stands new.blocks (X ++ (H ++ ((S ++ B) ++ rest))) =
-          subst (λ (es : Entries). Stands new.blocks es)
+          (subst (λ (es : Entries). BlocksAre new.blocks es) (sym (append_assoc X H (B ++ (S ++ rest)))) three) in
+          let five : BlocksAre new.blocks (X ++ (H ++ ((S ++ B) ++ rest))) =
+          subst (λ (es : Entries). BlocksAre new.blocks es)
           (append_assoc X H (S ++ (B ++ rest)) ∙ ap (λ (es : Entries). X ++ (H ++ es)) (sym (append_assoc S B rest))) four in
-          subst (λ (es : Entries). Stands new.blocks (chained gap.next (front ++ bonded_extents bs) ++ (H ++ (es ++ rest)))) sources
-          (subst (λ (fs : List ExtentRow). Stands new.blocks (chained gap.next fs ++ (H ++ ((S ++ B) ++ rest)))) extents five)
+          subst (λ (es : Entries). BlocksAre new.blocks (chained gap.next (front ++ bonded_extents bs) ++ (H ++ (es ++ rest)))) sources
+          (subst (λ (fs : List ExtentRow). BlocksAre new.blocks (chained gap.next fs ++ (H ++ ((S ++ B) ++ rest)))) extents five)
         where
           extents : (front ++ bonded_extents l.bonded) ++ (bonded_extent b ∷ []) ≡ front ++ bonded_extents bs
           extents =

@@ -4,7 +4,7 @@ use Rattle.std.specs.Prelude.{sum_by}
 use Rattle.std.proofs.lemmas.List.Concat.{flat_map-append}
 use Rattle.std.proofs.lemmas.List.Sums.{sum_by-append}
 use Rattle.sdr_base.specs.Blocks.{Blocks}
-use Rattle.sdr_base.specs.Entries.{Entries, Stands}
+use Rattle.sdr_base.specs.Entries.{Entries, BlocksAre}
 use Rattle.sdr_base.specs.Linked.{first_of, last_of, linked}
 use Rattle.sdr_base.specs.Making.{Made}
 use Rattle.sdr_base.specs.Objects.{Heap, OnlyFault}
@@ -110,25 +110,25 @@ module _ {object : ℕ} {acct : Acct} {firsts : Firsts} {old : Heap} (last : ℕ
       T = capsule_entries row.trailers
 
       -- they stand before the others
-      in_front : (rest : Entries) → Stands old.blocks (object_entries object row ++ rest) →
-          Stands one.blocks (chained 0 front ++ (T ++ ((bonded_sources acct hs ++ O) ++ rest)))
+      in_front : (rest : Entries) → BlocksAre old.blocks (object_entries object row ++ rest) →
+          BlocksAre one.blocks (chained 0 front ++ (T ++ ((bonded_sources acct hs ++ O) ++ rest)))
       unfolding linked
       in_front rest s =
           let H = capsule_entries row.headers in
           let X = extent_entries row.extents in
           let S = bonded_sources acct hs in
           let A = chained firsts.extent (bonded_extents hs) in
-          let s1 : Stands old.blocks (H ++ (O ++ (X ++ (T ++ rest)))) =
-          moved O H (X ++ (T ++ rest)) (subst (λ (es : Entries). Stands old.blocks es) (opened object row rest) s) in
-          let s2 : Stands one.blocks ((A ++ S) ++ (O ++ (X ++ (T ++ rest)))) = made_headers.changes.kept (O ++ (X ++ (T ++ rest))) s1 in
-          let s3 : Stands one.blocks (A ++ ((S ++ O) ++ (X ++ (T ++ rest)))) =
-          subst (λ (es : Entries). Stands one.blocks es)
+          let s1 : BlocksAre old.blocks (H ++ (O ++ (X ++ (T ++ rest)))) =
+          moved O H (X ++ (T ++ rest)) (subst (λ (es : Entries). BlocksAre old.blocks es) (opened object row rest) s) in
+          let s2 : BlocksAre one.blocks ((A ++ S) ++ (O ++ (X ++ (T ++ rest)))) = made_headers.changes.kept (O ++ (X ++ (T ++ rest))) s1 in
+          let s3 : BlocksAre one.blocks (A ++ ((S ++ O) ++ (X ++ (T ++ rest)))) =
+          subst (λ (es : Entries). BlocksAre one.blocks es)
           (append_assoc A S (O ++ (X ++ (T ++ rest))) ∙ ap (λ (es : Entries). A ++ es) (sym (append_assoc S O (X ++ (T ++ rest))))) s2 in
-          let s4 : Stands one.blocks ((A ++ X) ++ ((S ++ O) ++ (T ++ rest))) =
-          subst (λ (es : Entries). Stands one.blocks es) (sym (append_assoc A X ((S ++ O) ++ (T ++ rest))))
+          let s4 : BlocksAre one.blocks ((A ++ X) ++ ((S ++ O) ++ (T ++ rest))) =
+          subst (λ (es : Entries). BlocksAre one.blocks es) (sym (append_assoc A X ((S ++ O) ++ (T ++ rest))))
           (swapped one.blocks A (S ++ O) X (T ++ rest) s3) in
-          let s5 : Stands one.blocks ((A ++ X) ++ (T ++ ((S ++ O) ++ rest))) = swapped one.blocks (A ++ X) (S ++ O) T rest s4 in
-          subst (λ (es : Entries). Stands one.blocks (es ++ (T ++ ((S ++ O) ++ rest))))
+          let s5 : BlocksAre one.blocks ((A ++ X) ++ (T ++ ((S ++ O) ++ rest))) = swapped one.blocks (A ++ X) (S ++ O) T rest s4 in
+          subst (λ (es : Entries). BlocksAre one.blocks (es ++ (T ++ ((S ++ O) ++ rest))))
           (ap (λ n. chained n (bonded_extents hs) ++ X) (f.told row k).extent ∙ sym (in_two (bonded_extents hs) row.extents)) s5
 
       front_first : head.first ≡ first_of extent_addr 0 front
@@ -137,13 +137,14 @@ module _ {object : ℕ} {acct : Acct} {firsts : Firsts} {old : Heap} (last : ℕ
           ∙ sym (first-append extent_addr extent_block 0 (bonded_extents hs) row.extents)
 
       -- the extents of the object itself
-      own_extents : Stands old.blocks (chained 0 row.extents ++ (O ++ (capsule_entries row.headers ++ (T ++ k.rest))))
+      own_extents : BlocksAre old.blocks
+          (chained 0 row.extents ++ (O ++ (capsule_entries row.headers ++ (T ++ k.rest))))
       own_extents =
           let H = capsule_entries row.headers in
           let X = extent_entries row.extents in
-          subst (λ (es : Entries). Stands old.blocks (X ++ es)) (append_assoc O H (T ++ k.rest))
+          subst (λ (es : Entries). BlocksAre old.blocks (X ++ es)) (append_assoc O H (T ++ k.rest))
           (moved (O ++ H) X (T ++ k.rest)
-          (subst (λ (es : Entries). Stands old.blocks es)
+          (subst (λ (es : Entries). BlocksAre old.blocks es)
           (opened object row k.rest ∙ sym (append_assoc O H (X ++ (T ++ k.rest)))) k.stands))
 
       front_last : either last head.last ≡ last_of extent_addr 0 front
@@ -187,30 +188,30 @@ module _ {object : ℕ} {acct : Acct} {firsts : Firsts} {old : Heap} (last : ℕ
         all_one : front ++ bonded_extents ts ≡ joined hs row.extents ts
         all_one = append_assoc (bonded_extents hs) row.extents (bonded_extents ts)
 
-        all_there : (rest : Entries) → Stands old.blocks (object_entries object row ++ rest) →
-            Stands two.blocks
+        all_there : (rest : Entries) → BlocksAre old.blocks (object_entries object row ++ rest) →
+            BlocksAre two.blocks
             (((object, object_block row) ∷ (extent_entries (joined hs row.extents ts) ++ bonded_sources row.account (hs ++ ts))) ++ rest)
         all_there rest s =
             let S = bonded_sources acct hs in
             let U = bonded_sources acct ts in
             let F = chained 0 (front ++ bonded_extents ts) in
-            let s1 : Stands one.blocks ((chained 0 front ++ T) ++ ((S ++ O) ++ rest)) =
-            subst (λ (es : Entries). Stands one.blocks es) (sym (append_assoc (chained 0 front) T ((S ++ O) ++ rest))) (in_front rest s) in
-            let s2 : Stands two.blocks ((F ++ U) ++ ((S ++ O) ++ rest)) = made_trailers.changes.kept ((S ++ O) ++ rest) s1 in
-            let s3 : Stands two.blocks (F ++ (U ++ (S ++ (O ++ rest)))) =
-            subst (λ (es : Entries). Stands two.blocks es)
+            let s1 : BlocksAre one.blocks ((chained 0 front ++ T) ++ ((S ++ O) ++ rest)) =
+            subst (λ (es : Entries). BlocksAre one.blocks es) (sym (append_assoc (chained 0 front) T ((S ++ O) ++ rest))) (in_front rest s) in
+            let s2 : BlocksAre two.blocks ((F ++ U) ++ ((S ++ O) ++ rest)) = made_trailers.changes.kept ((S ++ O) ++ rest) s1 in
+            let s3 : BlocksAre two.blocks (F ++ (U ++ (S ++ (O ++ rest)))) =
+            subst (λ (es : Entries). BlocksAre two.blocks es)
             (append_assoc F U ((S ++ O) ++ rest) ∙ ap (λ (es : Entries). F ++ (U ++ es)) (append_assoc S O rest)) s2 in
-            let s4 : Stands two.blocks (F ++ (S ++ (U ++ (O ++ rest)))) = swapped two.blocks F U S (O ++ rest) s3 in
-            let s5 : Stands two.blocks ((F ++ (S ++ U)) ++ (O ++ rest)) =
-            subst (λ (es : Entries). Stands two.blocks es)
+            let s4 : BlocksAre two.blocks (F ++ (S ++ (U ++ (O ++ rest)))) = swapped two.blocks F U S (O ++ rest) s3 in
+            let s5 : BlocksAre two.blocks ((F ++ (S ++ U)) ++ (O ++ rest)) =
+            subst (λ (es : Entries). BlocksAre two.blocks es)
             (ap (λ (es : Entries). F ++ es) (sym (append_assoc S U (O ++ rest))) ∙ sym (append_assoc F (S ++ U) (O ++ rest))) s4 in
-            let s6 : Stands two.blocks (O ++ ((F ++ (S ++ U)) ++ rest)) = moved (F ++ (S ++ U)) O rest s5 in
-            subst (λ (a : Acct). Stands two.blocks
+            let s6 : BlocksAre two.blocks (O ++ ((F ++ (S ++ U)) ++ rest)) = moved (F ++ (S ++ U)) O rest s5 in
+            subst (λ (a : Acct). BlocksAre two.blocks
             (((object, object_block row) ∷ (extent_entries (joined hs row.extents ts) ++ bonded_sources a (hs ++ ts))) ++ rest))
             (t.tells row k)
-            (subst (λ (xs : List ExtentRow). Stands two.blocks
+            (subst (λ (xs : List ExtentRow). BlocksAre two.blocks
             (((object, object_block row) ∷ (chained 0 xs ++ bonded_sources acct (hs ++ ts))) ++ rest)) all_one
-            (subst (λ (es : Entries). Stands two.blocks (((object, object_block row) ∷ (F ++ es)) ++ rest))
+            (subst (λ (es : Entries). BlocksAre two.blocks (((object, object_block row) ∷ (F ++ es)) ++ rest))
             (sym (flat_map-append (bonded_source acct) hs ts)) s6))
 
         pub parts_bonded : PartsBonded object row old two (record { first = either head.first tail.first; last = tail.last })

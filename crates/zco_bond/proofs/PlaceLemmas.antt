@@ -2,7 +2,7 @@
 use Rattle.std.proofs.Common.{◌≡◌, ◌≢◌, ◌+◌, ℕ, List, [], ◌∷◌, ◌++◌, Some, sym, ap, ◌∙◌, arith, subst, append_assoc}
 use Rattle.std.specs.Prelude.{Option}
 use Rattle.sdr_base.specs.Blocks.{Block, Blocks, Reaches}
-use Rattle.sdr_base.specs.Entries.{Entries, Stands}
+use Rattle.sdr_base.specs.Entries.{Entries, BlocksAre}
 use Rattle.sdr_base.specs.Linked.{last_of, linked}
 use Rattle.sdr_base.specs.Making.{Made, besides, with_moves}
 use Rattle.sdr_base.specs.Objects.{Heap}
@@ -58,10 +58,10 @@ module _ {addr : ℕ} {old mid : Heap} (source bytes : ℕ) (gap : Gap)
     inserts = λ front e. record {
       kept = λ rest s.
           let x = extent_block 0 gap.next (first_bytes addr source bytes) in
-          let there : Stands mid.blocks (chained gap.next front ++ ((addr, x) ∷ rest)) =
-          subst (λ (b : Blocks). Stands b (chained gap.next front ++ ((addr, x) ∷ rest))) (sym (ap (λ (h : Heap). h.blocks) t.taken))
+          let there : BlocksAre mid.blocks (chained gap.next front ++ ((addr, x) ∷ rest)) =
+          subst (λ (b : Blocks). BlocksAre b (chained gap.next front ++ ((addr, x) ∷ rest))) (sym (ap (λ (h : Heap). h.blocks) t.taken))
           (came old.blocks addr x (chained gap.next front) rest t.nonzero t.fresh s) in
-          subst (λ (es : Entries). Stands new.blocks es)
+          subst (λ (es : Entries). BlocksAre new.blocks es)
           (sym (append_assoc (chained addr front) ((addr, x) ∷ []) rest) ∙ ap (λ (es : Entries). es ++ rest) (at_end front))
           ((l.links front gap.next e).kept ((addr, x) ∷ rest) there);
     };
@@ -70,7 +70,7 @@ module _ {addr : ℕ} {old mid : Heap} (source bytes : ℕ) (gap : Gap)
 
 -- the last extent in front of a place is there
 pub front_reaches : {blocks : Blocks} {previous : ℕ} (next : ℕ) (front : List ExtentRow) (rest : Entries) →
-    Stands blocks (chained next front ++ rest) → previous ≡ last_of extent_addr 0 front → previous ≢ 0 → Reaches (blocks previous) 32
+    BlocksAre blocks (chained next front ++ rest) → previous ≡ last_of extent_addr 0 front → previous ≢ 0 → Reaches (blocks previous) 32
 front_reaches next [] rest s e nz = absurd (nz e)
 front_reaches {blocks} next (x ∷ xs) rest s e nz =
     subst (λ n. Reaches (blocks n) 32) (sym e)

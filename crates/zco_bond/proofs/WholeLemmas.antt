@@ -4,7 +4,7 @@ use Rattle.std.specs.Prelude.{Option}
 use Rattle.std.proofs.lemmas.List.{drop_all}
 use Rattle.byteorder.specs.Endian.{big_bytes}
 use Rattle.sdr_base.specs.Blocks.{Block, Blocks, overwritten, with_block}
-use Rattle.sdr_base.specs.Entries.{Stands}
+use Rattle.sdr_base.specs.Entries.{BlocksAre}
 use Rattle.sdr_base.specs.Making.{besides}
 use Rattle.sdr_base.specs.Objects.{Heap, with_bytes}
 use Rattle.sdr_base.specs.Parts.{overwrite}
@@ -54,7 +54,7 @@ sets_whole {object} chain bytes {old} {new} buffer is w = record {
         ∙ ap (λ (l : List ℕ). overwritten (Some (object_block row)) 8 l) (is ∙ ap (λ (ws : List ℕ). layout ws []) words)
         ∙ ap (λ (l : List ℕ). Some (record { kind = kinds.Object; bytes = l }))
         (overwrite-tail (account_number row.account) (tail_words row) (tail_words (whole_of row extents)) refl) in
-        subst (λ (b : Blocks). Stands b ((object, object_block (whole_of row extents)) ∷ rest))
+        subst (λ (b : Blocks). BlocksAre b ((object, object_block (whole_of row extents)) ∷ rest))
         (sym (heap_blocks w ∙ ap (with_block old.blocks object) block))
         (written_at old.blocks object (object_block row) (object_block (whole_of row extents)) [] rest s);
   };

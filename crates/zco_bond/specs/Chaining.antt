@@ -1,7 +1,7 @@
 -- A chain of headers or trailers that becomes extents at a place in a chain of extents.
 use Rattle.std.specs.Prelude.{◌≡◌, ◌+◌, ◌*◌, ◌/◌, ◌<◌, ◌≤◌, ◌^◌, ℕ, List, ◌++◌, length, All}
 use Rattle.sdr_base.specs.Blocks.{Blocks}
-use Rattle.sdr_base.specs.Entries.{Changes, Entries, Stands}
+use Rattle.sdr_base.specs.Entries.{Changes, Entries, BlocksAre}
 use Rattle.sdr_base.specs.Linked.{first_of, last_of}
 use Rattle.sdr_base.specs.Making.{Made}
 use Rattle.sdr_base.specs.Objects.{Heap}
@@ -19,7 +19,7 @@ use Rattle.zco_bond.specs.declared.gap.Gap.{Gap}
 -- a chain of extents ends at the place, and a chain of headers or trailers stands beside
 pub record ChainsAt (blocks : Blocks) (first : ℕ) (gap : Gap) (front : List ExtentRow) (rows : List CapsuleRow) : Type 0 where
   pub rest : Entries
-  pub stands : Stands blocks (chained gap.next front ++ (capsule_entries rows ++ rest))
+  pub stands : BlocksAre blocks (chained gap.next front ++ (capsule_entries rows ++ rest))
   pub at_previous : gap.previous ≡ last_of extent_addr 0 front
   pub at_first : first ≡ first_of capsule_addr 0 rows
   pub fits : All CapsuleFits rows

@@ -1,7 +1,7 @@
 -- An extent at a place in a chain, and a header or trailer that becomes one there.
 use Rattle.std.specs.Prelude.{◌≡◌, ◌≢◌, ◌<◌, ◌^◌, ℕ, List, [], ◌∷◌, ◌++◌}
 use Rattle.sdr_base.specs.Blocks.{Blocks}
-use Rattle.sdr_base.specs.Entries.{Changes, Entries, Stands}
+use Rattle.sdr_base.specs.Entries.{Changes, Entries, BlocksAre}
 use Rattle.sdr_base.specs.Linked.{last_of}
 use Rattle.sdr_base.specs.Making.{Made}
 use Rattle.sdr_base.specs.Objects.{Heap}
@@ -29,7 +29,7 @@ pub record InsertsExtent (source bytes : ℕ) (gap : Gap) (old new : Heap) (addr
 -- a chain of extents ends at the place, and a header or trailer stands beside, before another
 pub record PlaceAt (blocks : Blocks) (text : Text) (gap : Gap) (front : List ExtentRow) (next : ℕ) (c : CapsuleRow) : Type 0 where
   pub rest : Entries
-  pub stands : Stands blocks (chained gap.next front ++ ((c.addr, capsule_block 0 next c) ∷ rest))
+  pub stands : BlocksAre blocks (chained gap.next front ++ ((c.addr, capsule_block 0 next c) ∷ rest))
   pub at_previous : gap.previous ≡ last_of extent_addr 0 front
   pub at_text : text.of ≡ c.addr
   pub fits : CapsuleFits c

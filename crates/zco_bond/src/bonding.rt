@@ -3,7 +3,7 @@ ghost use Rattle.std.specs.Prelude.{◌≡◌, ◌≤◌, ◌+◌, ◌==◌, Lis
 ghost use Rattle.sdr_base.specs.Blocks.{IsKind, UsesRange};
 ghost use Rattle.sdr_base.specs.Moves.{KeepsSome};
 ghost use Rattle.sdr_base.specs.Objects.{OnlyUnmoved};
-ghost use Rattle.sdr_base.specs.Works.{Works};
+ghost use Rattle.sdr_base.specs.Works.{Spends};
 ghost use Rattle.sdr_base.specs.ZcoObjects.{ObjectRow};
 ghost use Rattle.sdr_base.specs.declared.kind.Kind.TheVariants as kinds;
 ghost use Rattle.sdr_model.specs.declared.accounts.Ticket.{Ticket};
@@ -35,9 +35,9 @@ pub fn bond<O: Objects>(o: &mut O, object: Addr, ticket: u64) -> Result<(), Stop
     ensures refused { IfErr result (BondStops object ticket (O.heap o.old) (O.heap o.new)) }
     ensures works { (row : ObjectRow) (tickets : List Ticket) →
         KeepsWithQueue (O.heap o.old) object row tickets →
-        Works O.HasHeap (8 + ends_lines row) o.old o.new result }
+        Spends O.HasHeap (8 + ends_lines row) o.old o.new result }
     ensures missed { (IsKind ((O.heap o.old).blocks object) kinds.Object → ⊥) →
-        Works O.HasHeap 0 o.old o.new result }
+        Spends O.HasHeap 0 o.old o.new result }
 {
     expect_kind(o, object, Kind::Object)?;
     charge_bond(o, object, ticket)?;
@@ -54,7 +54,7 @@ fn bond_parts<O: Objects>(o: &mut O, object: Addr) -> Result<Chain, Stop>
     ensures bonded { IfOk result (BondsParts object (O.heap o.old) (O.heap o.new)) }
     ensures refused { IfErr result (PartsStop object (O.heap o.old) (O.heap o.new)) }
     ensures works { (row : ObjectRow) → KeepsObject (O.heap o.old).blocks object row →
-        Works O.HasHeap (ends_lines row) o.old o.new result }
+        Spends O.HasHeap (ends_lines row) o.old o.new result }
 {
     let acct = account(o, object)?;
     let first = first_parts(o, object)?;
@@ -88,7 +88,7 @@ fn set_whole<O: Objects>(o: &mut O, object: Addr, chain: Chain, bytes: u64) -> R
     requires object { UsesRange (O.heap o.old).blocks object 0 72 }
     ensures set { OnOk result (SetsWhole object chain bytes (O.heap o.old) (O.heap o.new)) }
     ensures refused { IfErr result (OnlyUnmoved (O.heap o.old) (O.heap o.new)) }
-    ensures works { Works O.HasHeap 3 o.old o.new result }
+    ensures works { Spends O.HasHeap 3 o.old o.new result }
 {
     let mut buffer = [0; 64];
     BigEndian::write_u64_into(

@@ -1,7 +1,7 @@
 // Chains of headers and trailers that become extents.
 ghost use Rattle.std.specs.Prelude.{◌≡◌, ◌≤◌, List, sum_by, IfErr, IfOk};
 ghost use Rattle.sdr_base.specs.Moves.{KeepsSome};
-ghost use Rattle.sdr_base.specs.Works.{Works};
+ghost use Rattle.sdr_base.specs.Works.{Spends};
 ghost use Rattle.sdr_base.specs.ZcoObjects.{CapsuleRow, ExtentRow};
 ghost use Rattle.zco_bond.specs.Chaining.{BondsChain, ChainsAt, ChainStops, SomeChains, bond_lines};
 
@@ -21,7 +21,7 @@ pub fn bond_chain<O: Objects>(o: &mut O, acct: Acct, first: Addr, gap: Gap) -> R
     ensures refused { IfErr result (ChainStops first gap (O.heap o.old) (O.heap o.new)) }
     ensures works { (front : List ExtentRow) (rows : List CapsuleRow) →
         ChainsAt (O.heap o.old).blocks first gap front rows →
-        Works O.HasHeap (sum_by bond_lines rows) o.old o.new result }
+        Spends O.HasHeap (sum_by bond_lines rows) o.old o.new result }
 {
     check_failed(o)?;
     let mut chain = Chain {

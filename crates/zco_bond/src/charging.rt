@@ -2,7 +2,7 @@
 ghost use Rattle.std.specs.Prelude.{◌≡◌, ◌≤◌, ◌*◌, IfErr, IfOk, OnOk};
 ghost use Rattle.sdr_base.specs.Moves.{KeepsSome};
 ghost use Rattle.sdr_base.specs.Objects.{OnlyFault};
-ghost use Rattle.sdr_base.specs.Works.{Looks, Works};
+ghost use Rattle.sdr_base.specs.Works.{Looks, Spends};
 ghost use Rattle.zco_bond.specs.Charging.{BondChargeStops, ChargesBond, TellsRise};
 ghost use Rattle.zco_obj.specs.Kept.{SomeWithQueue};
 ghost use Rattle.zco_obj.specs.Walks.{SomeCapsules};
@@ -44,7 +44,7 @@ pub fn charge_bond<O: Objects>(o: &mut O, object: Addr, ticket: u64) -> Result<(
     ensures charged { OnOk result (ChargesBond object ticket (O.heap o.old) (O.heap o.new)) }
     ensures refused { IfErr result
         (BondChargeStops object ticket (O.heap o.old) (O.heap o.new)) }
-    ensures works { Works O.HasHeap 5 o.old o.new result }
+    ensures works { Spends O.HasHeap 5 o.old o.new result }
 {
     let first = first_parts(o, object)?;
     let headers = bond_rise(o, first.header)?;

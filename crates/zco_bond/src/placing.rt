@@ -3,7 +3,7 @@ ghost use Rattle.std.specs.Prelude.{◌≡◌, ◌≢◌, ◌≤◌, ◌+◌, �
 ghost use Rattle.sdr_base.specs.Blocks.{UsesRange};
 ghost use Rattle.sdr_base.specs.Moves.{KeepsSome};
 ghost use Rattle.sdr_base.specs.Objects.{OnlyShort};
-ghost use Rattle.sdr_base.specs.Works.{Works};
+ghost use Rattle.sdr_base.specs.Works.{Spends};
 ghost use Rattle.zco_bond.specs.Placing.{BondsText, InsertsExtent, IsTextRow, SomePlace};
 ghost use Rattle.zco_bond.specs.Rows.{RowStops};
 
@@ -22,7 +22,7 @@ fn insert_extent<O: Objects>(o: &mut O, source: Addr, bytes: u64, gap: Gap) -> R
     ensures inserted { IfOk result
         (InsertsExtent source bytes gap (O.heap o.old) (O.heap o.new)) }
     ensures refused { IfErr result (OnlyShort 32 (O.heap o.old) (O.heap o.new)) }
-    ensures works { Works O.HasHeap 31 o.old o.new result }
+    ensures works { Spends O.HasHeap 31 o.old o.new result }
 {
     let extent = take_words(o, Kind::Extent, &[source, 0, bytes, gap.next])?;
     link_after(o, gap.previous, extent)?;
@@ -38,7 +38,7 @@ pub fn bond_text<O: Objects>(o: &mut O, acct: Acct, text: Text, gap: Gap) -> Res
     requires place { SomePlace (O.heap o.old).blocks text gap }
     ensures bonded { IfOk result (BondsText acct text gap (O.heap o.old) (O.heap o.new)) }
     ensures refused { IfErr result (RowStops (IsTextRow text) (O.heap o.old) (O.heap o.new)) }
-    ensures works { Works O.HasHeap (114 + (TEXT_FROM + text.bytes) / 32) o.old o.new result }
+    ensures works { Spends O.HasHeap (114 + (TEXT_FROM + text.bytes) / 32) o.old o.new result }
 {
     let source = make_source(o, text)?;
     let extent = insert_extent(o, source, text.bytes, gap)?;

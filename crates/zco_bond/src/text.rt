@@ -2,7 +2,7 @@
 ghost use Rattle.std.specs.Prelude.{◌≡◌, ◌≤◌, ◌+◌, ◌/◌, length, IfErr, IfOk, OnOk};
 ghost use Rattle.sdr_base.specs.Moves.{KeepsSome};
 ghost use Rattle.sdr_base.specs.Objects.{OnlyFault, OnlyShort};
-ghost use Rattle.sdr_base.specs.Works.{Looks, Works};
+ghost use Rattle.sdr_base.specs.Works.{Looks, Spends};
 ghost use Rattle.zco_bond.specs.Rows.{RowStops};
 ghost use Rattle.zco_bond.specs.Texts.{CopiesText, FillsRaw, IsSourceRow, IsText, MakesSource};
 
@@ -41,7 +41,7 @@ fn copy_text<O: Objects>(o: &mut O, text: Text) -> Result<Addr, Stop>
     ensures copied { IfOk result (CopiesText text (O.heap o.old) (O.heap o.new)) }
     ensures refused { IfErr result
         (OnlyShort (TEXT_FROM + text.bytes) (O.heap o.old) (O.heap o.new)) }
-    ensures works { Works O.HasHeap (26 + (TEXT_FROM + text.bytes) / 32) o.old o.new result }
+    ensures works { Spends O.HasHeap (26 + (TEXT_FROM + text.bytes) / 32) o.old o.new result }
 {
     let mut buffer = [0; TEXT_FROM + LONGEST_CAPSULE as usize];
     let block = &mut buffer[..TEXT_FROM + text.bytes as usize];
@@ -58,7 +58,7 @@ pub fn make_source<O: Objects>(o: &mut O, text: Text) -> Result<Addr, Stop>
     ensures made { IfOk result (MakesSource text (O.heap o.old) (O.heap o.new)) }
     ensures refused { IfErr result
         (RowStops (IsSourceRow text.bytes) (O.heap o.old) (O.heap o.new)) }
-    ensures works { Works O.HasHeap (57 + (TEXT_FROM + text.bytes) / 32) o.old o.new result }
+    ensures works { Spends O.HasHeap (57 + (TEXT_FROM + text.bytes) / 32) o.old o.new result }
 {
     let raw = copy_text(o, text)?;
     heap_source(o, raw)

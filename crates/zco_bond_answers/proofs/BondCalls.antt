@@ -5,7 +5,7 @@ use Rattle.std.proofs.lemmas.List.Elements.{All-append}
 use Rattle.sdr_answers.proofs.KindLemmas.{none_of}
 use Rattle.sdr_answers.proofs.ListLemmas.{IsSmall}
 use Rattle.sdr_answers.proofs.RowLemmas.{HasMoves, misnamed_refused, moved_answered, row_refused}
-use Rattle.sdr_answers.specs.Answering.{Answered, IsRefused, IsServed}
+use Rattle.sdr_answers.specs.Answering.{Answered, IsRefused, IsReady}
 use Rattle.sdr_audit.specs.Rows.{capsule_row, object_row}
 use Rattle.sdr_audit.specs.Standing.{HeapStandsFor, thing_entries, with_taken_marked}
 use Rattle.sdr_audit.specs.Ties.{ties_of}
@@ -78,7 +78,7 @@ split (x ∷ xs) (x' ∷ xs') ys ys' long is =
     let both = split xs xs' ys ys' (omega (arith, long)) others in (λ i. one i ∷ both.0 i, both.1)
 
 -- a call on a heap that stands for a world in which it is served
-module _ (old new : Heap) (w : World) (unmoved : old.moves ≡ []) (s : HeapStandsFor old w) (served : IsServed w) (small : IsSmall old)
+module _ (old new : Heap) (w : World) (unmoved : old.moves ≡ []) (s : HeapStandsFor old w) (served : IsReady w) (small : IsSmall old)
     (addr number : ℕ) where
   abbrev call : Call
   call = calls.Bond addr number

@@ -4,7 +4,7 @@ use Rattle.std.proofs.lemmas.List.{length-append}
 use Rattle.std.specs.Option.{option_map_or}
 use Rattle.std.specs.Prelude.{Option, Result, sum_by}
 use Rattle.sdr_answers.proofs.ListLemmas.{IsSmall}
-use Rattle.sdr_answers.specs.Answering.{IsServed}
+use Rattle.sdr_answers.specs.Answering.{IsReady}
 use Rattle.sdr_audit.specs.Rows.{capsule_row, object_row}
 use Rattle.sdr_audit.specs.Standing.{HeapStandsFor}
 use Rattle.sdr_base.proofs.LinkedLemmas.{length-linked}
@@ -12,7 +12,7 @@ use Rattle.sdr_base.proofs.WorksLemmas.{works_more}
 use Rattle.sdr_base.specs.Blocks.{IsKind}
 use Rattle.sdr_base.specs.Entries.{Few}
 use Rattle.sdr_base.specs.Objects.{Heap}
-use Rattle.sdr_base.specs.Works.{Works}
+use Rattle.sdr_base.specs.Works.{Spends}
 use Rattle.sdr_base.specs.ZcoObjects.{CapsuleRow, ObjectRow, capsule_addr, capsule_block, capsule_entries, extent_entries, object_entries}
 use Rattle.sdr_base.specs.declared.has_heap.HasHeap.{Ghosts}
 use Rattle.sdr_base.specs.declared.kind.Kind.TheVariants as kinds
@@ -83,9 +83,9 @@ bonded_few heap w addr z s few there at =
 
 -- so many lines it touches at most, by the object that is there in the world
 pub bond_works : {S T : Type 0} {m : Ghosts S} {a b : S} {r : Result T Stop} (old : Heap) (w : World) (addr : ℕ) →
-    HeapStandsFor old w → IsServed w → IsSmall old →
-    ((row : ObjectRow) (tickets : List Ticket) → KeepsWithQueue old addr row tickets → Works m (8 + ends_lines row) a b r) →
-    ((IsKind (old.blocks addr) kinds.Object → ⊥) → Works m 0 a b r) → Works m (bond_lines w addr) a b r
+    HeapStandsFor old w → IsReady w → IsSmall old →
+    ((row : ObjectRow) (tickets : List Ticket) → KeepsWithQueue old addr row tickets → Spends m (8 + ends_lines row) a b r) →
+    ((IsKind (old.blocks addr) kinds.Object → ⊥) → Spends m 0 a b r) → Spends m (bond_lines w addr) a b r
 bond_works {S} {T} {m} {a} {b} {r} old w addr s served small there missed = by (object_at w addr) refl
   where
     lines : (z : ZcoObject) → ends_lines (object_row z) ≡ sum_by capsule_lines (capsules_of z)
@@ -93,7 +93,7 @@ bond_works {S} {T} {m} {a} {b} {r} old w addr s served small there missed = by (
         ap (λ (l : List CapsuleRow). sum_by rows.bond_lines l) (ends_are z) ∙ sum_by-map rows.bond_lines capsule_row (capsules_of z)
 
     by : (o : Option ZcoObject) → object_at w addr ≡ o →
-        Works m (option_map_or (λ (z : ZcoObject). 8 + sum_by capsule_lines (capsules_of z)) o 0) a b r
+        Spends m (option_map_or (λ (z : ZcoObject). 8 + sum_by capsule_lines (capsules_of z)) o 0) a b r
     by None is =
         missed (λ kind.
         let at = object_is_at old w addr s served kind in

@@ -23,7 +23,7 @@ use Rattle.sdr_model.specs.BondSteps.{bonded, capsules_of}
 use Rattle.sdr_model.specs.Things.{Things}
 use Rattle.sdr_model.specs.Valid.{FitTogether}
 use Rattle.sdr_model.specs.World.{World, thing_at}
-use Rattle.sdr_model.specs.Zco.{as_object, as_source, count_of, naming, source_on, uses_in}
+use Rattle.sdr_model.specs.Zco.{as_object, as_source, count_of, naming, source_naming, uses_in}
 use Rattle.sdr_model.specs.declared.things.Thing.{Thing}
 use Rattle.sdr_model.specs.declared.things.Thing.TheVariants as things
 use Rattle.sdr_model.specs.declared.zco.Capsule.{Capsule}
@@ -76,7 +76,7 @@ of_things w m = record w { things = m }
 
 -- no source names a raw object where nothing is
 abbrev pub NoneNamed : World → Things → Type 0
-NoneNamed w m = (q : ℕ) → finite.get m q ≡ None → source_on (of_things w m) q ≡ None
+NoneNamed w m = (q : ℕ) → finite.get m q ≡ None → source_naming (of_things w m) q ≡ None
 
 module _ (w : World) (at : ℕ → ℕ) where
   -- what comes and is no object names no source
@@ -94,7 +94,7 @@ module _ (w : World) (at : ℕ → ℕ) where
 
   -- the source of another raw object names no raw object that is there, and one where none is
   named_on : (m : Things) (raw addr : ℕ) (c : Capsule) → finite.get m raw ≡ None → finite.get m addr ≡ None → addr ≢ raw → (q : ℕ) →
-      q ≢ raw → source_on (of_things w (with_one m raw addr c)) q ≡ source_on (of_things w m) q
+      q ≢ raw → source_naming (of_things w (with_one m raw addr c)) q ≡ source_naming (of_things w m) q
   named_on m raw addr c raw_none none apart q away =
       let text = things.Raw c.text in
       same_first q (finite.insert m raw text) addr (Some (things.Source (capsule_source raw c)))
@@ -102,7 +102,7 @@ module _ (w : World) (at : ℕ → ℕ) where
       ∙ same_first q m raw (Some text) (ap (names_raw_at q) raw_none)
 
   pub named_stays : (m : Things) (k : ℕ) (cs : List Capsule) → Come m at k cs → (q : ℕ) (t : Thing) → finite.get m q ≡ Some t →
-      source_on (of_things w (with_all m at k cs)) q ≡ source_on (of_things w m) q
+      source_naming (of_things w (with_all m at k cs)) q ≡ source_naming (of_things w m) q
   named_stays m k [] come q t there = refl
   named_stays m k (c ∷ cs) come q t there =
       let raw = at k in
@@ -112,7 +112,7 @@ module _ (w : World) (at : ℕ → ℕ) where
 
   -- its own source names a raw object
   own_source : (m : Things) (raw addr : ℕ) (c : Capsule) → finite.get m raw ≡ None → finite.get m addr ≡ None → addr ≢ raw →
-      NoneNamed w m → source_on (of_things w (with_one m raw addr c)) raw ≡ Some addr
+      NoneNamed w m → source_naming (of_things w (with_one m raw addr c)) raw ≡ Some addr
   own_source m raw addr c raw_none none apart unnamed =
       let text = things.Raw c.text in
       named_first (of_things w (finite.insert m raw text)) raw addr (capsule_source raw c)
@@ -138,7 +138,7 @@ CountsNew counts acct m es = (q : ℕ) → finite.get m q ≡ None → (a : Acct
 module _ (w : World) (at : ℕ → ℕ) (counts : ℕ → Acct → ℕ) (acct : Acct) where
   pub all_tied : (m : Things) (k : ℕ) (cs : List Capsule) → Come m at k cs → NoneNamed w m →
       CountsNew counts acct m (bonds.bonded_extents at k cs) →
-      AreTied (λ q. or_null (source_on (of_things w (with_all m at k cs)) q)) counts acct at k cs
+      AreTied (λ q. or_null (source_naming (of_things w (with_all m at k cs)) q)) counts acct at k cs
   all_tied m k [] come unnamed counted = tt
   all_tied m k (c ∷ cs) come unnamed counted =
       let raw = at k in
@@ -202,7 +202,7 @@ module _ (w : World) (addr : ℕ) (z : ZcoObject) (at : ℕ → ℕ) (there : th
       by false = refl
 
   -- no raw object is named otherwise for it
-  named_same : (q : ℕ) → source_on after q ≡ source_on (of_things w all) q
+  named_same : (q : ℕ) → source_naming after q ≡ source_naming (of_things w all) q
   named_same q = same_first q all addr (Some (things.Object (bonded at z))) (ap (names_raw_at q) all_there)
 
   nothing_more : (n : ℕ) (b : Bool) → n + cond b 0 0 ≡ n

@@ -1,9 +1,9 @@
 // The call that bonds an object, as a step of the machine.
 ghost use Rattle.std.specs.Prelude.{[], ◌+◌, ◌/◌, ◌≡◌, ◌≤◌};
-ghost use Rattle.sdr_answers.specs.Answering.{Comes, IsServed};
+ghost use Rattle.sdr_answers.specs.Answering.{ComesInEach, IsReady};
 ghost use Rattle.sdr_audit.specs.Standing.{HeapStandsFor};
 ghost use Rattle.sdr_base.specs.Moves.{KeepsSome};
-ghost use Rattle.sdr_base.specs.Works.{Works};
+ghost use Rattle.sdr_base.specs.Works.{Spends};
 ghost use Rattle.sdr_model.specs.World.{World};
 ghost use Rattle.sdr_model.specs.declared.call.Call.TheVariants as calls;
 ghost use Rattle.zco_bond_answers.specs.Answering.{bond_lines};
@@ -27,10 +27,10 @@ pub fn bond<O: Objects>(
     requires room { (O.heap o.old).size / 4 + 4 ≤ (O.heap o.old).spare }
     requires object { IsWithQueue (O.heap o.old) object }
     requires unmoved { (O.heap o.old).moves ≡ [] }
-    ensures comes { Comes (calls.Bond object ticket)
+    ensures comes { ComesInEach (calls.Bond object ticket)
         (O.heap o.old) (O.heap o.new) page.old page.new result }
-    ensures works { (w : World) → HeapStandsFor (O.heap o.old) w → IsServed w →
-        Works O.HasHeap (bond_lines w object) o.old o.new result }
+    ensures works { (w : World) → HeapStandsFor (O.heap o.old) w → IsReady w →
+        Spends O.HasHeap (bond_lines w object) o.old o.new result }
 {
     zco_bond::bond(o, object, ticket)?;
     page.clear();

@@ -3,7 +3,7 @@ use Rattle.std.proofs.Common.{◌≡◌, ◌∙◌, ℕ, List, [], ◌∷◌, �
 use Rattle.sdr_base.proofs.LinkedLemmas.{linked-append}
 use Rattle.sdr_base.proofs.StandingLemmas.{moved, stands_swapped, swaps_before}
 use Rattle.sdr_base.specs.Blocks.{Blocks}
-use Rattle.sdr_base.specs.Entries.{Changes, Entries, Stands, Swaps}
+use Rattle.sdr_base.specs.Entries.{Changes, Entries, BlocksAre, Swaps}
 use Rattle.sdr_base.specs.Linked.{first_of, last_of, linked}
 use Rattle.sdr_base.specs.Objects.{Heap}
 use Rattle.sdr_base.specs.ZcoObjects.{ExtentRow, extent_addr, extent_block, extent_entries}
@@ -97,9 +97,9 @@ module _ (before : List ExtentRow) (k : ExtentRow) (ks behind : List ExtentRow) 
             let line : (xs ys : Entries) → (xs ++ (ys ++ extent_entries behind)) ++ rest ≡ xs ++ (ys ++ (extent_entries behind ++ rest)) =
             λ xs ys. append_assoc xs (ys ++ extent_entries behind) rest
             ∙ ap (λ (es : Entries). xs ++ es) (append_assoc ys (extent_entries behind) rest) in
-            subst (λ (es : Entries). Stands new.blocks es) (sym (line (middle 0) (front next)))
+            subst (λ (es : Entries). BlocksAre new.blocks es) (sym (line (middle 0) (front next)))
             (moved (front next) (middle 0) (extent_entries behind ++ rest)
-            (subst (λ (es : Entries). Stands new.blocks es) (line (front next) (middle 0)) s));
+            (subst (λ (es : Entries). BlocksAre new.blocks es) (line (front next) (middle 0)) s));
       } in
       subst (λ (es : Entries). Changes old.blocks new.blocks (extent_entries (before ++ (kept ++ behind))) (middle 0 ++ es))
       (sym (in_two 0 before behind)) (changes_then (ended l) (changes_then two three))

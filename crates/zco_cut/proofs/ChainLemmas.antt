@@ -6,7 +6,7 @@ use Rattle.sdr_base.proofs.ChainLemmas.{last_holds}
 use Rattle.sdr_base.proofs.LayoutLemmas.{length-layout}
 use Rattle.sdr_base.proofs.StandingLemmas.{found, moved}
 use Rattle.sdr_base.specs.Blocks.{Blocks, Reaches}
-use Rattle.sdr_base.specs.Entries.{Changes, Entries, Stands}
+use Rattle.sdr_base.specs.Entries.{Changes, Entries, BlocksAre}
 use Rattle.sdr_base.specs.Linked.{first_of, last_of, linked}
 use Rattle.sdr_base.specs.Objects.{Heap}
 use Rattle.sdr_base.specs.ZcoObjects.{ExtentRow, extent_addr, extent_block, extent_entries}
@@ -23,7 +23,7 @@ use Rattle.zco_obj.proofs.KeptLemmas.{first_extent}
 use Rattle.zco_obj.proofs.SpotLemmas.{SpotOf, amount_by, find_spot}
 use Rattle.zco_obj.proofs.WalkLemmas.{fits_from, fits_left, one_found}
 use Rattle.zco_obj.specs.Amounts.{source_space}
-use Rattle.zco_obj.specs.Gone.{NamedSource, extent_charge, source_at, sources_entries, space_in}
+use Rattle.zco_obj.specs.Gone.{NamedSource, extent_row_charge, source_at, sources_entries, space_in}
 use Rattle.zco_obj.specs.Kept.{ExtentFits}
 use Rattle.zco_obj.specs.Walks.{ExtentsAt, KeepsExtent}
 use Rattle.zco_ref.specs.Kept.{KeepsSource, counted_block, tied_entries}
@@ -48,7 +48,7 @@ chain_left {blocks} passed left at c is =
       rest = front ++ c.rest;
       stands =
           moved front (extent_entries left) c.rest
-          (subst (λ (es : Entries). Stands blocks es)
+          (subst (λ (es : Entries). BlocksAre blocks es)
           (ap (λ (es : Entries). es ++ c.rest) (in_two 0 passed left) ∙ append_assoc front (extent_entries left) c.rest) c.stands);
       at_first = is;
       fits = fits_from ExtentFits passed left c.fits;
@@ -95,7 +95,7 @@ same_first (b ∷ before) e x behind same = refl
 
 -- the last one of a chain is there
 pub last_reaches : {b : Blocks} (front rest : Entries) (next : ℕ) (rows : List ExtentRow) →
-    Stands b (front ++ (linked extent_addr extent_block 0 next rows ++ rest)) → last_of extent_addr 0 rows ≢ 0 →
+    BlocksAre b (front ++ (linked extent_addr extent_block 0 next rows ++ rest)) → last_of extent_addr 0 rows ≢ 0 →
     Reaches (b (last_of extent_addr 0 rows)) 32
 last_reaches front rest next [] s nz = absurd (nz refl)
 last_reaches {b} front rest next (x ∷ xs) s nz =
@@ -118,13 +118,13 @@ one_fits [] s back all = All-head NamedFits s back all
 one_fits (x ∷ front) s back all = one_fits front s back (All-tail NamedFits x (front ++ (s ∷ back)) all)
 
 source_stands : {b : Blocks} (front : List NamedSource) (s : NamedSource) (back : List NamedSource) (xs rest : Entries) →
-    Stands b (xs ++ (sources_entries (front ++ (s ∷ back)) ++ rest)) → b s.addr ≡ Some (counted_block s.source)
+    BlocksAre b (xs ++ (sources_entries (front ++ (s ∷ back)) ++ rest)) → b s.addr ≡ Some (counted_block s.source)
 source_stands {b} [] s back xs rest st = found b s.addr (counted_block s.source) xs _ st
 source_stands {b} (x ∷ front) s back xs rest st =
     let T = tied_entries x.addr x.source x.bytes in
     let R = sources_entries (front ++ (s ∷ back)) in
     source_stands front s back (xs ++ T) rest
-    (subst (λ (es : Entries). Stands b es)
+    (subst (λ (es : Entries). BlocksAre b es)
     (ap (λ (es : Entries). xs ++ es) (append_assoc T R rest) ∙ sym (append_assoc xs T (R ++ rest))) st)
 
 -- an extent of a chain that is kept with its sources, and the source that it names
@@ -138,7 +138,7 @@ module _ (old : Heap) {first : ℕ} (before : List ExtentRow) (e : ExtentRow) (b
     block =
         ap old.blocks (sym spot.at)
         ∙ source_stands spot.before spot.here spot.behind (extent_entries (before ++ (e ∷ behind))) c.rest
-        (subst (λ (l : List NamedSource). Stands old.blocks (extent_entries (before ++ (e ∷ behind)) ++ (sources_entries l ++ c.rest)))
+        (subst (λ (l : List NamedSource). BlocksAre old.blocks (extent_entries (before ++ (e ∷ behind)) ++ (sources_entries l ++ c.rest)))
         spot.whole c.stands);
     fits = one_fits spot.before spot.here spot.behind (subst (All NamedFits) spot.whole c.source_fits);
   }
@@ -178,15 +178,16 @@ module _ (old : Heap) {first : ℕ} (before : List ExtentRow) (e : ExtentRow) (b
     }
 
     -- with so much less charged, it charges what it did
-    pub charge_cut : (space : Space) → amount freed space + extent_charge ss space (cut from to e) ≡ extent_charge ss space e
+    pub charge_cut : (space : Space) → amount freed space + extent_row_charge ss space (cut from to e) ≡ extent_row_charge ss space e
     charge_cut space =
         let of = source_space spot.here.source in
         let part = (cut from to e).length in
         let is : freed ≡ amounts_by (in_space of (e.length - part)) =
         cuts.charge (first_of extent_addr 0 behind) e spot.here.source here source_kept in
         let named : space_in (source_at e.source ss) ≡ of = ap space_in spot.is_found in
-        ap (λ (m : Amounts). amount m space + extent_charge ss space (cut from to e)) is
-        ∙ ap (λ (n : ℕ). n + extent_charge ss space (cut from to e)) (amount_by (in_space of (e.length - part)) space)
+        ap (λ (m : Amounts). amount m space + extent_row_charge ss space (cut from to e)) is
+        ∙ ap (λ (n : ℕ). n + extent_row_charge ss space (cut from to e))
+            (amount_by (in_space of (e.length - part)) space)
         ∙ ap (λ (s : Space). in_space of (e.length - part) space + bytes_charge s part space) named
         ∙ charge_split of e.length part space (omega arith)
         ∙ ap (λ (s : Space). bytes_charge s e.length space) (sym named)

@@ -6,7 +6,7 @@ use Rattle.sdr_base.proofs.LayoutLemmas.{overwrite-layout}
 use Rattle.sdr_base.proofs.LinkedLemmas.{last_nonzero, relinked_next}
 use Rattle.sdr_base.proofs.WritingLemmas.{word_set}
 use Rattle.sdr_base.specs.Blocks.{Blocks}
-use Rattle.sdr_base.specs.Entries.{Entries, Stands}
+use Rattle.sdr_base.specs.Entries.{Entries, BlocksAre}
 use Rattle.sdr_base.specs.Linked.{last_of, linked}
 use Rattle.sdr_base.specs.Making.{besides}
 use Rattle.sdr_base.specs.Objects.{Heap}
@@ -39,9 +39,9 @@ links_none {old} {new} last next z same = record {
 }
   where
     by : (rows : List ExtentRow) (was : ℕ) → last ≡ last_of extent_addr 0 rows → (rest : Entries) →
-        Stands old.blocks (linked extent_addr extent_block 0 was rows ++ rest) →
-        Stands new.blocks (linked extent_addr extent_block 0 next rows ++ rest)
-    by [] was e rest s = subst (λ (b : Blocks). Stands b rest) (sym (heap_blocks same)) s
+        BlocksAre old.blocks (linked extent_addr extent_block 0 was rows ++ rest) →
+        BlocksAre new.blocks (linked extent_addr extent_block 0 next rows ++ rest)
+    by [] was e rest s = subst (λ (b : Blocks). BlocksAre b rest) (sym (heap_blocks same)) s
     by (x ∷ xs) was e rest s =
         absurd (last_nonzero extent_addr extent_block old.blocks [] rest 0 was x xs s (sym e ∙ z))
 
@@ -53,8 +53,8 @@ links_after {old} {new} last next nz w = record {
 }
   where
     by : (rows : List ExtentRow) (was : ℕ) → last ≡ last_of extent_addr 0 rows → (rest : Entries) →
-        Stands old.blocks (linked extent_addr extent_block 0 was rows ++ rest) →
-        Stands new.blocks (linked extent_addr extent_block 0 next rows ++ rest)
+        BlocksAre old.blocks (linked extent_addr extent_block 0 was rows ++ rest) →
+        BlocksAre new.blocks (linked extent_addr extent_block 0 next rows ++ rest)
     by [] was e rest s = absurd (nz e)
     by (x ∷ xs) was e rest s =
         relinked_next extent_addr extent_block old.blocks new.blocks [] rest 24 0 was next (big_bytes 8 next) x xs

@@ -4,7 +4,7 @@ use Rattle.std.proofs.lemmas.Bool.{eq-eqb, ne_eqb}
 use Rattle.std.specs.Prelude.{if◌then◌else◌}
 use Rattle.sdr_base.proofs.LinkedLemmas.{last_nonzero}
 use Rattle.sdr_base.specs.Blocks.{Blocks, Reaches}
-use Rattle.sdr_base.specs.Entries.{Changes, Entries, Stands}
+use Rattle.sdr_base.specs.Entries.{Changes, Entries, BlocksAre}
 use Rattle.sdr_base.specs.Linked.{first_of, last_of, linked}
 use Rattle.sdr_base.specs.Making.{besides}
 use Rattle.sdr_base.specs.Objects.{Heap}
@@ -67,14 +67,14 @@ parts_none {old} {new} first from to e same = record {
 
 -- the first one outside is that of the chain, or the one behind the part where none is before it
 out_is : {b : Blocks} (before : List ExtentRow) (e : ExtentRow) (behind out : List ExtentRow) (first last next : ℕ) (rest : Entries) →
-    Stands b (extent_entries (before ++ (e ∷ behind)) ++ rest) → first ≡ first_of extent_addr 0 (before ++ (e ∷ behind)) →
+    BlocksAre b (extent_entries (before ++ (e ∷ behind)) ++ rest) → first ≡ first_of extent_addr 0 (before ++ (e ∷ behind)) →
     last ≡ last_of extent_addr 0 before → next ≡ first_of extent_addr 0 out →
     (if last == 0 then next else first) ≡ first_of extent_addr 0 (before ++ out)
 out_is [] e behind out first last next rest s f l n = ap (λ (v : Bool). if v then next else first) (eq-eqb last 0 l) ∙ n
 out_is {b} (x ∷ xs) e behind out first last next rest s f l n =
     let some : last ≢ 0 = λ z.
     last_nonzero extent_addr extent_block b [] (extent_entries (e ∷ behind) ++ rest) 0 e.addr x xs
-    (subst (λ (es : Entries). Stands b es)
+    (subst (λ (es : Entries). BlocksAre b es)
     (ap (λ (es : Entries). es ++ rest) (in_two 0 (x ∷ xs) (e ∷ behind))
     ∙ append_assoc (linked extent_addr extent_block 0 e.addr (x ∷ xs)) (extent_entries (e ∷ behind)) rest) s) (sym l ∙ z) in
     ap (λ (v : Bool). if v then next else first) (ne_eqb last 0 some) ∙ f
@@ -131,7 +131,7 @@ module _ (old : Heap) {first from to : ℕ} {begin : Place} (lt : from < to) (f 
         kept =
             kept_all begun.before begun.one begin.inside bytes begun.within (omega (arith, lt)) place cuts_first chain ended_at e
 
-        kept_stands : Stands now.blocks (extent_entries (begun.before ++ ((k ∷ kept.more) ++ kept.out)) ++ (sources_entries ss ++ chain.rest))
+        kept_stands : BlocksAre now.blocks (extent_entries (begun.before ++ ((k ∷ kept.more) ++ kept.out)) ++ (sources_entries ss ++ chain.rest))
         kept_stands = kept.changes.kept (sources_entries ss ++ chain.rest) chain.stands
 
         -- the last one in the part is there
@@ -147,7 +147,7 @@ module _ (old : Heap) {first from to : ℕ} {begin : Place} (lt : from < to) (f 
             (in_two 0 begun.before ((k ∷ kept.more) ++ kept.out) ∙ ap (λ (es : Entries). A ++ es) (in_two 0 (k ∷ kept.more) kept.out))
             ∙ append_assoc A (B ++ C) R ∙ ap (λ (es : Entries). A ++ es) (append_assoc B C R) in
             subst (λ n. Reaches (now.blocks n) 32) (sym kept.at_last)
-            (last_reaches A (C ++ R) next (k ∷ kept.more) (subst (λ (es : Entries). Stands now.blocks es) line kept_stands)
+            (last_reaches A (C ++ R) next (k ∷ kept.more) (subst (λ (es : Entries). BlocksAre now.blocks es) line kept_stands)
             (λ z. nz (kept.at_last ∙ z)))
 
         module _ {linked_once : Heap} (l : LinksAfter end.last 0 now linked_once) where
@@ -163,7 +163,7 @@ module _ (old : Heap) {first from to : ℕ} {begin : Place} (lt : from < to) (f 
               let R = sources_entries ss ++ chain.rest in
               subst (λ n. Reaches (linked_once.blocks n) 32) (sym begun.at_last)
               (last_reaches [] ((B ++ C) ++ R) k.addr begun.before
-              (subst (λ (es : Entries). Stands linked_once.blocks es) (append_assoc A (B ++ C) R)
+              (subst (λ (es : Entries). BlocksAre linked_once.blocks es) (append_assoc A (B ++ C) R)
               ((ended begun.before k kept.more kept.out link_in).kept R kept_stands)) (λ z. nz (begun.at_last ∙ z)))
 
           -- it is parted

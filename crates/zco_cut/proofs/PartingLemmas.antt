@@ -25,7 +25,7 @@ use Rattle.zco_cut.specs.Parting.{CutsEnd, CutsTo, EndsBefore, EndsInside, SomeN
 use Rattle.zco_cut.specs.declared.finding.Place.{Place}
 use Rattle.zco_cut.specs.declared.parting.End.{End}
 use Rattle.zco_obj.proofs.WalkLemmas.{fits_from}
-use Rattle.zco_obj.specs.Gone.{NamedSource, extent_charge}
+use Rattle.zco_obj.specs.Gone.{NamedSource, extent_row_charge}
 use Rattle.zco_obj.specs.Kept.{extents_length}
 use Rattle.zco_obj.specs.Walks.{KeepsExtent}
 
@@ -37,12 +37,12 @@ all_front P (x ∷ xs) ys all =
 
 -- what extents charge
 pub charged-cons : (ss : List NamedSource) (space : Space) (e : ExtentRow) (es : List ExtentRow) →
-    charged_of ss (e ∷ es) space ≡ extent_charge ss space e + charged_of ss es space
-charged-cons ss space e es = sum_by-cons (extent_charge ss space) e es
+    charged_of ss (e ∷ es) space ≡ extent_row_charge ss space e + charged_of ss es space
+charged-cons ss space e es = sum_by-cons (extent_row_charge ss space) e es
 
 pub charged-append : (ss : List NamedSource) (space : Space) (xs ys : List ExtentRow) →
     charged_of ss (xs ++ ys) space ≡ charged_of ss xs space + charged_of ss ys space
-charged-append ss space xs ys = sum_by-append (extent_charge ss space) xs ys
+charged-append ss space xs ys = sum_by-append (extent_row_charge ss space) xs ys
 
 -- the end of a part was cut, where some bytes of an extent lie in it, or nothing was
 end_before : (place : Place) (old new : Heap) (end : End) → place.inside ≡ 0 → CutsEnd place old new end → EndsBefore place old new end
@@ -201,7 +201,7 @@ module _ {old mid : Heap} {first : ℕ} (before : List ExtentRow) (e : ExtentRow
           charge = λ space.
               let p = charge_cut old before e behind c a t cuts space in
               let q = charge_cut mid before (cut a t e) behind same_chain 0 t second space in
-              let r = ap (extent_charge ss space) again in
+              let r = ap (extent_row_charge ss space) again in
               let kept = charged-cons ss space (cut a t e) [] in
               let all = charged-cons ss space e behind in omega (arith, p, q, r, kept, all);
         }

@@ -4,7 +4,7 @@ use Rattle.std.proofs.lemmas.List.Elements.{All-weaker}
 use Rattle.sdr_base.proofs.StandingLemmas.{found, moved}
 use Rattle.sdr_base.proofs.WritingLemmas.{reaches}
 use Rattle.sdr_base.specs.Blocks.{Block, Blocks, Reaches}
-use Rattle.sdr_base.specs.Entries.{Changes, Entries, Stands}
+use Rattle.sdr_base.specs.Entries.{Changes, Entries, BlocksAre}
 use Rattle.sdr_base.specs.Linked.{first_of, last_of}
 use Rattle.sdr_base.specs.Making.{besides}
 use Rattle.sdr_base.specs.Objects.{Heap, OnlyUnmoved}
@@ -83,9 +83,9 @@ module _ {object : ℕ} (old : Heap) (span : Span) (f : TellsSpan old.blocks obj
         rest = (O ++ T) ++ k.keeps.rest;
         stands =
             swapped old.blocks X (O ++ T) S k.keeps.rest
-            (subst (λ (es : Entries). Stands old.blocks (X ++ es)) (sym (append_assoc O T R))
+            (subst (λ (es : Entries). BlocksAre old.blocks (X ++ es)) (sym (append_assoc O T R))
             (moved O X (T ++ R)
-            (subst (λ (es : Entries). Stands old.blocks ((object, object_block row) ∷ es))
+            (subst (λ (es : Entries). BlocksAre old.blocks ((object, object_block row) ∷ es))
             (append_assoc (H ++ X) T R ∙ append_assoc H X (T ++ R)) k.keeps.stands)));
         at_first = (f.told row (object_kept k)).first;
         fits = k.keeps.fits.extents;
@@ -165,9 +165,9 @@ module _ {object : ℕ} (old : Heap) (span : Span) (f : TellsSpan old.blocks obj
                 let O : Entries = (object, object_block (stripped row)) ∷ (H ++ I) in
                 let line : all ++ rest ≡ (H ++ I) ++ (U ++ (T ++ rest)) = simp append_assoc in
                 let line' : (H ++ I) ++ (T ++ (U ++ rest)) ≡ (((H ++ I) ++ T) ++ U) ++ rest = simp append_assoc in
-                subst (λ (es : Entries). Stands new.blocks ((object, object_block (stripped row)) ∷ es)) line'
+                subst (λ (es : Entries). BlocksAre new.blocks ((object, object_block (stripped row)) ∷ es)) line'
                 (swapped new.blocks O U T rest
-                (subst (λ (es : Entries). Stands new.blocks ((object, object_block (stripped row)) ∷ es)) line s));
+                (subst (λ (es : Entries). BlocksAre new.blocks ((object, object_block (stripped row)) ∷ es)) line s));
           } in
           record {
             changes = changes_then (opened k) (changes_then begun apart);

@@ -5,7 +5,7 @@ use Rattle.sdr_base.proofs.GaveLemmas.{more_gave, none_made, some_then}
 use Rattle.sdr_base.proofs.HeapLemmas.{heap_blocks}
 use Rattle.sdr_base.proofs.StandingLemmas.{moved}
 use Rattle.sdr_base.specs.Blocks.{Blocks, IsKind}
-use Rattle.sdr_base.specs.Entries.{Entries, Stands}
+use Rattle.sdr_base.specs.Entries.{Entries, BlocksAre}
 use Rattle.sdr_base.specs.Making.{GaveSome, Made, besides, gave, with_moves}
 use Rattle.sdr_base.specs.Objects.{Heap, Misses, OnlyUnmoved}
 use Rattle.sdr_base.specs.ZcoObjects.{ObjectRow, extent_entries, object_entries}
@@ -85,7 +85,7 @@ module _ {object : ℕ} {acct : Acct} {old mid : Heap} {parted : Parted} (c : Cu
         stands =
             swapped mid.blocks U O S k.keeps.rest
             (moved O U (S ++ k.keeps.rest)
-            (subst (λ (es : Entries). Stands mid.blocks es) (append_assoc O U (S ++ k.keeps.rest))
+            (subst (λ (es : Entries). BlocksAre mid.blocks es) (append_assoc O U (S ++ k.keeps.rest))
             (cut.changes.kept (S ++ k.keeps.rest) k.keeps.stands)));
         at_first = cut.at_out;
         fits = all_out ExtentFits row.part_offset (part_end row) row.extents k.keeps.fits.extents;
@@ -177,16 +177,17 @@ module _ {object : ℕ} {acct : Acct} {old mid : Heap} {parted : Parted} (c : Cu
                   record {
                     keeps = record {
                       rest = rest;
-                      stands = subst (λ (es : Entries). Stands old.blocks es) (append_assoc (object_entries object row) S rest) s;
+                      stands = subst (λ (es : Entries). BlocksAre old.blocks es) (append_assoc (object_entries object row) S rest) s;
                       fits = k.keeps.fits;
                       named = k.keeps.named;
                     };
                     bytes = k.bytes;
                   } in
-                  let left : Stands last.blocks (L ++ (O ++ rest)) =
-                  subst (λ (n : Acct). Stands last.blocks (sources_left n (outside row) ss ++ (O ++ rest))) own (gone k').stands in
-                  subst (λ (b : Blocks). Stands b ((O ++ L) ++ rest)) (sym (heap_blocks r))
-                  (subst (λ (es : Entries). Stands last.blocks es) (sym (append_assoc O L rest)) (moved L O rest left));
+                  let left : BlocksAre last.blocks (L ++ (O ++ rest)) =
+                  subst (λ (n : Acct). BlocksAre last.blocks (sources_left n (outside row) ss ++ (O ++ rest))) own (gone k').stands in
+                  subst (λ (b : Blocks). BlocksAre b ((O ++ L) ++ rest)) (sym (heap_blocks r))
+                  (subst (λ (es : Entries). BlocksAre last.blocks es) (sym (append_assoc O L rest))
+                      (moved L O rest left));
             };
             others =
                 ap besides r

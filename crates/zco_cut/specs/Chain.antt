@@ -1,7 +1,7 @@
 -- A chain of extents, of which those outside a part are linked into a chain of their own, and the others are cut to it.
 use Rattle.std.specs.Prelude.{◌≡◌, ◌+◌, ◌<◌, ◌≤◌, ◌^◌, ℕ, List, ◌++◌, All, length, sum_by}
 use Rattle.sdr_base.specs.Blocks.{Blocks}
-use Rattle.sdr_base.specs.Entries.{Changes, Entries, Stands}
+use Rattle.sdr_base.specs.Entries.{Changes, Entries, BlocksAre}
 use Rattle.sdr_base.specs.Linked.{first_of, last_of}
 use Rattle.sdr_base.specs.Making.{besides}
 use Rattle.sdr_base.specs.Objects.{Heap}
@@ -10,7 +10,7 @@ use Rattle.sdr_base.specs.declared.kind.Space.{Space}
 use Rattle.sdr_model.specs.Amounts.{amount}
 use Rattle.zco_cut.specs.Cuts.{HaveBytes, cut_all, left_out}
 use Rattle.zco_cut.specs.declared.chain.Parted.{Parted}
-use Rattle.zco_obj.specs.Gone.{NamedSource, extent_charge, source_at, sources_entries}
+use Rattle.zco_obj.specs.Gone.{NamedSource, extent_row_charge, source_at, sources_entries}
 use Rattle.zco_obj.specs.Kept.{ExtentFits, extents_length}
 use Rattle.zco_obj.specs.Uses.{IsThere}
 use Rattle.zco_ref.specs.Kept.{SourceFits}
@@ -26,7 +26,7 @@ IsOf sources e = IsThere (source_at e.source sources)
 -- extents are a chain there, each with a byte, and the sources that they name stand beside
 pub record ChainOf (blocks : Blocks) (first : ℕ) (rows : List ExtentRow) (sources : List NamedSource) : Type 0 where
   pub rest : Entries
-  pub stands : Stands blocks (extent_entries rows ++ (sources_entries sources ++ rest))
+  pub stands : BlocksAre blocks (extent_entries rows ++ (sources_entries sources ++ rest))
   pub at_first : first ≡ first_of extent_addr 0 rows
   pub fits : All ExtentFits rows
   pub few : length rows < 2 ^ 22
@@ -43,7 +43,7 @@ pub record SomeChain (blocks : Blocks) (first bytes : ℕ) : Type 0 where
 
 -- what these extents charge of a space
 abbrev pub charged_of : List NamedSource → List ExtentRow → Space → ℕ
-charged_of sources extents space = sum_by (extent_charge sources space) extents
+charged_of sources extents space = sum_by (extent_row_charge sources space) extents
 
 -- the extents in a part of the bytes, cut to it, are a chain, and those outside are another; so much less they charge than all did
 pub record ChainParted (from to : ℕ) (rows : List ExtentRow) (sources : List NamedSource) (old new : Heap) (parted : Parted) : Type 0 where

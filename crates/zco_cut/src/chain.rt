@@ -2,7 +2,7 @@
 ghost use Rattle.std.specs.Prelude.{◌≡◌, ◌==◌, ◌<◌, ◌≤◌, ◌^◌, IfErr, IfOk, if◌then◌else◌};
 ghost use Rattle.sdr_base.specs.Moves.{KeepsSome};
 ghost use Rattle.sdr_base.specs.Objects.{OnlyUnmoved};
-ghost use Rattle.sdr_base.specs.Works.{Works};
+ghost use Rattle.sdr_base.specs.Works.{Spends};
 ghost use Rattle.zco_cut.specs.Chain.{PartsChain, SomeChain};
 ghost use Rattle.zco_obj.specs.Giving.{AreAtMost};
 
@@ -31,7 +31,7 @@ pub fn part_chain<O: Objects>(o: &mut O, first: Addr, from: u64, to: u64) -> Res
     ensures parted { IfOk result (PartsChain first from to (O.heap o.old) (O.heap o.new)) }
     ensures most { IfOk result (λ parted. AreAtMost (2 ^ 41) parted.freed) }
     ensures refused { IfErr result (OnlyUnmoved (O.heap o.old) (O.heap o.new)) }
-    ensures works { Works O.HasHeap 12 o.old o.new result }
+    ensures works { Spends O.HasHeap 12 o.old o.new result }
 {
     if from == to {
         check_failed(o)?;
@@ -53,7 +53,7 @@ fn part_bytes<O: Objects>(o: &mut O, first: Addr, from: u64, to: u64) -> Result<
     ensures parted { IfOk result (PartsChain first from to (O.heap o.old) (O.heap o.new)) }
     ensures most { IfOk result (λ parted. AreAtMost (2 ^ 41) parted.freed) }
     ensures refused { IfErr result (OnlyUnmoved (O.heap o.old) (O.heap o.new)) }
-    ensures works { Works O.HasHeap 12 o.old o.new result }
+    ensures works { Spends O.HasHeap 12 o.old o.new result }
 {
     let begin = find_place(o, first, from)?;
     let until = begin.inside + (to - from);

@@ -4,7 +4,7 @@ ghost use Rattle.std.specs.Prelude.{◌≡◌, ◌≢◌, IfErr, OnOk};
 ghost use Rattle.sdr_base.specs.Blocks.{UsesRange};
 ghost use Rattle.sdr_base.specs.Moves.{KeepsSome};
 ghost use Rattle.sdr_base.specs.Objects.{OnlyUnmoved};
-ghost use Rattle.sdr_base.specs.Works.{Works};
+ghost use Rattle.sdr_base.specs.Works.{Spends};
 ghost use Rattle.zco_cut.specs.Linking.{CutsExtent, LinksAfter, SetsEnds};
 
 use sdr_base::layout::{extent as extent_words, object as words};
@@ -16,7 +16,7 @@ pub fn cut_extent<O: Objects>(o: &mut O, extent: Addr, offset: u64, length: u64)
     requires extent { UsesRange (O.heap o.old).blocks extent 0 32 }
     ensures cut { OnOk result (CutsExtent extent offset length (O.heap o.old) (O.heap o.new)) }
     ensures refused { IfErr result (OnlyUnmoved (O.heap o.old) (O.heap o.new)) }
-    ensures works { Works O.HasHeap 4 o.old o.new result }
+    ensures works { Spends O.HasHeap 4 o.old o.new result }
 {
     set_word(o, extent, extent_words::OFFSET, offset)?;
     set_word(o, extent, extent_words::LENGTH, length)
@@ -29,7 +29,7 @@ pub fn link_after<O: Objects>(o: &mut O, last: Addr, next: Addr) -> Result<(), S
     requires last { last ≢ 0 → UsesRange (O.heap o.old).blocks last 0 32 }
     ensures linked { OnOk result (LinksAfter last next (O.heap o.old) (O.heap o.new)) }
     ensures refused { IfErr result (OnlyUnmoved (O.heap o.old) (O.heap o.new)) }
-    ensures works { Works O.HasHeap 2 o.old o.new result }
+    ensures works { Spends O.HasHeap 2 o.old o.new result }
 {
     if last == 0 {
         check_failed(o)
@@ -44,7 +44,7 @@ pub fn set_ends<O: Objects>(o: &mut O, object: Addr, first: Addr, last: Addr) ->
     requires object { UsesRange (O.heap o.old).blocks object 0 72 }
     ensures set { OnOk result (SetsEnds object first last (O.heap o.old) (O.heap o.new)) }
     ensures refused { IfErr result (OnlyUnmoved (O.heap o.old) (O.heap o.new)) }
-    ensures works { Works O.HasHeap 6 o.old o.new result }
+    ensures works { Spends O.HasHeap 6 o.old o.new result }
 {
     set_word(o, object, words::FIRST_EXTENT, first)?;
     set_word(o, object, words::LAST_EXTENT, last)?;

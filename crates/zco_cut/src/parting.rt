@@ -2,7 +2,7 @@
 ghost use Rattle.std.specs.Prelude.{◌≡◌, ◌≢◌, ◌≤◌, ◌^◌, IfErr, IfOk};
 ghost use Rattle.sdr_base.specs.Moves.{KeepsSome};
 ghost use Rattle.sdr_base.specs.Objects.{OnlyUnmoved};
-ghost use Rattle.sdr_base.specs.Works.{Works};
+ghost use Rattle.sdr_base.specs.Works.{Spends};
 ghost use Rattle.sdr_model.specs.Amounts.{amounts_by, in_space};
 ghost use Rattle.zco_cut.specs.Parting.{CutsEnd, CutsTo, SomeNamed};
 ghost use Rattle.zco_obj.specs.Giving.{AreAtMost};
@@ -54,7 +54,7 @@ pub fn cut_to<O: Objects>(o: &mut O, extent: Addr, from: u64, to: u64) -> Result
     ensures cut { IfOk result (CutsTo extent from to (O.heap o.old) (O.heap o.new)) }
     ensures most { IfOk result (AreAtMost (2 ^ 40)) }
     ensures refused { IfErr result (OnlyUnmoved (O.heap o.old) (O.heap o.new)) }
-    ensures works { Works O.HasHeap 4 o.old o.new result }
+    ensures works { Spends O.HasHeap 4 o.old o.new result }
 {
     let seen = see_extent(o, extent)?;
     let source = see_source(o, seen.source)?;
@@ -72,7 +72,7 @@ pub fn cut_end<O: Objects>(o: &mut O, place: Place) -> Result<End, Stop>
     ensures cut { IfOk result (CutsEnd place (O.heap o.old) (O.heap o.new)) }
     ensures most { IfOk result (λ end. AreAtMost (2 ^ 40) end.freed) }
     ensures refused { IfErr result (OnlyUnmoved (O.heap o.old) (O.heap o.new)) }
-    ensures works { Works O.HasHeap 4 o.old o.new result }
+    ensures works { Spends O.HasHeap 4 o.old o.new result }
 {
     if place.inside == 0 {
         check_failed(o)?;

@@ -3,7 +3,7 @@ ghost use Rattle.std.specs.Prelude.{◌≡◌, ◌≤◌, ◌^◌, List, IfErr, 
 ghost use Rattle.sdr_base.specs.Blocks.{IsKind};
 ghost use Rattle.sdr_base.specs.Moves.{KeepsSome};
 ghost use Rattle.sdr_base.specs.Objects.{OnlyFault, OnlyUnmoved};
-ghost use Rattle.sdr_base.specs.Works.{Looks, Works};
+ghost use Rattle.sdr_base.specs.Works.{Looks, Spends};
 ghost use Rattle.sdr_base.specs.ZcoObjects.{ObjectRow};
 ghost use Rattle.sdr_base.specs.declared.kind.Kind.TheVariants as kinds;
 ghost use Rattle.zco_cut.specs.Stripping.{CutsObject, IsToStrip, KeepsToStrip, SomeToStrip};
@@ -42,9 +42,9 @@ pub fn strip<O: Objects>(o: &mut O, object: Addr) -> Result<(), Stop>
     ensures refused { IfErr result (StripStops object (O.heap o.old) (O.heap o.new)) }
     ensures works { (row : ObjectRow) (sources : List NamedSource) →
         KeepsToStrip (O.heap o.old).blocks object row sources →
-        Works O.HasHeap (strip_lines row sources) o.old o.new result }
+        Spends O.HasHeap (strip_lines row sources) o.old o.new result }
     ensures missed { (IsKind ((O.heap o.old).blocks object) kinds.Object → ⊥) →
-        Works O.HasHeap 0 o.old o.new result }
+        Spends O.HasHeap 0 o.old o.new result }
 {
     expect_kind(o, object, Kind::Object)?;
     let acct = account(o, object)?;
@@ -60,7 +60,7 @@ fn cut_object<O: Objects>(o: &mut O, object: Addr) -> Result<Parted, Stop>
     ensures cut { IfOk result (CutsObject object (O.heap o.old) (O.heap o.new)) }
     ensures most { IfOk result (λ parted. AreAtMost (2 ^ 41) parted.freed) }
     ensures refused { IfErr result (OnlyUnmoved (O.heap o.old) (O.heap o.new)) }
-    ensures works { Works O.HasHeap 18 o.old o.new result }
+    ensures works { Spends O.HasHeap 18 o.old o.new result }
 {
     let span = part_span(o, object)?;
     let parted = part_chain(o, span.first, span.from, span.to)?;

@@ -41,16 +41,16 @@ gone_alike ss ts all (e ∷ es) same =
 -- extents charge what their rows do
 charged_rows : (w : World) (ss : List NamedSource) (space : Space) (es : List Extent) →
     ((q : ℕ) → names_source q es ≡ true → IsRowOf w ss q) →
-    sum_by (rows.extent_charge ss space) (map extent_row es) ≡ sum_by (extent_charge w space) es
+    sum_by (rows.extent_row_charge ss space) (map extent_row es) ≡ sum_by (extent_charge w space) es
 charged_rows w ss space [] found = refl
 charged_rows w ss space (e ∷ es) found =
     let r = found e.source (itself e es) in
-    let one : rows.extent_charge ss space (extent_row e) ≡ extent_charge w space e =
+    let one : rows.extent_row_charge ss space (extent_row e) ≡ extent_charge w space e =
     ap (λ (o : Option NamedSource). bytes_charge (rows.space_in o) e.length space) r.is
     ∙ ap (λ (of : Space). bytes_charge of e.length space) (same_space r.source.subject)
     ∙ ap (λ (o : Option ZcoSource). bytes_charge (space_in o) e.length space) (sym (ap as_source r.there)) in
     let more = charged_rows w ss space es (λ q named. found q (named_later q e es named)) in
-    let row = sum_by-cons (rows.extent_charge ss space) (extent_row e) (map extent_row es) in
+    let row = sum_by-cons (rows.extent_row_charge ss space) (extent_row e) (map extent_row es) in
     let here = sum_by-cons (extent_charge w space) e es in omega (arith, one, more, row, here)
 
 module _ (w : World) (addr : ℕ) (z : ZcoObject) (fits : FitTogether w) (there : thing_at w addr ≡ Some (things.Object z)) where
@@ -75,11 +75,11 @@ module _ (w : World) (addr : ℕ) (z : ZcoObject) (fits : FitTogether w) (there 
       (λ space. amount (rows.extents_amounts ss (map extent_row z.extents)) space
       - amount (rows.extents_amounts ss (cuts.inside (object_row z))) space)
       (λ space. object_charge w space z - object_charge w space (stripped z)) (λ space.
-      let a = amount_by (λ (s : Space). sum_by (rows.extent_charge ss s) (map extent_row z.extents)) space in
-      let b = amount_by (λ (s : Space). sum_by (rows.extent_charge ss s) (cuts.inside (object_row z))) space in
+      let a = amount_by (λ (s : Space). sum_by (rows.extent_row_charge ss s) (map extent_row z.extents)) space in
+      let b = amount_by (λ (s : Space). sum_by (rows.extent_row_charge ss s) (cuts.inside (object_row z))) space in
       let all = charged_rows w ss space z.extents (found_row w addr z fits there) in
       let kept =
       charged_rows w ss space inside
       (λ q named. found_row w addr z fits there q (cut_named q z.part.offset (part_end z) z.extents named)) in
-      let row = ap (sum_by (rows.extent_charge ss space)) (cut_rows z.part.offset (part_end z) z.extents) in
+      let row = ap (sum_by (rows.extent_row_charge ss space)) (cut_rows z.part.offset (part_end z) z.extents) in
       omega (arith, a, b, all, kept, row))

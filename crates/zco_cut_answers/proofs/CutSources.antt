@@ -6,7 +6,7 @@ use Rattle.std.proofs.lemmas.List.Folds.{find-append}
 use Rattle.std.specs.Option.{option_or}
 use Rattle.std.specs.Prelude.{All, if◌then◌else◌}
 use Rattle.sdr_answers.proofs.ListLemmas.{IsSmall}
-use Rattle.sdr_answers.specs.Answering.{IsServed}
+use Rattle.sdr_answers.specs.Answering.{IsReady}
 use Rattle.sdr_audit.specs.Rows.{extent_row}
 use Rattle.sdr_audit.specs.Standing.{HeapStandsFor}
 use Rattle.sdr_base.specs.Objects.{Heap}
@@ -139,7 +139,7 @@ module _ (w : World) (addr : ℕ) (z : ZcoObject) (fits : FitTogether w) (there 
           })
 
   -- in a heap that stands for the world each counts the extents that name it
-  module _ (heap : Heap) (s : HeapStandsFor heap w) (served : IsServed w) (small : IsSmall heap) where
+  module _ (heap : Heap) (s : HeapStandsFor heap w) (served : IsReady w) (small : IsSmall heap) where
     abbrev extents : List ExtentRow
     extents = map extent_row z.extents
 

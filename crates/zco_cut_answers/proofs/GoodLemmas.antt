@@ -2,7 +2,7 @@
 use Rattle.std.proofs.Common.{ℕ, Option, subst}
 use Rattle.std.specs.Prelude.{IfSome}
 use Rattle.sdr_answers.proofs.ListLemmas.{IsSmall}
-use Rattle.sdr_answers.specs.Answering.{IsServed}
+use Rattle.sdr_answers.specs.Answering.{IsReady}
 use Rattle.sdr_audit.specs.Standing.{HeapStandsFor}
 use Rattle.sdr_base.specs.Objects.{Heap}
 use Rattle.sdr_model.specs.Valid.{IsValidObject, IsValidThing}
@@ -13,7 +13,7 @@ use Rattle.zco_answers.proofs.ObjectLemmas.{object_is_at}
 use Rattle.zco_cut_answers.proofs.CutRows.{bytes_row}
 use Rattle.zco_cut_answers.specs.Stripping.{IsToCut}
 
-pub to_cut : (heap : Heap) (w : World) → HeapStandsFor heap w → IsServed w → IsSmall heap → (addr : ℕ) → IsToCut heap addr
+pub to_cut : (heap : Heap) (w : World) → HeapStandsFor heap w → IsReady w → IsSmall heap → (addr : ℕ) → IsToCut heap addr
 unfolding with_all
 to_cut heap w s served small addr kind =
     let at = object_is_at heap w addr s served kind in

@@ -4,10 +4,10 @@ use Rattle.std.specs.Option.{option_map_or}
 use Rattle.std.specs.Prelude.{All, IfSome}
 use Rattle.sdr_answers.proofs.ListLemmas.{IsSmall}
 use Rattle.sdr_answers.proofs.RowLemmas.{HasMoves, gave_has, gave_takes, misnamed_refused}
-use Rattle.sdr_answers.specs.Answering.{Aim, Answered, IsRefused, IsServed}
+use Rattle.sdr_answers.specs.Answering.{Aim, Answered, IsRefused, IsReady}
 use Rattle.sdr_audit.specs.Rows.{object_row}
 use Rattle.sdr_audit.specs.Standing.{HeapStandsFor, entries_of, other_entries, with_taken_marked}
-use Rattle.sdr_base.specs.Entries.{Changes, Entries, Stands}
+use Rattle.sdr_base.specs.Entries.{Changes, Entries, BlocksAre}
 use Rattle.sdr_base.specs.Objects.{Heap, Misses, OnlyUnmoved}
 use Rattle.sdr_base.specs.ZcoObjects.{object_entries}
 use Rattle.sdr_base.specs.declared.account.Acct.{Acct}
@@ -62,12 +62,12 @@ use Rattle.zco_cut_answers.proofs.StripLosses.{cut_charges, cut_fields, cut_fits
 use Rattle.zco_cut_answers.specs.Stripping.{left_cut, strip_lines}
 use Rattle.zco_granted.proofs.AccountLemmas.{unmarked}
 use Rattle.zco_granted.proofs.ComingLemmas.{log_full}
-use Rattle.zco_granted.specs.Answering.{KeepsTickets, Serves}
+use Rattle.zco_granted.specs.Answering.{KeepsTickets, Grants}
 use Rattle.zco_obj.specs.Gone.{NamedSource, sources_entries, sources_left}
 use Rattle.zco_obj.specs.Reading.{Tells}
 
 -- a call on a heap that stands for a world in which it is served
-module _ (old : Heap) (w : World) (unmoved : old.moves ≡ []) (s : HeapStandsFor old w) (served : IsServed w) (small : IsSmall old)
+module _ (old : Heap) (w : World) (unmoved : old.moves ≡ []) (s : HeapStandsFor old w) (served : IsReady w) (small : IsSmall old)
     (addr : ℕ) where
   -- of an object that is there
   module _ (at : IsObjectAt w addr) where
@@ -96,7 +96,7 @@ module _ (old : Heap) (w : World) (unmoved : old.moves ≡ []) (s : HeapStandsFo
         record {
           keeps = record {
             rest = beside ++ other_entries w;
-            stands = subst (λ (es : Entries). Stands old.blocks es)
+            stands = subst (λ (es : Entries). BlocksAre old.blocks es)
                 (append_assoc (own ++ named) beside (other_entries w) ∙ append_assoc own named (beside ++ other_entries w))
                 ((all_first w addr z served.whole.fits at.there).forth old.blocks (other_entries w) s.blocks);
             fits = object_fits old w s served small addr z at.there;
@@ -167,7 +167,7 @@ module _ (old : Heap) (w : World) (unmoved : old.moves ≡ []) (s : HeapStandsFo
 
     -- it was cut, and the queue was served
     pub gone_answered : {mid new : Heap} {acct : Acct} → ObjectStripped addr (object_row z) sources old mid →
-        Tells old.blocks addr (λ r. r.account) acct → Serves acct mid new → Answered w (calls.Strip addr) new [] replies.Done
+        Tells old.blocks addr (λ r. r.account) acct → Grants acct mid new → Answered w (calls.Strip addr) new [] replies.Done
     gone_answered {mid} {new} {acct} g told serves =
         let stands : HeapStandsFor new (with_served lost z.account) =
         subst (λ (a : Acct). HeapStandsFor new (with_served lost a)) (own_account told)
@@ -220,7 +220,7 @@ module _ (old : Heap) (w : World) (unmoved : old.moves ≡ []) (s : HeapStandsFo
     pub gone : ObjectStripped addr (object_row object.object) (sources object) old mid
     gone = d.strips (object_row object.object) (sources object) (keeps object)
 
-    pub cut : {new : Heap} {acct : Acct} → Tells old.blocks addr (λ r. r.account) acct → Serves acct mid new →
+    pub cut : {new : Heap} {acct : Acct} → Tells old.blocks addr (λ r. r.account) acct → Grants acct mid new →
         Answered w (calls.Strip addr) new [] replies.Done
     cut told serves = gone_answered object gone told serves
 

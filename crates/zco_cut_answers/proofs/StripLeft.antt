@@ -2,7 +2,7 @@
 use Rattle.std.proofs.Common.{◌≡◌, ◌∙◌, ◌+◌, ◌/◌, ◌≤◌, ℕ, ◌++◌, length, sym, ap, subst, arith, append_assoc, length-append}
 use Rattle.sdr_base.proofs.LinkedLemmas.{length-linked}
 use Rattle.sdr_base.proofs.StandingLemmas.{moved}
-use Rattle.sdr_base.specs.Entries.{Entries, Few, Stands}
+use Rattle.sdr_base.specs.Entries.{Entries, Few, BlocksAre}
 use Rattle.sdr_base.specs.Making.{gave, with_moves}
 use Rattle.sdr_base.specs.Objects.{Heap}
 use Rattle.sdr_base.specs.ZcoObjects.{capsule_entries, extent_addr, extent_block, extent_entries, object_entries}
@@ -69,8 +69,8 @@ queue_left {old} {mid} {object} {acct} to_cut d told =
     let amounts = minus (occupied_in old row.account) (stripped_amounts row sources) in
     let queue = queue_entries row.account k.all.tickets in
     let left = object_entries object (stripped row) ++ sources_left row.account (outside row) sources in
-    let were : Stands old.blocks ((object_entries object row ++ sources_entries sources) ++ (queue ++ k.all.beside.behind)) =
-    subst (λ (es : Entries). Stands old.blocks es)
+    let were : BlocksAre old.blocks ((object_entries object row ++ sources_entries sources) ++ (queue ++ k.all.beside.behind)) =
+    subst (λ (es : Entries). BlocksAre old.blocks es)
     (sym (append_assoc (object_entries object row) (sources_entries sources) (queue ++ k.all.beside.behind))) mine.keeps.stands in
     let own : acct ≡ row.account = told.tells row (kept_alone k.all) in
     let kept : SomeQueue mid row.account = record {

@@ -1,9 +1,9 @@
 // The call that cuts an object to its part, as a step of the machine.
 ghost use Rattle.std.specs.Prelude.{[], ◌+◌, ◌/◌, ◌≡◌, ◌≤◌};
-ghost use Rattle.sdr_answers.specs.Answering.{Comes, IsServed};
+ghost use Rattle.sdr_answers.specs.Answering.{ComesInEach, IsReady};
 ghost use Rattle.sdr_audit.specs.Standing.{HeapStandsFor};
 ghost use Rattle.sdr_base.specs.Moves.{KeepsSome};
-ghost use Rattle.sdr_base.specs.Works.{Works};
+ghost use Rattle.sdr_base.specs.Works.{Spends};
 ghost use Rattle.sdr_model.specs.World.{World};
 ghost use Rattle.sdr_model.specs.declared.call.Call.TheVariants as calls;
 ghost use Rattle.zco_cut_answers.specs.Stripping.{IsToCut, strip_lines};
@@ -27,10 +27,10 @@ pub fn strip<O: Objects, F: Notify>(
     requires room { (O.heap o.old).size / 4 + 4 ≤ (O.heap o.old).spare }
     requires object { IsToCut (O.heap o.old) object }
     requires unmoved { (O.heap o.old).moves ≡ [] }
-    ensures comes { Comes (calls.Strip object)
+    ensures comes { ComesInEach (calls.Strip object)
         (O.heap o.old) (O.heap o.new) page.old page.new result }
-    ensures works { (w : World) → HeapStandsFor (O.heap o.old) w → IsServed w →
-        Works O.HasHeap (strip_lines w object) o.old o.new result }
+    ensures works { (w : World) → HeapStandsFor (O.heap o.old) w → IsReady w →
+        Spends O.HasHeap (strip_lines w object) o.old o.new result }
 {
     expect_kind(o, object, Kind::Object)?;
     let acct = zco_obj::account(o, object)?;

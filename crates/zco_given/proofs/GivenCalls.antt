@@ -3,7 +3,7 @@ use Rattle.std.proofs.Common.{◌≡◌, ◌∙◌, ◌≤◌, ◌<◌, ℕ, tru
 use Rattle.std.proofs.lemmas.Bool.{le-ltb, lt-ltb}
 use Rattle.sdr_answers.proofs.ListLemmas.{IsSmall}
 use Rattle.sdr_answers.proofs.RowLemmas.{misnamed_refused, row_refused, shows, unmoved_answered}
-use Rattle.sdr_answers.specs.Answering.{Aim, Answered, IsRefused, IsServed}
+use Rattle.sdr_answers.specs.Answering.{Aim, Answered, IsRefused, IsReady}
 use Rattle.sdr_audit.specs.Rows.{object_row}
 use Rattle.sdr_audit.specs.Standing.{HeapStandsFor}
 use Rattle.sdr_base.specs.Blocks.{Blocks}
@@ -25,7 +25,7 @@ use Rattle.sdr_model.specs.Reading.{reads_media}
 use Rattle.sdr_model.specs.Rows.{ByRow}
 use Rattle.sdr_model.specs.Step.{Stops, StopsWith}
 use Rattle.sdr_model.specs.Steps.{Outcome}
-use Rattle.sdr_model.specs.Wire.{Gives, Spells, ToldBytes}
+use Rattle.sdr_model.specs.Wire.{GivesBytes, Spells, ToldBytes}
 use Rattle.sdr_model.specs.World.{World}
 use Rattle.sdr_model.specs.Zco.{as_object, object_at}
 use Rattle.sdr_model.specs.declared.answer.Answer.TheVariants as answers
@@ -55,11 +55,11 @@ read_unasked m blocks call reads was now stops.MediaFault r none = absurd (true�
 read_unasked m blocks call reads was now stop r none = absurd (true≢false (sym reads ∙ none))
 
 -- a call on a heap that stands for a world in which it is served, of at most a page
-module _ (old new : Heap) (w : World) (unmoved : old.moves ≡ []) (s : HeapStandsFor old w) (served : IsServed w) (small : IsSmall old)
+module _ (old new : Heap) (w : World) (unmoved : old.moves ≡ []) (s : HeapStandsFor old w) (served : IsReady w) (small : IsSmall old)
     (same : new ≡ old) (call : Call) (reads : reads_media call ≡ true) where
   -- the row of the call, where its object is there
   row_there : (o : Outcome) (z : ZcoObject) → object_at w (asked_addr call) ≡ Some z → asked_count call ≤ longest_read →
-      Gives w o (part_asked w call z) → ByRow w o call
+      GivesBytes w o (part_asked w call z) → ByRow w o call
   row_there o z is few gives =
       row-asked w o call reads
       (on_some _ _ (object_at w (asked_addr call)) z is

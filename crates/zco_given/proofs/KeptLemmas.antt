@@ -2,7 +2,7 @@
 use Rattle.std.proofs.Common.{◌≡◌, ◌≤◌, ◌+◌, ◌∙◌, ℕ, List, [], ◌∷◌, ◌++◌, Bool, Option, Some, None, map, length, refl, sym, ap, ap₂, subst, arith, append_assoc}
 use Rattle.std.specs.Prelude.{IfSome}
 use Rattle.sdr_answers.proofs.ListLemmas.{IsSmall}
-use Rattle.sdr_answers.specs.Answering.{IsServed}
+use Rattle.sdr_answers.specs.Answering.{IsReady}
 use Rattle.sdr_audit.specs.Rows.{capsule_row, extent_row, medium_of, object_row, path_of, source_row}
 use Rattle.sdr_audit.specs.Standing.{HeapStandsFor}
 use Rattle.sdr_base.specs.Objects.{Heap}
@@ -60,7 +60,7 @@ piece_of w (subjects.Obj raw) flagged all bytes offset count there =
     ap (λ (o : Option Thing). raw_piece offset count (as_raw o)) there
 
 -- in a heap that stands for a world in which calls are served
-module _ (heap : Heap) (w : World) (s : HeapStandsFor heap w) (served : IsServed w) (small : IsSmall heap) where
+module _ (heap : Heap) (w : World) (s : HeapStandsFor heap w) (served : IsReady w) (small : IsSmall heap) where
   -- what an extent names
   extent_named : (e : Extent) (o : Option ZcoSource) → source_at w e.source ≡ o → LiesInside e o →
       IsNamed heap.blocks (range_of (extent_row e)) (source_piece w e.offset e.length o)

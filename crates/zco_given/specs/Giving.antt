@@ -1,6 +1,6 @@
 -- What the calls give that read an object's bytes, in the worlds that its blocks stand for.
 use Rattle.std.specs.Prelude.{◌≡◌, ◌≤◌, ◌<◌, ℕ, Bool, true, false, List, [], length, take, Option, Result, Ok, Err, ⊤}
-use Rattle.sdr_answers.specs.Answering.{Aim, IsServed}
+use Rattle.sdr_answers.specs.Answering.{Aim, IsReady}
 use Rattle.sdr_audit.specs.Standing.{HeapStandsFor}
 use Rattle.sdr_base.specs.Blocks.{Blocks, IsKind}
 use Rattle.sdr_base.specs.Causes.{Rose}
@@ -71,7 +71,7 @@ AgreesRead told w call (Err stop) shown = ⊤
 
 -- so it is in each world in which calls are served and for which the heap stood
 pub record AgreesIn (told : Option Told) (call : Call) (old : Heap) (result : Result Reply Stop) (shown : List ℕ) : Type 0 where
-  pub each : (w : World) → HeapStandsFor old w → IsServed w → AgreesRead told w call result shown
+  pub each : (w : World) → HeapStandsFor old w → IsReady w → AgreesRead told w call result shown
 
 -- whether media may have been read in a call that came to this: it asks for their bytes, and wasn't refused but for too few of them
 abbrev pub may_read : Call → Result Reply Stop → Bool
@@ -90,4 +90,4 @@ MissesMedia m w call old new result = ⊤
 
 -- so it is in each world
 pub record HasMediaCause {M : Type 0} (m : Ghosts M) (call : Call) (heap : Heap) (old new : M) (result : Result Reply Stop) : Type 0 where
-  pub each : (w : World) → HeapStandsFor heap w → IsServed w → MissesMedia m w call old new result
+  pub each : (w : World) → HeapStandsFor heap w → IsReady w → MissesMedia m w call old new result

@@ -1,6 +1,6 @@
 // Answers to the calls that read an object's bytes.
 ghost use Rattle.std.specs.Prelude.{◌≡◌, ◌≤◌, ◌<◌, [], true, false, IfErr, IfOk, OnErr, OnOk, length};
-ghost use Rattle.sdr_answers.specs.Answering.{Comes};
+ghost use Rattle.sdr_answers.specs.Answering.{ComesInEach};
 ghost use Rattle.sdr_base.specs.Moves.{KeepsSome};
 ghost use Rattle.sdr_base.specs.Works.{Looks};
 ghost use Rattle.sdr_model.specs.Limits.{longest_read};
@@ -87,7 +87,7 @@ fn give<O: Objects, M: Media>(
     requires place { reader.place ≡ place_of call.now }
     requires count { length into.old ≡ asked_count call.now }
     requires few { asked_count call.now ≤ longest_read }
-    ensures comes { Comes call.now (O.heap o.old) (O.heap o.new) page.old page.new result }
+    ensures comes { ComesInEach call.now (O.heap o.old) (O.heap o.new) page.old page.new result }
     ensures agrees { AgreesIn (M.told media.old) call.now (O.heap o.old) result page.new }
     ensures cause { HasMediaCause M.Media call.now (O.heap o.old) media.old media.new result }
     ensures shown { OnErr result (page.new ≡ page.old) }
@@ -132,7 +132,7 @@ pub fn answer<O: Objects, M: Media>(
     requires good { IsGood (O.heap o.old) }
     requires unmoved { (O.heap o.old).moves ≡ [] }
     requires reads { reads_media call.now ≡ true }
-    ensures comes { Comes call.now (O.heap o.old) (O.heap o.new) page.old page.new result }
+    ensures comes { ComesInEach call.now (O.heap o.old) (O.heap o.new) page.old page.new result }
     ensures agrees { AgreesIn (M.told media.old) call.now (O.heap o.old) result page.new }
     ensures cause { HasMediaCause M.Media call.now (O.heap o.old) media.old media.new result }
     ensures shown { OnErr result (page.new ≡ page.old) }

@@ -4,10 +4,10 @@ use Rattle.std.specs.Prelude.{All}
 use Rattle.std.proofs.lemmas.Bool.Decides.{nat_tests}
 use Rattle.std.proofs.lemmas.List.Elements.{All-nil}
 use Rattle.sdr_answers.proofs.RowLemmas.{row_refused, shows, unmoved_answered}
-use Rattle.sdr_answers.specs.Answering.{Aim, Answered, IsRefused, IsServed}
+use Rattle.sdr_answers.specs.Answering.{Aim, Answered, IsRefused, IsReady}
 use Rattle.sdr_audit.specs.Standing.{HeapStandsFor}
 use Rattle.sdr_base.specs.Blocks.{Blocks, with_at}
-use Rattle.sdr_base.specs.Entries.{Changes, Entries, Stands}
+use Rattle.sdr_base.specs.Entries.{Changes, Entries, BlocksAre}
 use Rattle.sdr_base.specs.Objects.{Heap}
 use Rattle.sdr_base.specs.declared.account.Acct.{Acct}
 use Rattle.sdr_base.specs.declared.account.Acct.TheVariants as accts
@@ -44,7 +44,7 @@ use Rattle.zco_granted.proofs.AccountLemmas.{account_becomes, account_words, roo
 use Rattle.zco_granted.proofs.ComingLemmas.{log_full, tickets_kept}
 use Rattle.zco_granted.proofs.QueueLemmas.{maxima_are, occupied_is}
 use Rattle.zco_granted.proofs.WordLemmas.{maximum_set}
-use Rattle.zco_granted.specs.Answering.{KeepsTickets, Serves, grants_of}
+use Rattle.zco_granted.specs.Answering.{KeepsTickets, Grants, grants_of}
 
 -- a call on a heap that stands for a world and stays as it is
 module _ (old new : Heap) (w : World) (unmoved : old.moves ≡ []) (s : HeapStandsFor old w) (same : new ≡ old) where
@@ -107,7 +107,7 @@ maxed_grants w accts.Outbound space value = refl
 
 -- the blocks stay
 blocks_stay : {b b' : Blocks} (es : Entries) → b' ≡ b → Changes b b' es es
-blocks_stay es same = record { kept = λ rest st. subst (λ (b : Blocks). Stands b (es ++ rest)) (sym same) st }
+blocks_stay es same = record { kept = λ rest st. subst (λ (b : Blocks). BlocksAre b (es ++ rest)) (sym same) st }
 
 pub maxed_stands : {old mid : Heap} {w : World} {acct : Acct} {space : Space} {value : ℕ} → HeapStandsFor old w →
     SetsMaximum acct space value old mid → HeapStandsFor mid (maxed w acct space value)
@@ -174,7 +174,7 @@ maximum_aim w acct space value small = record { to = _; row = maximum_row w acct
 
 -- it was set, and the queue served
 pub maximum_answered_by : (old mid new : Heap) (w : World) (acct : Acct) (space : Space) (value : ℕ) → old.moves ≡ [] →
-    HeapStandsFor old w → IsServed w → SetsMaximum acct space value old mid → Serves acct mid new →
+    HeapStandsFor old w → IsReady w → SetsMaximum acct space value old mid → Grants acct mid new →
     Answered w (calls.SetMaximum acct space value) new [] replies.Done
 maximum_answered_by old mid new w acct space value unmoved s served set serves =
     let stands = serves.stands (maxed w acct space value) (maxed_stands s set)

@@ -5,7 +5,7 @@ use Rattle.sdr_audit.proofs.PartLemmas.{queue_part}
 use Rattle.sdr_audit.specs.Standing.{HeapStandsFor, entries_of, roots_of, with_taken_marked}
 use Rattle.sdr_audit.specs.Standing as audit
 use Rattle.sdr_base.specs.Blocks.{Blocks}
-use Rattle.sdr_base.specs.Entries.{Changes, Entries, Stands, Swaps}
+use Rattle.sdr_base.specs.Entries.{Changes, Entries, BlocksAre, Swaps}
 use Rattle.sdr_base.specs.Linked.{first_of, last_of}
 use Rattle.sdr_base.specs.Making.{marked_by}
 use Rattle.sdr_base.specs.Objects.{Heap}
@@ -30,7 +30,7 @@ use Rattle.zco_granted.proofs.GrantLemmas.{grants_many, queue_awaits}
 use Rattle.zco_granted.proofs.OccupiedLemmas.{occupied_with, served_occupied}
 use Rattle.zco_granted.proofs.QueueLemmas.{first_rows, last_rows, maxima_are, occupied_is, queue_kept, same_entries}
 use Rattle.zco_granted.proofs.WordLemmas.{AccountWords, occupied_set, roots_same, roots_with, set_occupied, words_of}
-use Rattle.zco_granted.specs.Answering.{KeepsTickets, Serves}
+use Rattle.zco_granted.specs.Answering.{KeepsTickets, Grants}
 use Rattle.zco_space.proofs.ServedLemmas.{first-served, last-served}
 use Rattle.zco_space.specs.Served.{ServesQueue, newly_granted, occupied_after, queue_served}
 
@@ -100,8 +100,8 @@ changes_rows : {b b' : Blocks} (acct : Acct) (ts us : List Ticket) →
     Changes b b' (ticket_entries acct (map ticket_row ts)) (ticket_entries acct (map ticket_row us))
 changes_rows {b} {b'} acct ts us c = record {
   kept = λ rest s.
-      subst (λ (es : Entries). Stands b' (es ++ rest)) (sym (same_entries acct 0 us))
-      (c.kept rest (subst (λ (es : Entries). Stands b (es ++ rest)) (same_entries acct 0 ts) s));
+      subst (λ (es : Entries). BlocksAre b' (es ++ rest)) (sym (same_entries acct 0 us))
+      (c.kept rest (subst (λ (es : Entries). BlocksAre b (es ++ rest)) (same_entries acct 0 ts) s));
 }
 
 -- one account becomes another
@@ -164,7 +164,7 @@ serve_grants {heap} {w} acct s keeps =
 
 -- the heap stands for the world with the queue served
 pub serves : {acct : Acct} {old new : Heap} {count : ℕ} → SomeQueue old acct → ServesQueue acct old new count →
-    Serves acct old new
+    Grants acct old new
 serves {acct} {old} {new} {count} some q = record {
   stands = λ w s keeps.
       let ts = tickets_of w.accounts acct in

@@ -15,7 +15,7 @@ use Rattle.sdr_model.specs.Accounts.{account_of, most_amount, pending_in, ticket
 use Rattle.sdr_model.specs.Amounts.{amount, first_above}
 use Rattle.sdr_model.specs.Rows.{ByRow}
 use Rattle.sdr_model.specs.Step.{is_answer}
-use Rattle.sdr_model.specs.Steps.{Does, Outcome, Reads, RefusedFor, RefusedIf, RefusedUnless, RefusedWithout, Refuses, Takes, TakesOne, gave}
+use Rattle.sdr_model.specs.Steps.{Does, Outcome, ReadsBytes, RefusedFor, RefusedIf, RefusedUnless, RefusedWithout, Refuses, Takes, TakesOne, gave}
 use Rattle.sdr_model.specs.World.{World}
 use Rattle.sdr_model.specs.declared.accounts.Pending.{Pending}
 use Rattle.sdr_model.specs.declared.accounts.Ticket.{Ticket}
@@ -23,7 +23,7 @@ use Rattle.sdr_model.specs.declared.answer.Reply.TheVariants as replies
 use Rattle.sdr_model.specs.declared.call.Call.{Call}
 use Rattle.sdr_model.specs.declared.call.Call.TheVariants as calls
 use Rattle.zco_granted.proofs.FoundLemmas.{pending_at}
-use Rattle.zco_granted.specs.Answering.{is_account_call, left_by}
+use Rattle.zco_granted.specs.Answering.{is_account_call, world_granted}
 
 -- what is refused is no answer
 unrefused : {w : World} {o : Outcome} {refusal : Refusal} → Refuses w o refusal → is_answer o.reply ≡ true → ⊥
@@ -32,12 +32,12 @@ unrefused r answered = let no = sym (ap is_answer r.2) ∙ answered in true≢fa
 -- a maximum was set
 pub has_set : (w : World) (acct : Acct) (space : Space) (value : ℕ) (o : Outcome) →
     ByRow w o (calls.SetMaximum acct space value) →
-    is_answer o.reply ≡ true → o.after ≡ record (left_by w (calls.SetMaximum acct space value)) { shown = [] }
+    is_answer o.reply ≡ true → o.after ≡ record (world_granted w (calls.SetMaximum acct space value)) { shown = [] }
 has_set w acct space value o row answered = by (nat_lt most_amount value) row
   where
     by : (b : Bool) → RefusedIf w o b (refusals.TooLarge space value most_amount)
-        (Does o [] (left_by w (calls.SetMaximum acct space value)) replies.Done) →
-        o.after ≡ record (left_by w (calls.SetMaximum acct space value)) { shown = [] }
+        (Does o [] (world_granted w (calls.SetMaximum acct space value)) replies.Done) →
+        o.after ≡ record (world_granted w (calls.SetMaximum acct space value)) { shown = [] }
     by true r = absurd (unrefused r answered)
     by false r = r.1
 
@@ -83,7 +83,7 @@ pub record HasShredded (w : World) (number : ℕ) (o : Outcome) : Type 0 where
   pub pending : Pending
   pub one : length o.moves ≡ 1
   pub gone : o.after ≡ record (without_ticket w pending) { shown = [] }
-  pub after : o.after ≡ record (left_by w (calls.Shred number)) { shown = [] }
+  pub after : o.after ≡ record (world_granted w (calls.Shred number)) { shown = [] }
 
 pub has_shredded : (w : World) (number : ℕ) (o : Outcome) → Shred w o number → is_answer o.reply ≡ true →
     HasShredded w number o
@@ -104,20 +104,21 @@ has_seen : (w : World) (number : ℕ) (o : Outcome) → Awarded w o number → i
     o.after ≡ record w { shown = [] }
 has_seen w number o row answered = by (pending_of w number) row
   where
-    granted : (p : Pending) (b : Bool) → RefusedUnless w o b (refusals.NotAwarded number) (Reads w o [] replies.Done) →
+    granted : (p : Pending) (b : Bool) → RefusedUnless w o b (refusals.NotAwarded number)
+        (ReadsBytes w o [] replies.Done) →
         o.after ≡ record w { shown = [] }
     granted p true r = r.1
     granted p false r = absurd (unrefused r answered)
 
     by : (p : Option Pending) → RefusedWithout w o p (refusals.BadTicket number)
-        (λ p. RefusedUnless w o p.ticket.granted (refusals.NotAwarded number) (Reads w o [] replies.Done)) →
+        (λ p. RefusedUnless w o p.ticket.granted (refusals.NotAwarded number) (ReadsBytes w o [] replies.Done)) →
         o.after ≡ record w { shown = [] }
     by None r = absurd (unrefused r answered)
     by (Some p) r = granted p p.ticket.granted r
 
 -- the next number of tickets doesn't fall
 set_next : (w : World) (acct : Acct) (space : Space) (value : ℕ) →
-    (left_by w (calls.SetMaximum acct space value)).accounts.next ≡ w.accounts.next
+    (world_granted w (calls.SetMaximum acct space value)).accounts.next ≡ w.accounts.next
 set_next w accts.Inbound space value = refl
 set_next w accts.Outbound space value = refl
 

@@ -2,7 +2,7 @@
 use Rattle.std.proofs.Common.{◌≡◌, ◌∙◌, ℕ, List, [], Bool, true, false, inl, refl, sym, ap, subst, if◌then◌else◌}
 use Rattle.std.specs.Prelude.{None, Some}
 use Rattle.sdr_answers.proofs.RowLemmas.{row_refused, shows, unmoved_answered}
-use Rattle.sdr_answers.specs.Answering.{Answered, IsRefused, IsServed}
+use Rattle.sdr_answers.specs.Answering.{Answered, IsRefused, IsReady}
 use Rattle.sdr_audit.specs.Standing.{HeapStandsFor}
 use Rattle.sdr_base.specs.Objects.{Heap}
 use Rattle.sdr_base.specs.declared.account.Acct.{Acct}
@@ -48,7 +48,7 @@ unusable_waits number t refusal some = by t.granted refl some
     by false e is = record { waiting = e; this = cc }
 
 -- a call that looks at a ticket
-module _ (old new : Heap) (w : World) (unmoved : old.moves ≡ []) (s : HeapStandsFor old w) (served : IsServed w)
+module _ (old new : Heap) (w : World) (unmoved : old.moves ≡ []) (s : HeapStandsFor old w) (served : IsReady w)
     (same : new ≡ old) where
   still : new.moves ≡ []
   still = ap (λ (h : Heap). h.moves) same ∙ unmoved

@@ -1,6 +1,6 @@
 -- Calls that were stopped once some of their change was made, and what worlds keep of tickets.
 use Rattle.std.proofs.Common.{◌≡◌, ◌∙◌, ℕ, List, false, true≢false, refl, sym}
-use Rattle.sdr_answers.specs.Answering.{Aim, IsRefused, IsServed}
+use Rattle.sdr_answers.specs.Answering.{Aim, IsRefused, IsReady}
 use Rattle.sdr_base.specs.Objects.{Heap, OnlyUnmoved}
 use Rattle.sdr_base.specs.declared.refusal.Refusal.{Refusal}
 use Rattle.sdr_base.specs.declared.refusal.Refusal.TheVariants as refusals
@@ -22,5 +22,5 @@ log_full w call old mid new was (refusals.LogFull lines room) changing aim s = r
 log_full w call old mid new was refusal changing aim s = absurd s
 
 -- a world in which calls are served keeps its tickets
-pub tickets_kept : {w : World} → IsServed w → KeepsTickets w
+pub tickets_kept : {w : World} → IsReady w → KeepsTickets w
 tickets_kept served = record { queues = served.whole.queues; fits = served.fits }

@@ -1,5 +1,5 @@
 -- The queues are kept where a heap stands for a world in which calls on accounts and tickets are served.
-use Rattle.sdr_answers.specs.Answering.{IsServed}
+use Rattle.sdr_answers.specs.Answering.{IsReady}
 use Rattle.sdr_audit.specs.Standing.{HeapStandsFor}
 use Rattle.sdr_base.specs.Objects.{Heap}
 use Rattle.sdr_base.specs.declared.account.Acct.TheVariants as accts
@@ -8,7 +8,7 @@ use Rattle.zco_granted.proofs.ComingLemmas.{tickets_kept}
 use Rattle.zco_granted.proofs.QueueLemmas.{queue_kept}
 use Rattle.zco_granted.specs.Answering.{IsGood}
 
-pub good_of : (heap : Heap) (w : World) → HeapStandsFor heap w → IsServed w → IsGood heap
+pub good_of : (heap : Heap) (w : World) → HeapStandsFor heap w → IsReady w → IsGood heap
 good_of heap w s served = record {
   inbound = record { tickets = _; keeps = queue_kept accts.Inbound s (tickets_kept served) };
   outbound = record { tickets = _; keeps = queue_kept accts.Outbound s (tickets_kept served) };

@@ -6,7 +6,7 @@ use Rattle.std.proofs.lemmas.List.Elements.{All-cons, All-nil, recursion_from_Al
 use Rattle.sdr_audit.proofs.PartLemmas.{queue_part}
 use Rattle.sdr_audit.specs.Standing.{HeapStandsFor, roots_of}
 use Rattle.sdr_base.proofs.StandingLemmas.{focused}
-use Rattle.sdr_base.specs.Entries.{Entries, Stands}
+use Rattle.sdr_base.specs.Entries.{Entries, BlocksAre}
 use Rattle.sdr_base.specs.Linked.{first_of, last_of, linked}
 use Rattle.sdr_base.specs.Objects.{Heap}
 use Rattle.sdr_base.specs.Roots.{roots_by}
@@ -141,7 +141,7 @@ queue_kept {heap} {w} acct s keeps =
     let queue = (account_kept w.accounts acct queues).queue in
     record {
       rest = swap.before ++ swap.behind;
-      stands = subst (λ (es : Entries). Stands heap.blocks (es ++ (swap.before ++ swap.behind)))
+      stands = subst (λ (es : Entries). BlocksAre heap.blocks (es ++ (swap.before ++ swap.behind)))
           (same_entries acct 0 ts)
           (focused swap s.blocks);
       first = ap (λ (r : ℕ → ℕ). r (first_word acct)) s.roots ∙ first_root w acct;

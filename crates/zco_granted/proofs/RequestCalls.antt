@@ -5,7 +5,7 @@ use Rattle.std.specs.List.{AllByRecursion}
 use Rattle.std.specs.Option.{option_map, option_or}
 use Rattle.std.specs.Prelude.{All, Option, None, Some}
 use Rattle.sdr_answers.proofs.RowLemmas.{TakesAim, row_refused, short_refused, took_has}
-use Rattle.sdr_answers.specs.Answering.{Answered, IsRefused, IsServed}
+use Rattle.sdr_answers.specs.Answering.{Answered, IsRefused, IsReady}
 use Rattle.sdr_audit.specs.Standing.{HeapStandsFor, with_taken_marked}
 use Rattle.sdr_base.specs.Blocks.{with_at}
 use Rattle.sdr_base.specs.Entries.{Changes}
@@ -59,7 +59,7 @@ asks acct asked coarse fine = calls.Request acct asked.file asked.bulk asked.hea
 
 -- a heap that stands for a world, and what is asked in it
 module _ (old new : Heap) (w : World) (acct : Acct) (asked : Amounts) (coarse fine : ℕ) (s : HeapStandsFor old w)
-    (valid_world : IsServed w) where
+    (valid_world : IsReady w) where
   abbrev tickets : List Ticket
   tickets = tickets_of w.accounts acct
 
@@ -225,7 +225,7 @@ request_tickets w accts.Outbound t = refl
 -- it was answered
 pub requested_answered : (old new : Heap) (w : World) (acct : Acct) (asked : Amounts) (coarse fine : ℕ)
     (value : ℕ × Bool) →
-    old.moves ≡ [] → HeapStandsFor old w → IsServed w → RequestsTicket acct asked coarse fine old new value →
+    old.moves ≡ [] → HeapStandsFor old w → IsReady w → RequestsTicket acct asked coarse fine old new value →
     Answered w (asks acct asked coarse fine) new [] (replies.Ticket value.0 value.1)
 requested_answered old new w acct asked coarse fine value unmoved s served r =
     let ts = tickets_of w.accounts acct in
@@ -273,7 +273,7 @@ requested_answered old new w acct asked coarse fine value unmoved s served r =
 
 -- or refused
 pub requested_refused : (old new : Heap) (w : World) (acct : Acct) (asked : Amounts) (coarse fine : ℕ) (was : List ℕ)
-    (refusal : Refusal) → old.moves ≡ [] → HeapStandsFor old w → IsServed w →
+    (refusal : Refusal) → old.moves ≡ [] → HeapStandsFor old w → IsReady w →
     RequestStops acct asked old new (stops.Refused refusal) →
     IsRefused w (asks acct asked coarse fine) old new was was refusal
 requested_refused old new w acct asked coarse fine was (refusals.TooLarge space much most) unmoved s served m = record {
@@ -294,7 +294,7 @@ requested_refused old new w acct asked coarse fine was refusal unmoved s served 
 -- so many tickets were granted
 pub request_grants : (old new : Heap) (w : World) (acct : Acct) (asked : Amounts) (coarse fine : ℕ) →
     HeapStandsFor old w →
-    IsServed w →
+    IsReady w →
     requests_granted old acct asked coarse fine (tickets_of w.accounts acct) ≤ grants_of w (asks acct asked coarse fine)
 request_grants old new w acct asked coarse fine s served =
     let ts = tickets_of w.accounts acct in

@@ -4,7 +4,7 @@ use Rattle.std.specs.List.{AllByRecursion}
 use Rattle.std.specs.Option.{option_map_or}
 use Rattle.std.specs.Prelude.{All, Option, None, Some}
 use Rattle.sdr_answers.proofs.RowLemmas.{gave_has, row_refused}
-use Rattle.sdr_answers.specs.Answering.{Aim, Answered, IsRefused, IsServed}
+use Rattle.sdr_answers.specs.Answering.{Aim, Answered, IsRefused, IsReady}
 use Rattle.sdr_audit.specs.Standing.{HeapStandsFor}
 use Rattle.sdr_base.specs.Blocks.{with_at}
 use Rattle.sdr_base.specs.Entries.{Changes}
@@ -68,7 +68,7 @@ gone_tickets w accts.Inbound place t = refl
 gone_tickets w accts.Outbound place t = refl
 
 -- a ticket of a world that goes
-module _ (old : Heap) (w : World) (s : HeapStandsFor old w) (valid_world : IsServed w) (number : ℕ) (acct : Acct)
+module _ (old : Heap) (w : World) (s : HeapStandsFor old w) (valid_world : IsReady w) (number : ℕ) (acct : Acct)
     (t : Ticket)
     (p : IsPending w number acct t) where
   abbrev tickets : List Ticket
@@ -158,7 +158,7 @@ module _ (old : Heap) (w : World) (s : HeapStandsFor old w) (valid_world : IsSer
       (gone_tickets w acct p.found.place t))
 
 -- it went
-pub shredded_answered : (old new : Heap) (w : World) (number : ℕ) → old.moves ≡ [] → HeapStandsFor old w → IsServed w →
+pub shredded_answered : (old new : Heap) (w : World) (number : ℕ) → old.moves ≡ [] → HeapStandsFor old w → IsReady w →
     ShredsTicket number old new → Answered w (calls.Shred number) new [] replies.Done
 shredded_answered old new w number unmoved s served r =
     let keeps = tickets_kept served in
@@ -189,7 +189,7 @@ shredded_answered old new w number unmoved s served r =
 
 -- or it was refused
 pub shredded_refused : (old new : Heap) (w : World) (number : ℕ) (was : List ℕ) (refusal : Refusal) → old.moves ≡ [] →
-    HeapStandsFor old w → IsServed w → ShredStops number old new (stops.Refused refusal) →
+    HeapStandsFor old w → IsReady w → ShredStops number old new (stops.Refused refusal) →
     IsRefused w (calls.Shred number) old new was was refusal
 shredded_refused old new w number was (refusals.BadTicket ticket) unmoved s served m =
     let keeps = tickets_kept served in
@@ -234,7 +234,7 @@ granted_by old number w o =
     (shredded old q.0 number q.1 (queue_of q.0 w.accounts.inbound.tickets w.accounts.outbound.tickets)))
     o 0
 
-pub shred_grants : (old : Heap) (w : World) (number : ℕ) → HeapStandsFor old w → IsServed w →
+pub shred_grants : (old : Heap) (w : World) (number : ℕ) → HeapStandsFor old w → IsReady w →
     shreds_granted old number w.accounts.inbound.tickets w.accounts.outbound.tickets ≤ grants_of w (calls.Shred number)
 shred_grants old w number s served =
     by (located number w.accounts.inbound.tickets w.accounts.outbound.tickets) refl

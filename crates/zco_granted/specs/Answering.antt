@@ -1,7 +1,7 @@
 -- The calls on accounts and tickets, and what they ask for of a heap.
 use Rattle.std.specs.Prelude.{◌≡◌, ◌+◌, ◌*◌, ℕ, Bool, true, false, Option}
 use Rattle.std.specs.Option.{option_map_or}
-use Rattle.sdr_answers.specs.Answering.{IsServed}
+use Rattle.sdr_answers.specs.Answering.{IsReady}
 use Rattle.sdr_audit.specs.Standing.{HeapStandsFor}
 use Rattle.sdr_base.specs.Objects.{Heap}
 use Rattle.sdr_base.specs.declared.account.Acct.{Acct}
@@ -34,20 +34,20 @@ is_account_call (calls.Shred ticket) = true
 is_account_call call = false
 
 -- The world that a call leaves which its row answers, but for marks and the block of a new ticket.
-abbrev pub left_by : World → Call → World
-left_by w (calls.SetMaximum acct space value) =
+abbrev pub world_granted : World → Call → World
+world_granted w (calls.SetMaximum acct space value) =
     with_served (record w {
       accounts =
           with_account w.accounts acct (with_maximum (account_of w.accounts acct) space value);
     }) acct
-left_by w (calls.Request acct file bulk heap coarse fine) =
+world_granted w (calls.Request acct file bulk heap coarse fine) =
     with_request w acct (new_ticket w.accounts.next 0 (record { file = file; bulk = bulk; heap = heap }) coarse fine)
-left_by w (calls.Shred number) = option_map_or (without_ticket w) (pending_of w number) w
-left_by w call = w
+world_granted w (calls.Shred number) = option_map_or (without_ticket w) (pending_of w number) w
+world_granted w call = w
 
 -- how many tickets it grants
 abbrev pub grants_of : World → Call → ℕ
-grants_of w call = grants_between w (left_by w call)
+grants_of w call = grants_between w (world_granted w call)
 
 -- so many lines a call on accounts or tickets touches at most: 32 for each ticket that it grants, beside its own
 abbrev pub call_lines : World → Call → ℕ
@@ -64,10 +64,10 @@ pub record KeepsTickets (w : World) : Type 0 where
 
 -- Whatever world the heap stood for in which queues keep their laws, it stands for that with the account's queue served;
 -- and no move was made.
-pub record Serves (acct : Acct) (old new : Heap) : Type 0 where
+pub record Grants (acct : Acct) (old new : Heap) : Type 0 where
   pub stands : (w : World) → HeapStandsFor old w → KeepsTickets w → HeapStandsFor new (with_served w acct)
   pub moves : new.moves ≡ old.moves
 
 -- Whatever world the heap stands for in which calls are served, this says whether the ticket is there, and granted.
 pub record Sees (ticket : ℕ) (heap : Heap) (granted : Option Bool) : Type 0 where
-  pub sees : (w : World) → HeapStandsFor heap w → IsServed w → granted ≡ shown_in w ticket
+  pub sees : (w : World) → HeapStandsFor heap w → IsReady w → granted ≡ shown_in w ticket

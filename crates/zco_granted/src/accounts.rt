@@ -1,16 +1,16 @@
 // The calls on accounts, as steps of the machine.
 ghost use Rattle.std.specs.Prelude.{[], ◌≡◌, ◌+◌, ◌*◌, IfErr, OnOk};
-ghost use Rattle.sdr_answers.specs.Answering.{Comes, IsServed};
+ghost use Rattle.sdr_answers.specs.Answering.{ComesInEach, IsReady};
 ghost use Rattle.sdr_audit.specs.Standing.{HeapStandsFor};
 ghost use Rattle.sdr_base.specs.Moves.{KeepsSome};
 ghost use Rattle.sdr_base.specs.Objects.{OnlyUnmoved};
-ghost use Rattle.sdr_base.specs.Works.{Works};
+ghost use Rattle.sdr_base.specs.Works.{Spends};
 ghost use Rattle.sdr_lock.specs.Demand.{grants_between};
 ghost use Rattle.sdr_model.specs.Queue.{with_served};
 ghost use Rattle.sdr_model.specs.World.{World};
 ghost use Rattle.sdr_model.specs.declared.call.Call.TheVariants as calls;
 ghost use Rattle.zco_acct.specs.Kept.{SomeQueue};
-ghost use Rattle.zco_granted.specs.Answering.{KeepsTickets, Serves, call_lines};
+ghost use Rattle.zco_granted.specs.Answering.{KeepsTickets, Grants, call_lines};
 
 use sdr_answers::Page;
 use sdr_base::{Acct, Objects, Space, Stop};
@@ -22,10 +22,10 @@ use zco_acct::{Notice, Notify};
 pub fn serve<O: Objects, F: Notify>(o: &mut O, acct: Acct, notice: &Notice<F>) -> Result<(), Stop>
     requires kept { KeepsSome (O.keeps o.old) }
     requires queue { SomeQueue (O.heap o.old) acct }
-    ensures served { OnOk result (Serves acct (O.heap o.old) (O.heap o.new)) }
+    ensures served { OnOk result (Grants acct (O.heap o.old) (O.heap o.new)) }
     ensures refused { IfErr result (OnlyUnmoved (O.heap o.old) (O.heap o.new)) }
     ensures works { (w : World) → HeapStandsFor (O.heap o.old) w → KeepsTickets w →
-        Works O.HasHeap (32 * grants_between w (with_served w acct)) o.old o.new result }
+        Spends O.HasHeap (32 * grants_between w (with_served w acct)) o.old o.new result }
 {
     zco_space::serve(o, acct, notice)?;
     Ok(())
@@ -40,9 +40,9 @@ pub fn occupancy<O: Objects>(
 ) -> Result<Reply, Stop>
     requires kept { KeepsSome (O.keeps o.old) }
     requires unmoved { (O.heap o.old).moves ≡ [] }
-    ensures comes { Comes (calls.Occupancy acct space)
+    ensures comes { ComesInEach (calls.Occupancy acct space)
         (O.heap o.old) (O.heap o.new) page.old page.new result }
-    ensures works { Works O.HasHeap 0 o.old o.new result }
+    ensures works { Spends O.HasHeap 0 o.old o.new result }
 {
     let value = zco_acct::occupancy(o, acct, space)?;
     page.clear();
@@ -58,9 +58,9 @@ pub fn maximum<O: Objects>(
 ) -> Result<Reply, Stop>
     requires kept { KeepsSome (O.keeps o.old) }
     requires unmoved { (O.heap o.old).moves ≡ [] }
-    ensures comes { Comes (calls.Maximum acct space)
+    ensures comes { ComesInEach (calls.Maximum acct space)
         (O.heap o.old) (O.heap o.new) page.old page.new result }
-    ensures works { Works O.HasHeap 0 o.old o.new result }
+    ensures works { Spends O.HasHeap 0 o.old o.new result }
 {
     let value = zco_acct::maximum(o, acct, space)?;
     page.clear();
@@ -79,10 +79,10 @@ pub fn set_maximum<O: Objects, F: Notify>(
     requires kept { KeepsSome (O.keeps o.old) }
     requires queue { SomeQueue (O.heap o.old) acct }
     requires unmoved { (O.heap o.old).moves ≡ [] }
-    ensures comes { Comes (calls.SetMaximum acct space value)
+    ensures comes { ComesInEach (calls.SetMaximum acct space value)
         (O.heap o.old) (O.heap o.new) page.old page.new result }
-    ensures works { (w : World) → HeapStandsFor (O.heap o.old) w → IsServed w →
-        Works O.HasHeap (call_lines w (calls.SetMaximum acct space value)) o.old o.new result }
+    ensures works { (w : World) → HeapStandsFor (O.heap o.old) w → IsReady w →
+        Spends O.HasHeap (call_lines w (calls.SetMaximum acct space value)) o.old o.new result }
 {
     zco_acct::set_maximum(o, acct, space, value)?;
     serve(o, acct, notice)?;

@@ -1,10 +1,10 @@
 // The calls on tickets, as steps of the machine.
 ghost use Rattle.std.specs.Prelude.{[], ◌≡◌, ◌≤◌, IfErr, IfOk};
-ghost use Rattle.sdr_answers.specs.Answering.{Comes, IsServed};
+ghost use Rattle.sdr_answers.specs.Answering.{ComesInEach, IsReady};
 ghost use Rattle.sdr_audit.specs.Standing.{HeapStandsFor};
 ghost use Rattle.sdr_base.specs.Moves.{KeepsSome};
 ghost use Rattle.sdr_base.specs.Objects.{OnlyFault};
-ghost use Rattle.sdr_base.specs.Works.{Looks, Works};
+ghost use Rattle.sdr_base.specs.Works.{Looks, Spends};
 ghost use Rattle.sdr_model.specs.World.{World};
 ghost use Rattle.sdr_model.specs.declared.call.Call.TheVariants as calls;
 ghost use Rattle.zco_acct.specs.Kept.{SomeQueue};
@@ -36,11 +36,11 @@ pub fn request<O: Objects, F: Notify>(
     requires spare { 1 ≤ (O.heap o.old).spare }
     requires queue { SomeQueue (O.heap o.old) asking.now.acct }
     requires unmoved { (O.heap o.old).moves ≡ [] }
-    ensures comes { Comes (calls.Request asking.now.acct asking.now.asked.file asking.now.asked.bulk
+    ensures comes { ComesInEach (calls.Request asking.now.acct asking.now.asked.file asking.now.asked.bulk
         asking.now.asked.heap asking.now.coarse asking.now.fine)
         (O.heap o.old) (O.heap o.new) page.old page.new result }
-    ensures works { (w : World) → HeapStandsFor (O.heap o.old) w → IsServed w →
-        Works O.HasHeap (call_lines w (calls.Request asking.now.acct asking.now.asked.file
+    ensures works { (w : World) → HeapStandsFor (O.heap o.old) w → IsReady w →
+        Spends O.HasHeap (call_lines w (calls.Request asking.now.acct asking.now.asked.file
         asking.now.asked.bulk asking.now.asked.heap asking.now.coarse asking.now.fine))
         o.old o.new result }
 {
@@ -60,9 +60,9 @@ pub fn awarded<O: Objects>(o: &mut O, ticket: u64, page: &mut Page) -> Result<Re
     requires kept { KeepsSome (O.keeps o.old) }
     requires good { IsGood (O.heap o.old) }
     requires unmoved { (O.heap o.old).moves ≡ [] }
-    ensures comes { Comes (calls.Awarded ticket)
+    ensures comes { ComesInEach (calls.Awarded ticket)
         (O.heap o.old) (O.heap o.new) page.old page.new result }
-    ensures works { Works O.HasHeap 0 o.old o.new result }
+    ensures works { Spends O.HasHeap 0 o.old o.new result }
 {
     zco_space::awarded(o, ticket)?;
     page.clear();
@@ -80,10 +80,10 @@ pub fn shred<O: Objects, F: Notify>(
     requires spare { 1 ≤ (O.heap o.old).spare }
     requires good { IsGood (O.heap o.old) }
     requires unmoved { (O.heap o.old).moves ≡ [] }
-    ensures comes { Comes (calls.Shred ticket)
+    ensures comes { ComesInEach (calls.Shred ticket)
         (O.heap o.old) (O.heap o.new) page.old page.new result }
-    ensures works { (w : World) → HeapStandsFor (O.heap o.old) w → IsServed w →
-        Works O.HasHeap (call_lines w (calls.Shred ticket)) o.old o.new result }
+    ensures works { (w : World) → HeapStandsFor (O.heap o.old) w → IsReady w →
+        Spends O.HasHeap (call_lines w (calls.Shred ticket)) o.old o.new result }
 {
     zco_space::shred(o, ticket, notice)?;
     page.clear();

@@ -4,7 +4,7 @@ use Rattle.std.proofs.lemmas.List.{length-map}
 use Rattle.std.proofs.lemmas.List.Elements.{All-head, All-tail}
 use Rattle.std.proofs.lemmas.List.Sums.{sum_by_push}
 use Rattle.sdr_base.specs.Blocks.{Blocks, Reaches}
-use Rattle.sdr_base.specs.Entries.{Stands}
+use Rattle.sdr_base.specs.Entries.{BlocksAre}
 use Rattle.sdr_base.specs.Linked.{first_of}
 use Rattle.sdr_base.specs.Making.{besides}
 use Rattle.sdr_base.specs.Objects.{Heap, OnlyUnmoved, with_given}
@@ -89,7 +89,7 @@ module _ {first : ℕ} {old now : Heap} {cursor i charged : ℕ} (l : CapsulesLe
         let given : new ≡ with_given now h.one.addr = g ∙ ap (λ (a : ℕ). with_given now a) at in
         part_on CapsuleFits leaving_capsules p h seen.next (h.one.addr ∷ []) (charged + capsule_bytes seen.bytes)
         (v.next (first_of capsule_addr 0 h.behind) h.one k) refl
-        (λ r s. subst (λ (b : Blocks). Stands b r) (sym (given_blocks h.one.addr now new given))
+        (λ r s. subst (λ (b : Blocks). BlocksAre b r) (sym (given_blocks h.one.addr now new given))
         (went now.blocks h.one.addr _ [] r s)) (record { all = ap besides given })
         (let e = p.is in
         let b = ap capsule_bytes (v.bytes (first_of capsule_addr 0 h.behind) h.one k) in

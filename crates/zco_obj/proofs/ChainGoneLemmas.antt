@@ -3,7 +3,7 @@ use Rattle.std.proofs.Common.{◌≡◌, ◌≢◌, ◌+◌, ◌<◌, ◌≤◌,
 use Rattle.std.specs.Prelude.{All}
 use Rattle.std.proofs.lemmas.List.Elements.{All-tail}
 use Rattle.sdr_base.specs.Blocks.{Block, Blocks}
-use Rattle.sdr_base.specs.Entries.{Entries, Stands}
+use Rattle.sdr_base.specs.Entries.{Entries, BlocksAre}
 use Rattle.sdr_base.specs.Linked.{first_of, linked}
 use Rattle.sdr_base.specs.Making.{GaveSome, Made, gave}
 use Rattle.sdr_base.specs.Objects.{Heap}
@@ -32,19 +32,19 @@ pub record PartLeft {X T : Type 0} (P : X → Type 0) (w : Leaving X T) (old now
   pub at_cursor : cursor ≡ first_of w.addr 0 left
   pub fits : All P left
   pub all_given : w.blocks xs ≡ given ++ w.blocks left
-  pub stands : Stands now.blocks (linked w.addr w.block prev 0 left ++ (w.beside passed ++ rest))
+  pub stands : BlocksAre now.blocks (linked w.addr w.block prev 0 left ++ (w.beside passed ++ rest))
   pub made : Made (gave given) old now
   pub is : value ≡ w.told passed
 
 -- the first one of a chain is in use
 first_nonzero : {X : Type 0} (addr : X → ℕ) (block : ℕ → ℕ → X → Block) (b : Blocks) (prev : ℕ) (y : X) (ys : List X) (rest : Entries) →
-    Stands b (linked addr block prev 0 (y ∷ ys) ++ rest) → addr y ≢ 0
+    BlocksAre b (linked addr block prev 0 (y ∷ ys) ++ rest) → addr y ≢ 0
 unfolding linked
 first_nonzero addr block b prev y ys rest s = nonzero b (addr y) (block prev (first_of addr 0 ys) y) [] _ s
 
 module _ {X T : Type 0} (P : X → Type 0) (w : Leaving X T) where
   pub part_begun : (old : Heap) (xs : List X) (rest : Entries) (first : ℕ) (value : T) → value ≡ w.told [] →
-      Stands old.blocks (linked w.addr w.block 0 0 xs ++ (w.beside [] ++ rest)) → first ≡ first_of w.addr 0 xs → All P xs →
+      BlocksAre old.blocks (linked w.addr w.block 0 0 xs ++ (w.beside [] ++ rest)) → first ≡ first_of w.addr 0 xs → All P xs →
       PartLeft P w old old xs rest first 0 value
   part_begun old xs rest first value e s f a = record {
     passed = [];
@@ -70,11 +70,11 @@ module _ {X T : Type 0} (P : X → Type 0) (w : Leaving X T) where
       pub part_at : cursor ≡ w.addr h.one
       part_at = p.at_cursor ∙ ap (first_of w.addr 0) h.is
 
-      pub part_stands : Stands now.blocks
+      pub part_stands : BlocksAre now.blocks
           ((w.addr h.one, w.block p.prev (first_of w.addr 0 h.behind) h.one)
           ∷ (linked w.addr w.block (w.addr h.one) 0 h.behind ++ (w.beside p.passed ++ rest)))
       unfolding linked
-      part_stands = subst (λ (l : List X). Stands now.blocks (linked w.addr w.block p.prev 0 l ++ (w.beside p.passed ++ rest))) h.is p.stands
+      part_stands = subst (λ (l : List X). BlocksAre now.blocks (linked w.addr w.block p.prev 0 l ++ (w.beside p.passed ++ rest))) h.is p.stands
 
       -- its block
       pub part_found : now.blocks cursor ≡ Some (w.block p.prev (first_of w.addr 0 h.behind) h.one)
@@ -86,9 +86,9 @@ module _ {X T : Type 0} (P : X → Type 0) (w : Leaving X T) where
       -- it goes
       pub part_on : {new : Heap} (next : ℕ) (addrs : List ℕ) (told : T) → next ≡ first_of w.addr 0 h.behind →
           w.blocks (h.one ∷ h.behind) ≡ addrs ++ w.blocks h.behind →
-          ((r : Entries) → Stands now.blocks
+          ((r : Entries) → BlocksAre now.blocks
           ((w.addr h.one, w.block p.prev (first_of w.addr 0 h.behind) h.one) ∷ (w.beside p.passed ++ r)) →
-          Stands new.blocks (w.beside (p.passed ++ (h.one ∷ [])) ++ r)) →
+          BlocksAre new.blocks (w.beside (p.passed ++ (h.one ∷ [])) ++ r)) →
           Made (gave addrs) now new → told ≡ w.told (p.passed ++ (h.one ∷ [])) →
           PartLeft P w old new xs rest next (i + 1) told
       part_on {new} next addrs told at_next goes change made is =
@@ -151,7 +151,7 @@ module _ {X T : Type 0} (P : X → Type 0) (w : Leaving X T) where
     part_none z = by p.left p.at_cursor p.stands
       where
         by : (left : List X) → cursor ≡ first_of w.addr 0 left →
-            Stands now.blocks (linked w.addr w.block p.prev 0 left ++ (w.beside p.passed ++ rest)) → left ≡ []
+            BlocksAre now.blocks (linked w.addr w.block p.prev 0 left ++ (w.beside p.passed ++ rest)) → left ≡ []
         by [] e s = refl
         by (y ∷ ys) e s = absurd (first_nonzero w.addr w.block now.blocks p.prev y ys _ s (sym e ∙ z))
 
@@ -165,11 +165,11 @@ module _ {X T : Type 0} (P : X → Type 0) (w : Leaving X T) where
       all_passed : xs ≡ p.passed
       all_passed = p.whole ∙ ap (λ (l : List X). p.passed ++ l) none ∙ append-nil p.passed
 
-      pub over_stands : Stands now.blocks (w.beside xs ++ rest)
+      pub over_stands : BlocksAre now.blocks (w.beside xs ++ rest)
       unfolding linked
       over_stands =
-          subst (λ (l : List X). Stands now.blocks (w.beside l ++ rest)) (sym all_passed)
-          (subst (λ (l : List X). Stands now.blocks (linked w.addr w.block p.prev 0 l ++ (w.beside p.passed ++ rest))) none p.stands)
+          subst (λ (l : List X). BlocksAre now.blocks (w.beside l ++ rest)) (sym all_passed)
+          (subst (λ (l : List X). BlocksAre now.blocks (linked w.addr w.block p.prev 0 l ++ (w.beside p.passed ++ rest))) none p.stands)
 
       pub over_made : w.blocks [] ≡ [] → Made (gave (w.blocks xs)) old now
       over_made e =

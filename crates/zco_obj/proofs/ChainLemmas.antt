@@ -4,7 +4,7 @@ use Rattle.std.specs.Prelude.{◌==◌, if◌then◌else◌}
 use Rattle.std.proofs.lemmas.Bool.{ne_eqb}
 use Rattle.byteorder.specs.Endian.{big_bytes}
 use Rattle.sdr_base.specs.Blocks.{Blocks, Reaches}
-use Rattle.sdr_base.specs.Entries.{Entries, Stands}
+use Rattle.sdr_base.specs.Entries.{Entries, BlocksAre}
 use Rattle.sdr_base.specs.Linked.{first_of, last_of, linked}
 use Rattle.sdr_base.specs.Making.{besides}
 use Rattle.sdr_base.specs.Objects.{Heap}
@@ -33,34 +33,35 @@ focused side object row rows rest =
 
 -- an object is opened at a side
 pub opened : {blocks : Blocks} (side : Side) (object : ℕ) (row : ObjectRow) (rest : Entries) →
-    Stands blocks (object_entries object row ++ rest) → Stands blocks (focused side object row (capsules side row) rest)
+    BlocksAre blocks (object_entries object row ++ rest) →
+        BlocksAre blocks (focused side object row (capsules side row) rest)
 opened {blocks} sides.Headers object row rest s =
     let H = capsule_entries row.headers in
     let X = extent_entries row.extents in
     let T = capsule_entries row.trailers in
-    subst (λ (es : Entries). Stands blocks ((object, object_block row) ∷ es))
+    subst (λ (es : Entries). BlocksAre blocks ((object, object_block row) ∷ es))
     (ap (λ (es : Entries). es ++ rest) (append_assoc H X T) ∙ append_assoc H (X ++ T) rest) s
 opened {blocks} sides.Trailers object row rest s =
     let H = capsule_entries row.headers in
     let X = extent_entries row.extents in
     let T = capsule_entries row.trailers in
     rotated blocks (object, object_block row) (H ++ X) T rest
-    (subst (λ (es : Entries). Stands blocks ((object, object_block row) ∷ es)) (append_assoc (H ++ X) T rest) s)
+    (subst (λ (es : Entries). BlocksAre blocks ((object, object_block row) ∷ es)) (append_assoc (H ++ X) T rest) s)
 
 -- and closed, with others there
 pub closed : {blocks : Blocks} (side : Side) (object : ℕ) (row : ObjectRow) (rows : List CapsuleRow) (rest : Entries) →
-    Stands blocks (focused side object row rows rest) → Stands blocks (object_entries object (with_capsules side rows row) ++ rest)
+    BlocksAre blocks (focused side object row rows rest) → BlocksAre blocks (object_entries object (with_capsules side rows row) ++ rest)
 closed {blocks} sides.Headers object row rows rest s =
     let H = capsule_entries rows in
     let X = extent_entries row.extents in
     let T = capsule_entries row.trailers in
-    subst (λ (es : Entries). Stands blocks ((object, object_block (record row { headers = rows })) ∷ es))
+    subst (λ (es : Entries). BlocksAre blocks ((object, object_block (record row { headers = rows })) ∷ es))
     (sym (ap (λ (es : Entries). es ++ rest) (append_assoc H X T) ∙ append_assoc H (X ++ T) rest)) s
 closed {blocks} sides.Trailers object row rows rest s =
     let H = capsule_entries row.headers in
     let X = extent_entries row.extents in
     let T = capsule_entries rows in
-    subst (λ (es : Entries). Stands blocks ((object, object_block (record row { trailers = rows })) ∷ es))
+    subst (λ (es : Entries). BlocksAre blocks ((object, object_block (record row { trailers = rows })) ∷ es))
     (sym (append_assoc (H ++ X) T rest))
     (rotated blocks (object, object_block (record row { trailers = rows })) T (H ++ X) rest s)
 
@@ -85,11 +86,12 @@ last_below sides.Trailers row first last = omega arith
 
 first_linked : {old new : Heap} (side : Side) (object prev next : ℕ) → prev ≡ 0 → new ≡ with_word old object (first_field side) next →
     (row : ObjectRow) (last was : ℕ) (rows : List CapsuleRow) → prev ≡ last_of capsule_addr 0 rows → (rest : Entries) →
-    Stands old.blocks (threaded side object row (first_of capsule_addr was rows) last was rows ++ rest) →
-    Stands new.blocks (threaded side object row (first_of capsule_addr next rows) last next rows ++ rest)
+    BlocksAre old.blocks (threaded side object row (first_of capsule_addr was rows) last was rows ++ rest) →
+    BlocksAre new.blocks (threaded side object row (first_of capsule_addr next rows) last next rows ++ rest)
 unfolding linked
 first_linked {old} {new} side object prev next z w row last was [] e rest s =
-    subst (λ (ws : List ℕ). Stands new.blocks ((object, record { kind = kinds.Object; bytes = layout ws [] }) ∷ rest))
+    subst (λ (ws : List ℕ). BlocksAre new.blocks
+        ((object, record { kind = kinds.Object; bytes = layout ws [] }) ∷ rest))
     (set_first side row was last next)
     (word_set old.blocks new.blocks object kinds.Object (ends_words side row was last) [] (first_field side) next [] rest
     (heap_blocks w) (first_below side row was last) s)
@@ -99,8 +101,8 @@ first_linked {old} side object prev next z w row last was (x ∷ xs) e rest s =
 
 next_linked : {old new : Heap} (side : Side) (object prev next : ℕ) → prev ≢ 0 → new ≡ with_word old prev 0 next →
     (row : ObjectRow) (last was : ℕ) (rows : List CapsuleRow) → prev ≡ last_of capsule_addr 0 rows → (rest : Entries) →
-    Stands old.blocks (threaded side object row (first_of capsule_addr was rows) last was rows ++ rest) →
-    Stands new.blocks (threaded side object row (first_of capsule_addr next rows) last next rows ++ rest)
+    BlocksAre old.blocks (threaded side object row (first_of capsule_addr was rows) last was rows ++ rest) →
+    BlocksAre new.blocks (threaded side object row (first_of capsule_addr next rows) last next rows ++ rest)
 next_linked side object prev next n w row last was [] e rest s = absurd (n e)
 next_linked {old} {new} side object prev next n w row last was (x ∷ xs) e rest s =
     relinked_next capsule_addr capsule_block old.blocks new.blocks ((object, ends_block side row x.addr last) ∷ []) rest 0 0 was next
@@ -128,8 +130,8 @@ pub links_last : {old new : Heap} (side : Side) (object next prev : ℕ) → nex
 links_last {old} {new} side object next prev z w = record {
   links = λ row first last. record {
     kept = λ rest s.
-        subst (λ (n : ℕ). Stands new.blocks ((object, ends_block side row first (if n == 0 then prev else last)) ∷ rest)) (sym z)
-        (subst (λ (ws : List ℕ). Stands new.blocks ((object, record { kind = kinds.Object; bytes = layout ws [] }) ∷ rest))
+        subst (λ (n : ℕ). BlocksAre new.blocks ((object, ends_block side row first (if n == 0 then prev else last)) ∷ rest)) (sym z)
+        (subst (λ (ws : List ℕ). BlocksAre new.blocks ((object, record { kind = kinds.Object; bytes = layout ws [] }) ∷ rest))
         (set_last side row first last prev)
         (word_set old.blocks new.blocks object kinds.Object (ends_words side row first last) [] (last_field side) prev [] rest
         (heap_blocks w) (last_below side row first last) s));
@@ -142,16 +144,17 @@ pub links_on : {old new : Heap} (side : Side) (object next prev : ℕ) → next 
 links_on {old} {new} side object next prev n w = record {
   links = λ row first last. record {
     kept = λ rest s.
-        subst (λ (v : Bool). Stands new.blocks ((object, ends_block side row first (if v then prev else last)) ∷ rest))
+        subst (λ (v : Bool). BlocksAre new.blocks
+            ((object, ends_block side row first (if v then prev else last)) ∷ rest))
         (sym (ne_eqb next 0 n))
-        (subst (λ (b : Blocks). Stands b ((object, ends_block side row first last) ∷ rest)) (sym (heap_blocks w)) s);
+        (subst (λ (b : Blocks). BlocksAre b ((object, ends_block side row first last) ∷ rest)) (sym (heap_blocks w)) s);
   };
   same = ap besides w;
 }
 
 -- the last of some first ones is there
 pub last_reaches : {blocks : Blocks} (side : Side) (object : ℕ) (row : ObjectRow) (first last prev was : ℕ) (rows : List CapsuleRow)
-    (rest : Entries) → Stands blocks (threaded side object row first last was rows ++ rest) → prev ≡ last_of capsule_addr 0 rows →
+    (rest : Entries) → BlocksAre blocks (threaded side object row first last was rows ++ rest) → prev ≡ last_of capsule_addr 0 rows →
     prev ≢ 0 → Reaches (blocks prev) 8
 last_reaches side object row first last prev was [] rest s e n = absurd (n e)
 last_reaches {blocks} side object row first last prev was (x ∷ xs) rest s e n =

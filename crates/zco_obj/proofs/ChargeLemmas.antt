@@ -1,7 +1,7 @@
 -- An account is charged, and then a thing is changed.
 use Rattle.std.proofs.Common.{◌≡◌, ◌≢◌, ◌+◌, ◌-◌, ◌<◌, ◌^◌, ℕ, List, [], ◌∷◌, ◌++◌, length, true, false, cond, eqb, refl, sym, ap, ◌∙◌, arith, subst, append_assoc, append-nil}
 use Rattle.std.specs.Prelude.{◌==◌, None, Some, if◌then◌else◌}
-use Rattle.sdr_base.specs.Entries.{Changes, Entries, Stands, times}
+use Rattle.sdr_base.specs.Entries.{Changes, Entries, BlocksAre, times}
 use Rattle.sdr_base.specs.Linked.{linked}
 use Rattle.sdr_base.specs.Making.{Made, with_moves}
 use Rattle.sdr_base.specs.Objects.{Heap, IsUnmoved, OnlyShort, TookNoMore}
@@ -16,7 +16,7 @@ use Rattle.sdr_base.specs.declared.stop.Stop.TheVariants.{Refused, DiskFault, Me
 use Rattle.sdr_base.proofs.StandingLemmas.{at-nowhere, moved, moved_back, nowhere-at, times-append}
 use Rattle.sdr_model.specs.Amounts.{minus}
 use Rattle.sdr_model.specs.declared.accounts.Ticket.{Ticket}
-use Rattle.zco_acct.specs.Charges.{ChargesAccount, ChargeStops, charged, with_used}
+use Rattle.zco_acct.specs.Charges.{ChargesAccount, ChargeStops, charged, tickets_covered}
 use Rattle.zco_acct.specs.Kept.{KeepsQueue, SomeQueue, block_of, queue_entries, queued_block}
 use Rattle.zco_obj.specs.Charging.{ChargesObject, IsFree, LacksRoom, ObjectChargeStops, Pays, refusal_in}
 use Rattle.zco_obj.specs.Kept.{KeepsObject, KeepsWithQueue, SomeObject, SomeWithQueue}
@@ -78,13 +78,13 @@ charge_stops object number acct amounts old new Failed t s = s
 
 -- the tickets stand where they stood
 times-used : (q : ℕ) (acct : Acct) (number : ℕ) (amounts : Amounts) (p p' : ℕ) (tickets : List Ticket) →
-    times q (linked block_of (queued_block acct) p 0 (with_used number amounts tickets))
+    times q (linked block_of (queued_block acct) p 0 (tickets_covered number amounts tickets))
     ≡ times q (linked block_of (queued_block acct) p' 0 tickets)
-unfolding times linked with_used
+unfolding times linked tickets_covered
 times-used q acct number amounts p p' [] = refl
 times-used q acct number amounts p p' (t ∷ ts) =
     elim (t.number == number) as (λ v. times q (linked block_of (queued_block acct) p 0
-    (if v then record t { left = minus t.left amounts } ∷ ts else t ∷ with_used number amounts ts))
+    (if v then record t { left = minus t.left amounts } ∷ ts else t ∷ tickets_covered number amounts ts))
     ≡ cond (eqb t.block q) 1 0 + times q (linked block_of (queued_block acct) t.block 0 ts)) [
       | true ↦ refl
       | false ↦ ap (λ n. cond (eqb t.block q) 1 0 + n) (times-used q acct number amounts t.block t.block ts)
@@ -93,7 +93,8 @@ times-used q acct number amounts p p' (t ∷ ts) =
 times-charged : (q : ℕ) (acct : Acct) (number : ℕ) (amounts : Amounts) (tickets : List Ticket) →
     times q (queue_entries acct (charged tickets number amounts)) ≡ times q (queue_entries acct tickets)
 times-charged q acct number amounts tickets =
-    elim (number == 0) as (λ v. times q (queue_entries acct (if v then tickets else with_used number amounts tickets))
+    elim (number == 0) as (λ v. times q
+        (queue_entries acct (if v then tickets else tickets_covered number amounts tickets))
     ≡ times q (queue_entries acct tickets)) [
       | true ↦ refl
       | false ↦ times-used q acct number amounts 0 0 tickets
@@ -125,8 +126,8 @@ module _ {acct : Acct} {number : ℕ} {amounts : Amounts} {old mid : Heap} (c : 
   charged_spare = ap (λ (h : Heap). h.spare) (c.others tickets k)
 
   -- what else stood stands
-  pub stands_still : (es rest : Entries) → Stands old.blocks (es ++ (queue_entries acct tickets ++ rest)) →
-      Stands mid.blocks (es ++ (queue_entries acct (charged tickets number amounts) ++ rest))
+  pub stands_still : (es rest : Entries) → BlocksAre old.blocks (es ++ (queue_entries acct tickets ++ rest)) →
+      BlocksAre mid.blocks (es ++ (queue_entries acct (charged tickets number amounts) ++ rest))
   stands_still es rest s =
       moved_back es (queue_entries acct (charged tickets number amounts)) rest
       ((c.changes tickets k).kept (es ++ rest) (moved es (queue_entries acct tickets) rest s))
@@ -140,9 +141,9 @@ module _ {acct : Acct} {number : ℕ} {amounts : Amounts} {old mid : Heap} (c : 
       kept = λ rest s.
           let Q = queue_entries acct tickets in
           let Q' = queue_entries acct (charged tickets number amounts) in
-          subst (λ (xs : Entries). Stands new.blocks xs) (sym (append_assoc es' Q' rest))
+          subst (λ (xs : Entries). BlocksAre new.blocks xs) (sym (append_assoc es' Q' rest))
           (d.kept (Q' ++ rest)
-          (stands_still es rest (subst (λ (xs : Entries). Stands old.blocks xs) (append_assoc es Q rest) s)));
+          (stands_still es rest (subst (λ (xs : Entries). BlocksAre old.blocks xs) (append_assoc es Q rest) s)));
     };
     others = m.all ∙ ap (λ (h : Heap). with_moves h moves) (c.others tickets k);
   }

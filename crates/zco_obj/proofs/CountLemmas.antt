@@ -11,7 +11,7 @@ use Rattle.sdr_base.specs.declared.account.Acct.TheVariants as accts
 use Rattle.zco_obj.specs.Uses.{left_next}
 use Rattle.zco_obj.specs.Gone.{NamedSource, less_uses, naming}
 use Rattle.zco_ref.specs.Counting.{detached, gone_next}
-use Rattle.zco_ref.specs.Going.{gone_with, goes_next, is_passing, left_by}
+use Rattle.zco_ref.specs.Going.{gone_with, goes_next, is_passing, blocks_left}
 use Rattle.zco_ref.specs.Kept.{CountedSource, count_in, tied_entries, uses_of}
 
 -- whether an extent names a source
@@ -92,13 +92,13 @@ goes_after n s = is_passing s.source.row.medium s.source.row.flagged && (nat_lt 
 
 abbrev pub left_after : Acct → ℕ → NamedSource → Entries
 left_after acct n s =
-    if goes_after n s then left_by s.source.row.medium s.source.row.subject s.bytes
+    if goes_after n s then blocks_left s.source.row.medium s.source.row.subject s.bytes
     else tied_entries s.addr (less_uses acct n s.source) s.bytes
 
 -- where none is gone it is there
 pub left_none : (acct : Acct) (s : NamedSource) → left_after acct 0 s ≡ tied_entries s.addr s.source s.bytes
 left_none acct s =
-    ap (λ v. if v then left_by s.source.row.medium s.source.row.subject s.bytes
+    ap (λ v. if v then blocks_left s.source.row.medium s.source.row.subject s.bytes
     else tied_entries s.addr (less_uses acct 0 s.source) s.bytes) (none (is_passing s.source.row.medium s.source.row.flagged))
     ∙ ap (λ t. tied_entries s.addr t s.bytes) (less_none acct s.source)
   where
@@ -122,7 +122,7 @@ module _ (acct : Acct) (s : NamedSource) (n k : ℕ) (enough : n + 1 + k ≤ cou
   left_there =
       let m = more in
       let no : (uses_of s.source == n) ≡ false = ne_eqb (uses_of s.source) n (λ z. absurd (omega (arith, m, z))) in
-      ap (λ v. if v then left_by s.source.row.medium s.source.row.subject s.bytes
+      ap (λ v. if v then blocks_left s.source.row.medium s.source.row.subject s.bytes
       else tied_entries s.addr (less_uses acct n s.source) s.bytes)
       (ap (λ v. is_passing s.source.row.medium s.source.row.flagged && (nat_lt 0 n && v)) no
       ∙ and_false (is_passing s.source.row.medium s.source.row.flagged) (nat_lt 0 n))
@@ -182,11 +182,12 @@ module _ (acct : Acct) (s : NamedSource) (n k : ℕ) (enough : n + 1 + k ≤ cou
   -- what is left of it then
   pub left_then : left_next acct s.addr (less_uses acct n s.source) s.bytes ≡ left_after acct (n + 1) s
   left_then =
-      ap (λ (r : SourceRow). if goes_next (less_uses acct n s.source) then left_by r.medium r.subject s.bytes
+      ap (λ (r : SourceRow). if goes_next (less_uses acct n s.source) then blocks_left r.medium r.subject s.bytes
       else tied_entries s.addr (detached acct (less_uses acct n s.source)) s.bytes) (less_row acct n s.source)
-      ∙ ap (λ t. if goes_next (less_uses acct n s.source) then left_by s.source.row.medium s.source.row.subject s.bytes
+      ∙ ap (λ t. if goes_next (less_uses acct n s.source) then blocks_left s.source.row.medium s.source.row.subject
+          s.bytes
       else tied_entries s.addr t s.bytes) (less_more acct n s.source)
-      ∙ ap (λ v. if v then left_by s.source.row.medium s.source.row.subject s.bytes
+      ∙ ap (λ v. if v then blocks_left s.source.row.medium s.source.row.subject s.bytes
       else tied_entries s.addr (less_uses acct (n + 1) s.source) s.bytes) goes_now
 
   -- the blocks that go with this extent

@@ -4,7 +4,7 @@ use Rattle.std.specs.Prelude.{Option, Some, slice_get}
 use Rattle.std.proofs.lemmas.Option.{slice_get-get_or}
 use Rattle.std.proofs.Math.Seq.{get_or-append_seam, take-append_seam}
 use Rattle.sdr_base.specs.Blocks.{Blocks, IsKind}
-use Rattle.sdr_base.specs.Entries.{Stands}
+use Rattle.sdr_base.specs.Entries.{BlocksAre}
 use Rattle.sdr_base.specs.Linked.{first_of}
 use Rattle.sdr_base.specs.Making.{GaveSome, besides, with_moves}
 use Rattle.sdr_base.specs.Objects.{Heap, OnlyUnmoved}
@@ -58,7 +58,7 @@ discards_spot {side} {object} {prev} {gone} {seen} {acct} {old} {mid} {new} t v 
       record {
         changes = record {
           kept = λ rest s.
-              subst (λ (b : Blocks). Stands b (object_entries object (with_capsules side (before ++ behind) row) ++ rest))
+              subst (λ (b : Blocks). BlocksAre b (object_entries object (with_capsules side (before ++ behind) row) ++ rest))
               (sym (heap_blocks w)) ((r.changes row before c behind p g).kept rest s);
         };
         others =

@@ -1,7 +1,7 @@
 -- An object is destroyed.
 use Rattle.std.proofs.Common.{◌≡◌, ◌+◌, ◌≤◌, ℕ, List, [], ◌∷◌, ◌++◌, sym, ap, ◌∙◌, arith, subst, append_assoc, append-nil, length-append}
 use Rattle.sdr_base.specs.Blocks.{Blocks, IsKind, Reaches}
-use Rattle.sdr_base.specs.Entries.{Entries, Stands}
+use Rattle.sdr_base.specs.Entries.{Entries, BlocksAre}
 use Rattle.sdr_base.specs.Making.{GaveSome, besides, gave, with_moves}
 use Rattle.sdr_base.specs.Objects.{Heap, Misses, OnlyUnmoved, with_given}
 use Rattle.sdr_base.specs.ZcoObjects.{ObjectRow, object_block, object_entries}
@@ -20,8 +20,8 @@ use Rattle.sdr_base.proofs.WritingLemmas.{reaches}
 use Rattle.sdr_model.specs.Amounts.{amount, in_space, minus, plus}
 use Rattle.zco_acct.specs.Words.{occupied_in, with_occupied}
 use Rattle.zco_obj.specs.Amounts.{charge_of, heap_amounts}
-use Rattle.zco_obj.specs.Destroying.{DestroysObject, DestroyStops, GivesParts, KeepsSources, PartStops, SomeWithSources, capsule_charge, charges_of, gone_object, gone_parts, parts_amounts}
-use Rattle.zco_obj.specs.Gone.{NamedSource, extent_charge, sources_entries, sources_left}
+use Rattle.zco_obj.specs.Destroying.{DestroysObject, DestroyStops, GivesParts, KeepsSources, PartStops, SomeWithSources, capsule_row_charge, charges_of, gone_object, gone_parts, parts_amounts}
+use Rattle.zco_obj.specs.Gone.{NamedSource, extent_row_charge, sources_entries, sources_left}
 use Rattle.zco_obj.specs.Reading.{Tells}
 use Rattle.zco_obj.proofs.SpotLemmas.{amount_by, same_amounts}
 use Rattle.zco_obj.proofs.KeptLemmas.{object_words}
@@ -53,8 +53,9 @@ parts_stop object old new Failed kind s = s
 charges_whole : (row : ObjectRow) (ss : List NamedSource) → plus (parts_amounts row ss) (heap_amounts 72) ≡ charges_of row ss
 charges_whole row ss =
     same_amounts (λ space. amount (parts_amounts row ss) space + amount (heap_amounts 72) space)
-    (λ space. charge_of (in_space spaces.Heap 72 space) (extent_charge ss space) (capsule_charge space) row) (λ space.
-    let p = amount_by (λ (z : Space). charge_of 0 (extent_charge ss z) (capsule_charge z) row) space in
+    (λ space. charge_of (in_space spaces.Heap 72 space) (extent_row_charge ss space) (capsule_row_charge space) row)
+        (λ space.
+    let p = amount_by (λ (z : Space). charge_of 0 (extent_row_charge ss z) (capsule_row_charge z) row) space in
     let h = amount_by (in_space spaces.Heap 72) space in omega (arith, p, h))
 
 module _ {object : ℕ} {old mid : Heap} (parts : Amounts) (g : GivesParts object old mid parts) where
@@ -119,11 +120,11 @@ module _ {object : ℕ} {old mid : Heap} (parts : Amounts) (g : GivesParts objec
                   let k' : KeepsSources old.blocks object row ss =
                   record {
                     rest = rest;
-                    stands = subst (λ (es : Entries). Stands old.blocks es) (append_assoc (object_entries object row) (sources_entries ss) rest) s;
+                    stands = subst (λ (es : Entries). BlocksAre old.blocks es) (append_assoc (object_entries object row) (sources_entries ss) rest) s;
                     fits = k.fits;
                     named = k.named;
                   } in
-                  subst (λ (b : Blocks). Stands b (L ++ rest)) (sym (heap_blocks r ∙ given_blocks object mid last w))
+                  subst (λ (b : Blocks). BlocksAre b (L ++ rest)) (sym (heap_blocks r ∙ given_blocks object mid last w))
                   (went mid.blocks object (object_block row) [] (L ++ rest) (g.gives row ss k').stands);
             };
             others =

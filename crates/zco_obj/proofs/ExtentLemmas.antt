@@ -4,7 +4,7 @@ use Rattle.std.specs.Prelude.{◌==◌, if◌then◌else◌}
 use Rattle.std.proofs.lemmas.Bool.{eqb-true, false≢true, ne_eqb}
 use Rattle.byteorder.specs.Endian.{big_bytes}
 use Rattle.sdr_base.specs.Blocks.{Block, Blocks, Reaches, overwritten, with_block}
-use Rattle.sdr_base.specs.Entries.{Entries, Stands}
+use Rattle.sdr_base.specs.Entries.{Entries, BlocksAre}
 use Rattle.sdr_base.specs.Linked.{first_of, last_of, linked}
 use Rattle.sdr_base.specs.Making.{Made, besides, with_moves}
 use Rattle.sdr_base.specs.Objects.{Heap}
@@ -23,31 +23,31 @@ use Rattle.sdr_base.proofs.WritingLemmas.{reaches, word_set}
 use Rattle.zco_obj.specs.Extents.{AddsExtent, LinksExtent, SetsPart, extent_ends, extent_of, extents_block, grown, spanned, with_extent}
 use Rattle.zco_obj.specs.Kept.{KeepsObject, SomeObject, extents_length}
 use Rattle.zco_obj.specs.Walks.{TellsExtents}
-use Rattle.zco_obj.specs.declared.extent.Piece.{Piece}
+use Rattle.zco_obj.specs.declared.extent.ExtentPiece.{ExtentPiece}
 use Rattle.zco_obj.proofs.KeptLemmas.{extents_most, object_word, object_words}
 use Rattle.zco_obj.proofs.PartsLemmas.{extents_from}
 
 -- an object is opened at its extents
-pub opened_extents : {blocks : Blocks} (object : ℕ) (row : ObjectRow) (rest : Entries) → Stands blocks (object_entries object row ++ rest) →
-    Stands blocks (spanned object row (first_of extent_addr 0 row.extents) (last_of extent_addr 0 row.extents) row.part_length 0 row.extents
+pub opened_extents : {blocks : Blocks} (object : ℕ) (row : ObjectRow) (rest : Entries) → BlocksAre blocks (object_entries object row ++ rest) →
+    BlocksAre blocks (spanned object row (first_of extent_addr 0 row.extents) (last_of extent_addr 0 row.extents) row.part_length 0 row.extents
     ++ (capsule_entries row.headers ++ (capsule_entries row.trailers ++ rest)))
 opened_extents {blocks} object row rest s =
     let H = capsule_entries row.headers in
     let X = extent_entries row.extents in
     let T = capsule_entries row.trailers in
     rotated blocks (object, object_block row) H X (T ++ rest)
-    (subst (λ (es : Entries). Stands blocks ((object, object_block row) ∷ es))
+    (subst (λ (es : Entries). BlocksAre blocks ((object, object_block row) ∷ es))
     (append_assoc (H ++ X) T rest ∙ append_assoc H X (T ++ rest)) s)
 
 -- and closed
 pub closed_extents : {blocks : Blocks} (object : ℕ) (row : ObjectRow) (rest : Entries) →
-    Stands blocks (spanned object row (first_of extent_addr 0 row.extents) (last_of extent_addr 0 row.extents) row.part_length 0 row.extents
-    ++ (capsule_entries row.headers ++ (capsule_entries row.trailers ++ rest))) → Stands blocks (object_entries object row ++ rest)
+    BlocksAre blocks (spanned object row (first_of extent_addr 0 row.extents) (last_of extent_addr 0 row.extents) row.part_length 0 row.extents
+    ++ (capsule_entries row.headers ++ (capsule_entries row.trailers ++ rest))) → BlocksAre blocks (object_entries object row ++ rest)
 closed_extents {blocks} object row rest s =
     let H = capsule_entries row.headers in
     let X = extent_entries row.extents in
     let T = capsule_entries row.trailers in
-    subst (λ (es : Entries). Stands blocks ((object, object_block row) ∷ es))
+    subst (λ (es : Entries). BlocksAre blocks ((object, object_block row) ∷ es))
     (sym (append_assoc (H ++ X) T rest ∙ append_assoc H X (T ++ rest)))
     (rotated blocks (object, object_block row) X H (T ++ rest) s)
 
@@ -72,7 +72,7 @@ module _ {object first : ℕ} (offset part end bytes : ℕ) (old new : Heap) (e 
           let is : part + bytes ≡ grown row bytes =
           ap (λ n. n + bytes) b
           ∙ ap (λ v. if v then row.part_length + bytes else row.part_length) (sym (reach_is k ∙ eq-eqb (offset + part) end reached)) in
-          subst (λ n. Stands new.blocks (object_entries object (record row { part_length = n }) ++ rest)) is
+          subst (λ n. BlocksAre new.blocks (object_entries object (record row { part_length = n }) ++ rest)) is
           (word_set old.blocks new.blocks object kinds.Object (object_words row) [] 8 (part + bytes) [] _ (heap_blocks w) (omega arith) s);
     };
     same = ap besides w;
@@ -84,8 +84,8 @@ module _ {object first : ℕ} (offset part end bytes : ℕ) (old new : Heap) (e 
       kept = λ rest s.
           let is : row.part_length ≡ grown row bytes =
           ap (λ v. if v then row.part_length + bytes else row.part_length) (sym (reach_is k ∙ ne_eqb (offset + part) end short)) in
-          subst (λ n. Stands new.blocks (object_entries object (record row { part_length = n }) ++ rest)) is
-          (subst (λ (b : Blocks). Stands b (object_entries object row ++ rest)) (sym (heap_blocks w)) s);
+          subst (λ n. BlocksAre new.blocks (object_entries object (record row { part_length = n }) ++ rest)) is
+          (subst (λ (b : Blocks). BlocksAre b (object_entries object row ++ rest)) (sym (heap_blocks w)) s);
     };
     same = ap besides w;
   }
@@ -120,15 +120,16 @@ word_reaches old new p q field value end w inside r =
 
 -- the last one's word is set, and then the link to it
 last_set : {old new : Heap} (object added : ℕ) → new ≡ with_word old object 2 added → (row : ObjectRow) (first last part : ℕ) (rest : Entries) →
-    Stands old.blocks ((object, extents_block row first last part) ∷ rest) →
-    Stands new.blocks ((object, extents_block row first added part) ∷ rest)
+    BlocksAre old.blocks ((object, extents_block row first last part) ∷ rest) →
+    BlocksAre new.blocks ((object, extents_block row first added part) ∷ rest)
 last_set {old} {new} object added w row first last part rest s =
     word_set old.blocks new.blocks object kinds.Object (extent_ends row first last part) [] 2 added [] rest (heap_blocks w) (omega arith) s
 
 first_linked : {old mid new : Heap} (object last added : ℕ) → last ≡ 0 → mid ≡ with_word old object 2 added →
     new ≡ with_word mid object 1 added → (row : ObjectRow) (part : ℕ) (rows : List ExtentRow) → last ≡ last_of extent_addr 0 rows →
-    (rest : Entries) → Stands old.blocks (spanned object row (first_of extent_addr 0 rows) last part 0 rows ++ rest) →
-    Stands new.blocks (spanned object row (first_of extent_addr added rows) added part added rows ++ rest)
+    (rest : Entries) → BlocksAre old.blocks
+        (spanned object row (first_of extent_addr 0 rows) last part 0 rows ++ rest) →
+    BlocksAre new.blocks (spanned object row (first_of extent_addr added rows) added part added rows ++ rest)
 unfolding linked
 first_linked {old} {mid} {new} object last added z l w row part [] e rest s =
     word_set mid.blocks new.blocks object kinds.Object (extent_ends row 0 added part) [] 1 added [] rest (heap_blocks w) (omega arith)
@@ -138,8 +139,9 @@ first_linked {old} object last added z l w row part (x ∷ xs) e rest s =
 
 next_linked : {old mid new : Heap} (object last added : ℕ) → last ≢ 0 → mid ≡ with_word old object 2 added →
     new ≡ with_word mid last 3 added → (row : ObjectRow) (part : ℕ) (rows : List ExtentRow) → last ≡ last_of extent_addr 0 rows →
-    (rest : Entries) → Stands old.blocks (spanned object row (first_of extent_addr 0 rows) last part 0 rows ++ rest) →
-    Stands new.blocks (spanned object row (first_of extent_addr added rows) added part added rows ++ rest)
+    (rest : Entries) → BlocksAre old.blocks
+        (spanned object row (first_of extent_addr 0 rows) last part 0 rows ++ rest) →
+    BlocksAre new.blocks (spanned object row (first_of extent_addr added rows) added part added rows ++ rest)
 next_linked object last added n l w row part [] e rest s = absurd (n e)
 next_linked {old} {mid} {new} object last added n l w row part (x ∷ xs) e rest s =
     relinked_next extent_addr extent_block mid.blocks new.blocks ((object, extents_block row x.addr added part) ∷ []) rest 24 0 0 added
@@ -171,11 +173,11 @@ unfolding linked
 joined e rows = sym (linked-append extent_addr extent_block 0 0 rows (e ∷ []))
 
 -- the words of its block
-abbrev pub extent_words : Piece → List ℕ
+abbrev pub extent_words : ExtentPiece → List ℕ
 extent_words piece = piece.of ∷ piece.offset ∷ piece.bytes ∷ 0 ∷ []
 
 -- its block was taken
-pub took_extent : {addr : ℕ} {old mid : Heap} (piece : Piece) → TakesBytes kinds.Extent (layout (extent_words piece) []) addr old mid →
+pub took_extent : {addr : ℕ} {old mid : Heap} (piece : ExtentPiece) → TakesBytes kinds.Extent (layout (extent_words piece) []) addr old mid →
     Made (Took 32 addr ∷ []) old mid
 took_extent {addr} {old} piece t = record {
   all =
@@ -184,12 +186,12 @@ took_extent {addr} {old} piece t = record {
       (let l = length-layout (extent_words piece) [] in let z : 32 + 0 ≡ 32 = omega arith in l ∙ z);
 }
 
-module _ {object addr : ℕ} {old mid : Heap} (piece : Piece)
+module _ {object addr : ℕ} {old mid : Heap} (piece : ExtentPiece)
     (t : TakesBytes kinds.Extent (layout (extent_words piece) []) addr old mid) where
-  beside : (row : ObjectRow) (rest : Entries) → Stands old.blocks (object_entries object row ++ rest) →
-      Stands mid.blocks (object_entries object row ++ ((addr, extent_block 0 0 (extent_of addr piece)) ∷ rest))
+  beside : (row : ObjectRow) (rest : Entries) → BlocksAre old.blocks (object_entries object row ++ rest) →
+      BlocksAre mid.blocks (object_entries object row ++ ((addr, extent_block 0 0 (extent_of addr piece)) ∷ rest))
   beside row rest s =
-      subst (λ (b : Blocks). Stands b (object_entries object row ++ ((addr, extent_block 0 0 (extent_of addr piece)) ∷ rest)))
+      subst (λ (b : Blocks). BlocksAre b (object_entries object row ++ ((addr, extent_block 0 0 (extent_of addr piece)) ∷ rest)))
       (sym (ap (λ (h : Heap). h.blocks) t.taken))
       (came old.blocks addr (extent_block 0 0 (extent_of addr piece)) (object_entries object row) rest t.nonzero t.fresh s)
 
@@ -200,16 +202,16 @@ module _ {object addr : ℕ} {old mid : Heap} (piece : Piece)
   module _ {grew : Heap} (g : SetsPart object (λ row. grown row piece.bytes) mid grew) where
     -- the part has grown, and the extent stands beside
     part_grown : {row : ObjectRow} → KeepsObject old.blocks object row → (rest : Entries) →
-        Stands old.blocks (object_entries object row ++ rest) →
-        Stands grew.blocks (object_entries object (record row { part_length = grown row piece.bytes })
+        BlocksAre old.blocks (object_entries object row ++ rest) →
+        BlocksAre grew.blocks (object_entries object (record row { part_length = grown row piece.bytes })
         ++ ((addr, extent_block 0 0 (extent_of addr piece)) ∷ rest))
     part_grown {row} k rest s =
         (g.sets row (kept_beside k)).kept ((addr, extent_block 0 0 (extent_of addr piece)) ∷ rest) (beside row rest s)
 
     -- it is opened at its extents
     grown_opened : {row : ObjectRow} → KeepsObject old.blocks object row → (rest : Entries) →
-        Stands old.blocks (object_entries object row ++ rest) →
-        Stands grew.blocks (spanned object row (first_of extent_addr 0 row.extents) (last_of extent_addr 0 row.extents) (grown row piece.bytes) 0 row.extents
+        BlocksAre old.blocks (object_entries object row ++ rest) →
+        BlocksAre grew.blocks (spanned object row (first_of extent_addr 0 row.extents) (last_of extent_addr 0 row.extents) (grown row piece.bytes) 0 row.extents
         ++ (capsule_entries row.headers ++ (capsule_entries row.trailers
         ++ ((addr, extent_block 0 0 (extent_of addr piece)) ∷ rest))))
     grown_opened {row} k rest s = opened_extents object (record row { part_length = grown row piece.bytes }) _ (part_grown k rest s)
@@ -234,7 +236,7 @@ module _ {object addr : ℕ} {old mid : Heap} (piece : Piece)
             (capsule_entries row.headers ++ (capsule_entries row.trailers
             ++ ((addr, extent_block 0 0 (extent_of addr piece)) ∷ k.rest))) 0 0 x xs
             (λ p y. let l = length-layout (y.source ∷ y.offset ∷ y.length ∷ 0 ∷ []) [] in omega (arith, l))
-            (subst (λ (rows : List ExtentRow). Stands grew.blocks ((
+            (subst (λ (rows : List ExtentRow). BlocksAre grew.blocks ((
               object,
               extents_block row (first_of extent_addr 0 row.extents)
                   (last_of extent_addr 0 row.extents) (grown row piece.bytes),
@@ -245,8 +247,8 @@ module _ {object addr : ℕ} {old mid : Heap} (piece : Piece)
     module _ {last : ℕ} {new : Heap} (h : HasWord (old.blocks object) 2 last) (l : LinksExtent object last addr grew new) where
       -- the extent is moved to the end of the chain
       stands_of : {row : ObjectRow} → KeepsObject old.blocks object row → (rest : Entries) →
-          Stands old.blocks (object_entries object row ++ rest) →
-          Stands new.blocks (object_entries object (with_extent row (extent_of addr piece)) ++ rest)
+          BlocksAre old.blocks (object_entries object row ++ rest) →
+          BlocksAre new.blocks (object_entries object (with_extent row (extent_of addr piece)) ++ rest)
       stands_of {row} k rest s =
           let e = extent_of addr piece in
           let rows = row.extents in
@@ -255,30 +257,30 @@ module _ {object addr : ℕ} {old mid : Heap} (piece : Piece)
           let one : Entries = (addr, extent_block 0 0 e) ∷ [] in
           let A = spanned object row (first_of extent_addr addr rows) addr (grown row piece.bytes) addr rows in
           let is = object_word k 2 last (omega arith) h in
-          let before : Stands grew.blocks (spanned object row (first_of extent_addr 0 rows) last (grown row piece.bytes) 0 rows
+          let before : BlocksAre grew.blocks (spanned object row (first_of extent_addr 0 rows) last (grown row piece.bytes) 0 rows
           ++ (H ++ (T ++ (one ++ rest)))) =
-          subst (λ n. Stands grew.blocks (spanned object row (first_of extent_addr 0 rows) n (grown row piece.bytes) 0 rows
+          subst (λ n. BlocksAre grew.blocks (spanned object row (first_of extent_addr 0 rows) n (grown row piece.bytes) 0 rows
           ++ (H ++ (T ++ (one ++ rest))))) (sym is) (grown_opened k rest s) in
-          let after : Stands new.blocks (A ++ (H ++ (T ++ (one ++ rest)))) =
+          let after : BlocksAre new.blocks (A ++ (H ++ (T ++ (one ++ rest)))) =
           (l.links row (grown row piece.bytes) rows is).kept (H ++ (T ++ (one ++ rest))) before in
           let whole : (es : Entries) → A ++ (H ++ (T ++ es)) ≡ (A ++ (H ++ T)) ++ es =
           λ es. ap (λ (xs : Entries). A ++ xs) (sym (append_assoc H T es)) ∙ sym (append_assoc A (H ++ T) es) in
-          let front : Stands new.blocks (one ++ (A ++ (H ++ (T ++ rest)))) =
-          subst (λ (es : Entries). Stands new.blocks (one ++ es)) (sym (whole rest))
-          (moved (A ++ (H ++ T)) one rest (subst (λ (es : Entries). Stands new.blocks es) (whole (one ++ rest)) after)) in
-          let placed : Stands new.blocks (A ++ (one ++ (H ++ (T ++ rest)))) = moved_back A one (H ++ (T ++ rest)) front in
+          let front : BlocksAre new.blocks (one ++ (A ++ (H ++ (T ++ rest)))) =
+          subst (λ (es : Entries). BlocksAre new.blocks (one ++ es)) (sym (whole rest))
+          (moved (A ++ (H ++ T)) one rest (subst (λ (es : Entries). BlocksAre new.blocks es) (whole (one ++ rest)) after)) in
+          let placed : BlocksAre new.blocks (A ++ (one ++ (H ++ (T ++ rest)))) = moved_back A one (H ++ (T ++ rest)) front in
           let C = linked extent_addr extent_block 0 addr rows in
           let chain : C ++ (one ++ (H ++ (T ++ rest))) ≡ linked extent_addr extent_block 0 0 (rows ++ (e ∷ [])) ++ (H ++ (T ++ rest)) =
           sym (append_assoc C one (H ++ (T ++ rest)))
           ∙ ap (λ (es : Entries). es ++ (H ++ (T ++ rest))) (joined e rows) in
           closed_extents object (with_extent row e) rest
-          (subst (λ n. Stands new.blocks ((object, extents_block row n (last_of extent_addr 0 (rows ++ (e ∷ []))) (grown row piece.bytes))
+          (subst (λ n. BlocksAre new.blocks ((object, extents_block row n (last_of extent_addr 0 (rows ++ (e ∷ []))) (grown row piece.bytes))
           ∷ (linked extent_addr extent_block 0 0 (rows ++ (e ∷ [])) ++ (H ++ (T ++ rest)))))
           (sym (first-append extent_addr extent_block 0 rows (e ∷ [])))
-          (subst (λ n. Stands new.blocks ((object, extents_block row (first_of extent_addr addr rows) n (grown row piece.bytes))
+          (subst (λ n. BlocksAre new.blocks ((object, extents_block row (first_of extent_addr addr rows) n (grown row piece.bytes))
           ∷ (linked extent_addr extent_block 0 0 (rows ++ (e ∷ [])) ++ (H ++ (T ++ rest)))))
           (sym (last-append extent_addr extent_block 0 rows (e ∷ [])))
-          (subst (λ (es : Entries). Stands new.blocks ((object, extents_block row (first_of extent_addr addr rows) addr (grown row piece.bytes)) ∷ es))
+          (subst (λ (es : Entries). BlocksAre new.blocks ((object, extents_block row (first_of extent_addr addr rows) addr (grown row piece.bytes)) ∷ es))
           chain placed)))
 
       pub adds_extent : AddsExtent object piece old new

@@ -5,7 +5,7 @@ use Rattle.std.proofs.lemmas.List.Concat.{flat_map-append}
 use Rattle.std.proofs.lemmas.List.Elements.{All-head, All-tail}
 use Rattle.std.proofs.lemmas.List.Sums.{sum_by_push}
 use Rattle.sdr_base.specs.Blocks.{Block}
-use Rattle.sdr_base.specs.Entries.{Entries, Stands, times}
+use Rattle.sdr_base.specs.Entries.{Entries, BlocksAre, times}
 use Rattle.sdr_base.specs.Linked.{first_of}
 use Rattle.sdr_base.specs.Making.{gave}
 use Rattle.sdr_base.specs.Objects.{Heap}
@@ -23,7 +23,7 @@ use Rattle.sdr_model.specs.Amounts.{amount, amounts_by, plus}
 use Rattle.sdr_model.specs.Charges.{bytes_charge}
 use Rattle.zco_obj.specs.Amounts.{extent_amounts, medium_space, source_space}
 use Rattle.zco_obj.specs.Uses.{CountsUses, ExtentGiveStops, ExtentsGiveStops, GivesExtent, GivesExtents, GivesSomeOfExtent, IsThere, SomeUse, SomeUses, UseAt, UsesAt, going_with, left_next}
-use Rattle.zco_obj.specs.Gone.{NamedSource, extent_charge, extents_amounts, going_before, gone_blocks, left_of, less_uses, naming, source_at, sources_entries, sources_left, space_in}
+use Rattle.zco_obj.specs.Gone.{NamedSource, extent_row_charge, extents_amounts, going_before, gone_blocks, left_of, less_uses, naming, source_at, sources_entries, sources_left, space_in}
 use Rattle.zco_obj.specs.Kept.{ExtentFits}
 use Rattle.zco_obj.specs.declared.destroying.GivenExtent.{GivenExtent}
 use Rattle.zco_obj.proofs.ChainGoneLemmas.{Leaving, PartLeft, given_most, over_made, over_stands, over_told, part_at, part_begun, part_below, part_count, part_first, part_fits, part_many, part_none, part_on, part_room, part_some, part_stands, passed_most}
@@ -55,7 +55,7 @@ pub extents_begun : (acct : Acct) (first : ℕ) (old : Heap) (nothing : Amounts)
     ExtentsLeft acct first old old first 0 nothing
 extents_begun acct first old nothing e = record {
   left = λ xs ss u. part_begun ExtentFits (leaving_extents acct xs ss) old xs u.rest first nothing e
-      (subst (λ (es : Entries). Stands old.blocks (extent_entries xs ++ (es ++ u.rest))) (sym (none_gone acct ss)) u.stands)
+      (subst (λ (es : Entries). BlocksAre old.blocks (extent_entries xs ++ (es ++ u.rest))) (sym (none_gone acct ss)) u.stands)
       u.at_first u.fits;
 }
 
@@ -116,8 +116,8 @@ module _ {acct : Acct} {first : ℕ} {old now : Heap} {cursor i : ℕ} {charged 
       (omega (arith, one, x, y, e, b, c, d), omega (arith, one, x, y, e, b, c, d))
 
   -- the source is brought to the front of the others
-  focus : (block : ℕ × Block) (r : Entries) → Stands now.blocks (block ∷ (sources_left acct p.passed ss ++ r)) →
-      Stands now.blocks (block ∷ (tied_entries h.one.source source_now spot.here.bytes ++ (left_before ++ (left_behind ++ r))))
+  focus : (block : ℕ × Block) (r : Entries) → BlocksAre now.blocks (block ∷ (sources_left acct p.passed ss ++ r)) →
+      BlocksAre now.blocks (block ∷ (tied_entries h.one.source source_now spot.here.bytes ++ (left_before ++ (left_behind ++ r))))
   focus block r s =
       let T = tied_entries spot.here.addr source_now spot.here.bytes in
       let there = left_there acct spot.here before_it behind_it enough in
@@ -128,14 +128,14 @@ module _ {acct : Acct} {first : ℕ} {old now : Heap} {cursor i : ℕ} {charged 
       let whole_cut : sources_left acct p.passed ss ++ r ≡ left_before ++ (T ++ (left_behind ++ r)) =
       ap (λ (es : Entries). es ++ r) cut ∙ append_assoc left_before (T ++ left_behind) r
       ∙ ap (λ (es : Entries). left_before ++ es) (append_assoc T left_behind r) in
-      subst (λ a. Stands now.blocks (block ∷ (tied_entries a source_now spot.here.bytes ++ (left_before ++ (left_behind ++ r))))) spot.at
+      subst (λ a. BlocksAre now.blocks (block ∷ (tied_entries a source_now spot.here.bytes ++ (left_before ++ (left_behind ++ r))))) spot.at
       (rotated now.blocks block left_before T (left_behind ++ r)
-      (subst (λ (es : Entries). Stands now.blocks (block ∷ es)) whole_cut s))
+      (subst (λ (es : Entries). BlocksAre now.blocks (block ∷ es)) whole_cut s))
 
   -- and back, with what is left of it
   unfocus : (new : Heap) (r : Entries) →
-      Stands new.blocks (left_next acct h.one.source source_now spot.here.bytes ++ (left_before ++ (left_behind ++ r))) →
-      Stands new.blocks (sources_left acct (p.passed ++ (h.one ∷ [])) ss ++ r)
+      BlocksAre new.blocks (left_next acct h.one.source source_now spot.here.bytes ++ (left_before ++ (left_behind ++ r))) →
+      BlocksAre new.blocks (sources_left acct (p.passed ++ (h.one ∷ [])) ss ++ r)
   unfocus new r s =
       let more = p.passed ++ (h.one ∷ []) in
       let L = left_of acct more spot.here in
@@ -151,9 +151,9 @@ module _ {acct : Acct} {first : ℕ} {old now : Heap} {cursor i : ℕ} {charged 
       ∙ ap (λ (es : Entries). (left_before ++ (L ++ es)) ++ r) (others acct h.one.source p.passed h.one refl spot.behind apart.1)
       ∙ append_assoc left_before (L ++ left_behind) r
       ∙ ap (λ (es : Entries). left_before ++ es) (append_assoc L left_behind r) in
-      subst (λ (es : Entries). Stands new.blocks es) (sym whole_cut)
+      subst (λ (es : Entries). BlocksAre new.blocks es) (sym whole_cut)
       (moved_back left_before L (left_behind ++ r)
-      (subst (λ (es : Entries). Stands new.blocks (es ++ (left_before ++ (left_behind ++ r)))) is s))
+      (subst (λ (es : Entries). BlocksAre new.blocks (es ++ (left_before ++ (left_behind ++ r)))) is s))
 
   -- both are there
   pub use_now : UseAt acct now.blocks h.one.addr (first_of extent_addr 0 h.behind) h.one source_now spot.here.bytes
@@ -193,7 +193,7 @@ module _ {acct : Acct} {first : ℕ} {old now : Heap} {cursor i : ℕ} {charged 
       let g = ap (going_with now.blocks) at ∙ going_told use_now in omega (arith, a, g)
 
   -- what it charges
-  charge_now : (space : Space) → extent_charge ss space h.one
+  charge_now : (space : Space) → extent_row_charge ss space h.one
       ≡ amount (extent_amounts (source_space source_now) h.one.length) space
   charge_now space =
       ap (λ of. bytes_charge of h.one.length space)
@@ -202,12 +202,12 @@ module _ {acct : Acct} {first : ℕ} {old now : Heap} {cursor i : ℕ} {charged 
 
   pub charges_now : extents_amounts ss (p.passed ++ (h.one ∷ [])) ≡ plus charged (extent_amounts (source_space source_now) h.one.length)
   charges_now =
-      same_amounts (λ space. sum_by (extent_charge ss space) (p.passed ++ (h.one ∷ [])))
+      same_amounts (λ space. sum_by (extent_row_charge ss space) (p.passed ++ (h.one ∷ [])))
       (λ space. amount charged space + amount (extent_amounts (source_space source_now) h.one.length) space) (λ space.
-      let s = sum_by_push (extent_charge ss space) p.passed h.one in
+      let s = sum_by_push (extent_row_charge ss space) p.passed h.one in
       let c = charge_now space in
-      let a : amount charged space ≡ sum_by (extent_charge ss space) p.passed =
-      ap (λ (m : Amounts). amount m space) p.is ∙ amount_by (λ (z : Space). sum_by (extent_charge ss z) p.passed) space in
+      let a : amount charged space ≡ sum_by (extent_row_charge ss space) p.passed =
+      ap (λ (m : Amounts). amount m space) p.is ∙ amount_by (λ (z : Space). sum_by (extent_row_charge ss z) p.passed) space in
       omega (arith, s, c, a))
 
 module _ {acct : Acct} {first : ℕ} {old now : Heap} {cursor i : ℕ} {charged : Amounts}

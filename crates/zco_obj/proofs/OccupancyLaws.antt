@@ -12,7 +12,7 @@ use Rattle.sdr_base.specs.declared.kind.Space.TheVariants as spaces
 use Rattle.sdr_model.specs.Amounts.{amount, minus}
 use Rattle.sdr_model.specs.Charges.{left_in}
 use Rattle.sdr_model.specs.declared.accounts.Ticket.{Ticket}
-use Rattle.zco_acct.specs.Charges.{charged, with_used}
+use Rattle.zco_acct.specs.Charges.{charged, tickets_covered}
 use Rattle.zco_acct.specs.Refusals.{named_ticket, ticket_left}
 use Rattle.zco_acct.specs.Walks.{has_number}
 use Rattle.zco_acct.specs.Words.{occupied_in}
@@ -58,9 +58,9 @@ amount-minus a b spaces.Bulk = refl
 amount-minus a b spaces.Heap = refl
 
 left_named : (number : ℕ) (amounts : Amounts) (space : Space) (ts : List Ticket) →
-    left_in space (with_used number amounts ts) + amount (ticket_left (find (has_number number) ts)) space
+    left_in space (tickets_covered number amounts ts) + amount (ticket_left (find (has_number number) ts)) space
     ≡ left_in space ts + (amount (ticket_left (find (has_number number) ts)) space - amount amounts space)
-unfolding with_used
+unfolding tickets_covered
 left_named number amounts spaces.File [] = omega arith
 left_named number amounts spaces.Bulk [] = omega arith
 left_named number amounts spaces.Heap [] = omega arith
@@ -69,19 +69,19 @@ left_named number amounts space (t ∷ ts) =
     let f = λ (x : Ticket). amount x.left space in
     let whole = sum_by-cons f t ts in
     elim (t.number == number) as (λ v.
-    left_in space (if v then record t { left = minus t.left amounts } ∷ ts else t ∷ with_used number amounts ts)
+    left_in space (if v then record t { left = minus t.left amounts } ∷ ts else t ∷ tickets_covered number amounts ts)
     + amount (ticket_left (cond v (Some t) (find (has_number number) ts))) space
     ≡ left_in space (t ∷ ts) + (amount (ticket_left (cond v (Some t) (find (has_number number) ts))) space - amount amounts space)) [
       | true ↦ let s = sum_by-cons f (record t { left = minus t.left amounts }) ts in
           let m = amount-minus t.left amounts space in omega (arith, s, m, whole)
-      | false ↦ let s = sum_by-cons f t (with_used number amounts ts) in omega (arith, s, ih, whole)
+      | false ↦ let s = sum_by-cons f t (tickets_covered number amounts ts) in omega (arith, s, ih, whole)
     ]
 
 left_charged : (number : ℕ) (amounts : Amounts) (space : Space) (ts : List Ticket) →
     left_in space (charged ts number amounts) + amount (ticket_left (named_ticket ts number)) space
     ≡ left_in space ts + (amount (ticket_left (named_ticket ts number)) space - amount amounts space)
 left_charged number amounts space ts =
-    elim (number == 0) as (λ v. left_in space (if v then ts else with_used number amounts ts)
+    elim (number == 0) as (λ v. left_in space (if v then ts else tickets_covered number amounts ts)
     + amount (ticket_left (if v then None else find (has_number number) ts)) space
     ≡ left_in space ts + (amount (ticket_left (if v then None else find (has_number number) ts)) space - amount amounts space)) [
       | true ↦ nothing_left space

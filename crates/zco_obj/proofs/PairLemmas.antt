@@ -1,7 +1,7 @@
 -- An object and a source beside it: an extent comes that names the source, which counts it.
 use Rattle.std.proofs.Common.{◌<◌, ◌^◌, ℕ, List, [], ◌++◌, sym, ◌∙◌, subst, append_assoc}
 use Rattle.sdr_base.specs.Blocks.{Blocks}
-use Rattle.sdr_base.specs.Entries.{Entries, Stands}
+use Rattle.sdr_base.specs.Entries.{Entries, BlocksAre}
 use Rattle.sdr_base.specs.Objects.{Heap}
 use Rattle.sdr_base.specs.ZcoObjects.{ObjectRow, object_entries}
 use Rattle.sdr_base.specs.declared.account.Acct.{Acct}
@@ -16,17 +16,17 @@ use Rattle.zco_obj.specs.Charging.{ChargesObject}
 use Rattle.zco_obj.specs.Extents.{AddsExtent, extent_of, with_extent}
 use Rattle.zco_obj.specs.Kept.{KeepsObject, SomeObject}
 use Rattle.zco_obj.specs.Reading.{Tells}
-use Rattle.zco_obj.specs.declared.extent.Piece.{Piece}
+use Rattle.zco_obj.specs.declared.extent.ExtentPiece.{ExtentPiece}
 use Rattle.zco_obj.proofs.ChargeLemmas.{queue_of, stands_still}
 use Rattle.zco_ref.specs.Counting.{Attaches, attached}
 use Rattle.zco_ref.specs.Kept.{CountedSource, KeepsSource, SomeBelow, count_in, counted_block, counted_entries}
 
 -- a part may stand before the others, behind some first ones
-pub swapped : (b : Blocks) (xs ys part zs : Entries) → Stands b (xs ++ (ys ++ (part ++ zs))) → Stands b (xs ++ (part ++ (ys ++ zs)))
+pub swapped : (b : Blocks) (xs ys part zs : Entries) → BlocksAre b (xs ++ (ys ++ (part ++ zs))) → BlocksAre b (xs ++ (part ++ (ys ++ zs)))
 swapped b xs ys part zs s =
     moved_back xs part (ys ++ zs)
-    (subst (λ (es : Entries). Stands b (part ++ es)) (append_assoc xs ys zs)
-    (moved (xs ++ ys) part zs (subst (λ (es : Entries). Stands b es) (sym (append_assoc xs ys (part ++ zs))) s)))
+    (subst (λ (es : Entries). BlocksAre b (part ++ es)) (append_assoc xs ys zs)
+    (moved (xs ++ ys) part zs (subst (λ (es : Entries). BlocksAre b es) (sym (append_assoc xs ys (part ++ zs))) s)))
 
 -- the object, and the source, of a pair
 module _ {blocks : Blocks} {object : ℕ} {row : ObjectRow} {addr : ℕ} {source : CountedSource} (k : KeepsPair blocks object row addr source) where
@@ -40,12 +40,12 @@ pub some_of_pair : {blocks : Blocks} {object addr : ℕ} → SomePair blocks obj
 some_of_pair q = record { row = q.row; keeps = pair_object q.keeps }
 
 -- an extent comes, and then the source counts it
-module _ {object : ℕ} {acct : Acct} {old mid : Heap} (piece : Piece) (a : AddsExtent object piece old mid)
+module _ {object : ℕ} {acct : Acct} {old mid : Heap} (piece : ExtentPiece) (a : AddsExtent object piece old mid)
     (t : Tells old.blocks object (λ row. row.account) acct) where
   -- the source is there once the extent has come
   counted_first : {row : ObjectRow} {source : CountedSource} → KeepsPair old.blocks object row piece.of source → (rest : Entries) →
-      Stands old.blocks (object_entries object row ++ (counted_entries piece.of source ++ rest)) →
-      Stands mid.blocks
+      BlocksAre old.blocks (object_entries object row ++ (counted_entries piece.of source ++ rest)) →
+      BlocksAre mid.blocks
       (counted_entries piece.of source ++ (object_entries object (with_extent row (extent_of a.addr piece)) ++ rest))
   counted_first {row} {source} k rest s =
       moved (object_entries object (with_extent row (extent_of a.addr piece))) (counted_entries piece.of source) rest
@@ -74,13 +74,13 @@ module _ {object : ℕ} {acct : Acct} {old mid : Heap} (piece : Piece) (a : Adds
           let C = counted_entries piece.of source in
           let O' = object_entries object (with_extent row (extent_of a.addr piece)) in
           let own = t.tells row (pair_object k) in
-          let first = counted_first k rest (subst (λ (es : Entries). Stands old.blocks es) (append_assoc (object_entries object row) C rest) s) in
-          let counts : Stands new.blocks (counted_entries piece.of (attached acct source) ++ (O' ++ rest)) =
+          let first = counted_first k rest (subst (λ (es : Entries). BlocksAre old.blocks es) (append_assoc (object_entries object row) C rest) s) in
+          let counts : BlocksAre new.blocks (counted_entries piece.of (attached acct source) ++ (O' ++ rest)) =
           (b.becomes source (source_kept k)).changes.kept (O' ++ rest) first in
-          subst (λ (es : Entries). Stands new.blocks es)
+          subst (λ (es : Entries). BlocksAre new.blocks es)
           (sym (append_assoc O' (counted_entries piece.of (attached row.account source)) rest))
           (moved_back O' (counted_entries piece.of (attached row.account source)) rest
-          (subst (λ (c : Acct). Stands new.blocks (counted_entries piece.of (attached c source) ++ (O' ++ rest))) own counts));
+          (subst (λ (c : Acct). BlocksAre new.blocks (counted_entries piece.of (attached c source) ++ (O' ++ rest))) own counts));
     };
     made = record { all = (b.becomes q.source (source_kept q.keeps)).same ∙ a.made.all };
   }
@@ -88,11 +88,11 @@ module _ {object : ℕ} {acct : Acct} {old mid : Heap} (piece : Piece) (a : Adds
 -- what stands beside an object and its queue stands so once its account was charged
 pub beside_still : {object number : ℕ} {amounts : Amounts} {old mid : Heap} → ChargesObject object number amounts old mid →
     {row : ObjectRow} {tickets : List Ticket} {es : Entries} (k : KeepsBeside old object row tickets es) →
-    Stands mid.blocks (object_entries object row ++ (es ++ (queue_entries row.account (charged tickets number amounts) ++ k.behind)))
+    BlocksAre mid.blocks (object_entries object row ++ (es ++ (queue_entries row.account (charged tickets number amounts) ++ k.behind)))
 beside_still {object} {number} {amounts} {old} {mid} c {row} {tickets} {es} k =
     swapped mid.blocks (object_entries object row) (queue_entries row.account (charged tickets number amounts)) es k.behind
     (stands_still (c.charges row tickets k.keeps) (queue_of k.keeps) (object_entries object row) (es ++ k.behind)
-    (subst (λ (rest : Entries). Stands old.blocks (object_entries object row ++ (queue_entries row.account tickets ++ rest))) k.whole
+    (subst (λ (rest : Entries). BlocksAre old.blocks (object_entries object row ++ (queue_entries row.account tickets ++ rest))) k.whole
     k.keeps.stands))
 
 pub pair_still : {object number addr : ℕ} {amounts : Amounts} {old mid : Heap} → ChargesObject object number amounts old mid →

@@ -2,7 +2,7 @@
 use Rattle.std.proofs.Common.{◌≡◌, ◌+◌, ◌<◌, ◌^◌, ℕ, [], ◌∷◌, ◌++◌, length, ◌∙◌, arith, subst, append_assoc}
 use Rattle.std.specs.Prelude.{All}
 use Rattle.sdr_base.specs.Blocks.{Blocks, IsKind}
-use Rattle.sdr_base.specs.Entries.{Entries, Stands}
+use Rattle.sdr_base.specs.Entries.{Entries, BlocksAre}
 use Rattle.sdr_base.specs.Linked.{first_of, last_of}
 use Rattle.sdr_base.specs.Words.{HasWord}
 use Rattle.sdr_base.specs.ZcoObjects.{ObjectRow, capsule_addr, capsule_entries, extent_addr, extent_entries, object_block}
@@ -50,7 +50,7 @@ module _ {blocks : Blocks} {object : ℕ} {row : ObjectRow} (k : KeepsObject blo
       record {
         rest = own ++ (T ++ k.rest);
         stands = moved own X (T ++ k.rest)
-            (subst (λ (es : Entries). Stands blocks ((object, object_block row) ∷ es))
+            (subst (λ (es : Entries). BlocksAre blocks ((object, object_block row) ∷ es))
             (append_assoc (H ++ X) T k.rest ∙ append_assoc H X (T ++ k.rest)) k.stands);
         at_first = e;
         fits = k.fits.extents;

@@ -3,7 +3,7 @@ use Rattle.std.proofs.Common.{◌≡◌, ◌≢◌, ◌+◌, ◌-◌, ℕ, List,
 use Rattle.std.specs.Prelude.{◌==◌, if◌then◌else◌}
 use Rattle.std.proofs.lemmas.Bool.{ne_eqb}
 use Rattle.sdr_base.specs.Blocks.{Blocks, Reaches, with_block}
-use Rattle.sdr_base.specs.Entries.{Entries, Stands}
+use Rattle.sdr_base.specs.Entries.{Entries, BlocksAre}
 use Rattle.sdr_base.specs.Linked.{first_of, last_of, linked}
 use Rattle.sdr_base.specs.Making.{Made, besides, with_moves}
 use Rattle.sdr_base.specs.Objects.{Heap, with_given}
@@ -30,7 +30,7 @@ chain prev next rows = linked capsule_addr capsule_block prev next rows
 
 -- the ends' block of an object has its words
 pub ends_reach : {blocks : Blocks} (side : Side) (object : ℕ) (row : ObjectRow) (first last : ℕ) (rest : Entries) →
-    Stands blocks ((object, ends_block side row first last) ∷ rest) → Reaches (blocks object) 72
+    BlocksAre blocks ((object, ends_block side row first last) ∷ rest) → Reaches (blocks object) 72
 ends_reach {blocks} sides.Headers object row first last rest s =
     reaches (blocks object) kinds.Object (ends_words sides.Headers row first last) [] 72
     (found blocks object (ends_block sides.Headers row first last) [] rest s) (omega arith)
@@ -45,25 +45,25 @@ behind_gap side row addr next text before behind rest =
 
 -- an object opened at a gap
 cut : {blocks : Blocks} (side : Side) (object : ℕ) (row : ObjectRow) (next : ℕ) (before behind : List CapsuleRow) (rest : Entries) →
-    next ≡ first_of capsule_addr 0 behind → capsules side row ≡ before ++ behind → Stands blocks (object_entries object row ++ rest) →
-    Stands blocks (((object, ends_block side row (first_of capsule_addr next before) (last_of capsule_addr 0 (before ++ behind)))
+    next ≡ first_of capsule_addr 0 behind → capsules side row ≡ before ++ behind → BlocksAre blocks (object_entries object row ++ rest) →
+    BlocksAre blocks (((object, ends_block side row (first_of capsule_addr next before) (last_of capsule_addr 0 (before ++ behind)))
     ∷ chain 0 next before) ++ (chain (last_of capsule_addr 0 before) 0 behind ++ (around side row ++ rest)))
 cut {blocks} side object row next before behind rest n w s =
     let R = around side row ++ rest in
     let L = last_of capsule_addr 0 (before ++ behind) in
     let B = chain (last_of capsule_addr 0 before) 0 behind in
-    let one : Stands blocks (focused side object row (before ++ behind) rest) =
-    subst (λ (rows : List CapsuleRow). Stands blocks (focused side object row rows rest)) w (opened side object row rest s) in
-    let two : Stands blocks ((object, ends_block side row (first_of capsule_addr 0 (before ++ behind)) L)
+    let one : BlocksAre blocks (focused side object row (before ++ behind) rest) =
+    subst (λ (rows : List CapsuleRow). BlocksAre blocks (focused side object row rows rest)) w (opened side object row rest s) in
+    let two : BlocksAre blocks ((object, ends_block side row (first_of capsule_addr 0 (before ++ behind)) L)
     ∷ (chain 0 (first_of capsule_addr 0 behind) before ++ (B ++ R))) =
-    subst (λ (es : Entries). Stands blocks ((object, ends_block side row (first_of capsule_addr 0 (before ++ behind)) L) ∷ es))
+    subst (λ (es : Entries). BlocksAre blocks ((object, ends_block side row (first_of capsule_addr 0 (before ++ behind)) L) ∷ es))
     (ap (λ (es : Entries). es ++ R) (linked-append capsule_addr capsule_block 0 0 before behind)
     ∙ append_assoc (chain 0 (first_of capsule_addr 0 behind) before) B R) one in
-    let three : Stands blocks ((object, ends_block side row (first_of capsule_addr (first_of capsule_addr 0 behind) before) L)
+    let three : BlocksAre blocks ((object, ends_block side row (first_of capsule_addr (first_of capsule_addr 0 behind) before) L)
     ∷ (chain 0 (first_of capsule_addr 0 behind) before ++ (B ++ R))) =
-    subst (λ (f : ℕ). Stands blocks ((object, ends_block side row f L) ∷ (chain 0 (first_of capsule_addr 0 behind) before ++ (B ++ R))))
+    subst (λ (f : ℕ). BlocksAre blocks ((object, ends_block side row f L) ∷ (chain 0 (first_of capsule_addr 0 behind) before ++ (B ++ R))))
     (first-append capsule_addr capsule_block 0 before behind) two in
-    subst (λ (f : ℕ). Stands blocks ((object, ends_block side row (first_of capsule_addr f before) L) ∷ (chain 0 f before ++ (B ++ R))))
+    subst (λ (f : ℕ). BlocksAre blocks ((object, ends_block side row (first_of capsule_addr f before) L) ∷ (chain 0 f before ++ (B ++ R))))
     (sym n) three
 
 -- a chain joined around one
@@ -109,7 +109,7 @@ last_without next prev c before (x ∷ xs) z n p =
 
 -- what stands behind isn't at 0
 none_behind : {blocks : Blocks} (next : ℕ) (before : Entries) (prev : ℕ) (behind : List CapsuleRow) (rest : Entries) →
-    Stands blocks (before ++ (chain prev 0 behind ++ rest)) → next ≡ first_of capsule_addr 0 behind → next ≡ 0 → behind ≡ []
+    BlocksAre blocks (before ++ (chain prev 0 behind ++ rest)) → next ≡ first_of capsule_addr 0 behind → next ≡ 0 → behind ≡ []
 unfolding linked
 none_behind next before prev [] rest s n z = refl
 none_behind {blocks} next before prev (x ∷ xs) rest s n z =
@@ -127,11 +127,11 @@ took_capsule {next} {addr} {text} {old} t = record {
 module _ {side : Side} {object prev next addr : ℕ} {text : List ℕ} {old mid : Heap} (t : TakesCapsule next text old mid addr) where
   -- the object opened at the gap, with the block in it
   opened_at : (row : ObjectRow) (before behind : List CapsuleRow) (rest : Entries) → IsGap side row prev next before behind →
-      Stands old.blocks (object_entries object row ++ rest) →
-      Stands mid.blocks (threaded side object row (first_of capsule_addr next before) (last_of capsule_addr 0 (before ++ behind)) next before
+      BlocksAre old.blocks (object_entries object row ++ rest) →
+      BlocksAre mid.blocks (threaded side object row (first_of capsule_addr next before) (last_of capsule_addr 0 (before ++ behind)) next before
       ++ behind_gap side row addr next text before behind rest)
   opened_at row before behind rest g s =
-      subst (λ (b : Blocks). Stands b (threaded side object row (first_of capsule_addr next before)
+      subst (λ (b : Blocks). BlocksAre b (threaded side object row (first_of capsule_addr next before)
       (last_of capsule_addr 0 (before ++ behind)) next before ++ behind_gap side row addr next text before behind rest))
       (sym (ap (λ (h : Heap). h.blocks) t.takes.taken))
       (came old.blocks addr (capsule_block 0 next (record { addr = addr; text = text }))
@@ -150,8 +150,8 @@ module _ {side : Side} {object prev next addr : ℕ} {text : List ℕ} {old mid 
 
   module _ {lk : Heap} (l : LinksNext side object prev addr mid lk) where
     linked_at : (row : ObjectRow) (before behind : List CapsuleRow) (rest : Entries) → IsGap side row prev next before behind →
-        Stands old.blocks (object_entries object row ++ rest) →
-        Stands lk.blocks (threaded side object row (first_of capsule_addr addr before) (last_of capsule_addr 0 (before ++ behind)) addr before
+        BlocksAre old.blocks (object_entries object row ++ rest) →
+        BlocksAre lk.blocks (threaded side object row (first_of capsule_addr addr before) (last_of capsule_addr 0 (before ++ behind)) addr before
         ++ behind_gap side row addr next text before behind rest)
     linked_at row before behind rest g s =
         (l.links row (last_of capsule_addr 0 (before ++ behind)) next before g.at_previous).kept
@@ -162,8 +162,8 @@ module _ {side : Side} {object prev next addr : ℕ} {text : List ℕ} {old mid 
 
     module _ {new : Heap} (e : LinksLast side object next addr lk new) where
       stands_of : (row : ObjectRow) (before behind : List CapsuleRow) (rest : Entries) → IsGap side row prev next before behind →
-          Stands old.blocks (object_entries object row ++ rest) →
-          Stands new.blocks
+          BlocksAre old.blocks (object_entries object row ++ rest) →
+          BlocksAre new.blocks
           (object_entries object (with_capsules side (before ++ (record { addr = addr; text = text } ∷ behind)) row) ++ rest)
       stands_of row before behind rest g s =
           let c : CapsuleRow = record { addr = addr; text = text } in
@@ -171,29 +171,29 @@ module _ {side : Side} {object prev next addr : ℕ} {text : List ℕ} {old mid 
           let R = around side row ++ rest in
           let none = none_behind next (threaded side object row (first_of capsule_addr next before) L next before
           ++ ((addr, capsule_block 0 next c) ∷ [])) (last_of capsule_addr 0 before) behind R
-          (subst (λ (es : Entries). Stands mid.blocks es)
+          (subst (λ (es : Entries). BlocksAre mid.blocks es)
           (sym (append_assoc (threaded side object row (first_of capsule_addr next before) L next before)
           ((addr, capsule_block 0 next c) ∷ []) (chain (last_of capsule_addr 0 before) 0 behind ++ R)))
           (opened_at row before behind rest g s)) g.at_next in
-          let one : Stands new.blocks ((object, ends_block side row (first_of capsule_addr addr before) (if next == 0 then addr else L))
+          let one : BlocksAre new.blocks ((object, ends_block side row (first_of capsule_addr addr before) (if next == 0 then addr else L))
           ∷ (chain 0 addr before ++ behind_gap side row addr next text before behind rest)) =
           (e.links row (first_of capsule_addr addr before) L).kept
           (chain 0 addr before ++ behind_gap side row addr next text before behind rest) (linked_at row before behind rest g s) in
-          let two : Stands new.blocks ((object, ends_block side row (first_of capsule_addr addr before) (if next == 0 then addr else L))
+          let two : BlocksAre new.blocks ((object, ends_block side row (first_of capsule_addr addr before) (if next == 0 then addr else L))
           ∷ (chain 0 0 (before ++ (c ∷ behind)) ++ R)) =
-          subst (λ (es : Entries). Stands new.blocks
+          subst (λ (es : Entries). BlocksAre new.blocks
           ((object, ends_block side row (first_of capsule_addr addr before) (if next == 0 then addr else L)) ∷ es))
           (joined addr next text before behind R g.at_next) one in
-          let three : Stands new.blocks ((
+          let three : BlocksAre new.blocks ((
             object,
             ends_block side row (first_of capsule_addr addr before)
                 (last_of capsule_addr 0 (before ++ (c ∷ behind))),
           ) ∷ (chain 0 0 (before ++ (c ∷ behind)) ++ R)) =
-          subst (λ (n : ℕ). Stands new.blocks
+          subst (λ (n : ℕ). BlocksAre new.blocks
           ((object, ends_block side row (first_of capsule_addr addr before) n) ∷ (chain 0 0 (before ++ (c ∷ behind)) ++ R)))
           (last_after next addr text before behind none g.at_next) two in
           closed side object row (before ++ (c ∷ behind)) rest
-          (subst (λ (n : ℕ). Stands new.blocks ((object, ends_block side row n (last_of capsule_addr 0 (before ++ (c ∷ behind))))
+          (subst (λ (n : ℕ). BlocksAre new.blocks ((object, ends_block side row n (last_of capsule_addr 0 (before ++ (c ∷ behind))))
           ∷ (chain 0 0 (before ++ (c ∷ behind)) ++ R)))
           (sym (first-append capsule_addr capsule_block 0 before (c ∷ behind))) three)
 
@@ -213,21 +213,21 @@ from_spot side row before c behind rest =
 -- an object opened at a spot
 at_spot : {blocks : Blocks} (side : Side) (object : ℕ) (row : ObjectRow) (before : List CapsuleRow) (c : CapsuleRow)
     (behind : List CapsuleRow) (rest : Entries) → capsules side row ≡ before ++ (c ∷ behind) →
-    Stands blocks (object_entries object row ++ rest) →
-    Stands blocks (threaded side object row (first_of capsule_addr c.addr before) (last_of capsule_addr 0 (before ++ (c ∷ behind)))
+    BlocksAre blocks (object_entries object row ++ rest) →
+    BlocksAre blocks (threaded side object row (first_of capsule_addr c.addr before) (last_of capsule_addr 0 (before ++ (c ∷ behind)))
     c.addr before ++ from_spot side row before c behind rest)
 at_spot {blocks} side object row before c behind rest w s =
     let R = around side row ++ rest in
     let L = last_of capsule_addr 0 (before ++ (c ∷ behind)) in
     let A = chain 0 c.addr before in
-    let one : Stands blocks (focused side object row (before ++ (c ∷ behind)) rest) =
-    subst (λ (rows : List CapsuleRow). Stands blocks (focused side object row rows rest)) w (opened side object row rest s) in
-    let two : Stands blocks ((object, ends_block side row (first_of capsule_addr 0 (before ++ (c ∷ behind))) L)
+    let one : BlocksAre blocks (focused side object row (before ++ (c ∷ behind)) rest) =
+    subst (λ (rows : List CapsuleRow). BlocksAre blocks (focused side object row rows rest)) w (opened side object row rest s) in
+    let two : BlocksAre blocks ((object, ends_block side row (first_of capsule_addr 0 (before ++ (c ∷ behind))) L)
     ∷ (A ++ from_spot side row before c behind rest)) =
-    subst (λ (es : Entries). Stands blocks ((object, ends_block side row (first_of capsule_addr 0 (before ++ (c ∷ behind))) L) ∷ es))
+    subst (λ (es : Entries). BlocksAre blocks ((object, ends_block side row (first_of capsule_addr 0 (before ++ (c ∷ behind))) L) ∷ es))
     (ap (λ (es : Entries). es ++ R) (linked-around capsule_addr capsule_block 0 0 before c behind)
     ∙ append_assoc A ((c.addr, capsule_block 0 (first_of capsule_addr 0 behind) c) ∷ chain c.addr 0 behind) R) one in
-    subst (λ (f : ℕ). Stands blocks ((object, ends_block side row f L) ∷ (A ++ from_spot side row before c behind rest)))
+    subst (λ (f : ℕ). BlocksAre blocks ((object, ends_block side row f L) ∷ (A ++ from_spot side row before c behind rest)))
     (first-append capsule_addr capsule_block 0 before (c ∷ behind)) two
 
 -- a chain joined where one went
@@ -254,8 +254,8 @@ module _ {side : Side} {object prev gone next : ℕ} {blocks : Blocks} (q : Some
 module _ {side : Side} {object prev next : ℕ} {old : Heap} where
   module _ {lk : Heap} (l : LinksNext side object prev next old lk) where
     past : (row : ObjectRow) (before : List CapsuleRow) (c : CapsuleRow) (behind : List CapsuleRow) (rest : Entries) →
-        IsSpot side row prev next before c behind → Stands old.blocks (object_entries object row ++ rest) →
-        Stands lk.blocks (threaded side object row (first_of capsule_addr next before) (last_of capsule_addr 0 (before ++ (c ∷ behind)))
+        IsSpot side row prev next before c behind → BlocksAre old.blocks (object_entries object row ++ rest) →
+        BlocksAre lk.blocks (threaded side object row (first_of capsule_addr next before) (last_of capsule_addr 0 (before ++ (c ∷ behind)))
         next before ++ from_spot side row before c behind rest)
     past row before c behind rest p s =
         (l.links row (last_of capsule_addr 0 (before ++ (c ∷ behind))) c.addr before p.at_previous).kept
@@ -267,8 +267,8 @@ module _ {side : Side} {object prev next : ℕ} {old : Heap} where
 
     module _ {last : Heap} (e : LinksLast side object next prev lk last) where
       unlinked : (row : ObjectRow) (before : List CapsuleRow) (c : CapsuleRow) (behind : List CapsuleRow) (rest : Entries) →
-          IsSpot side row prev next before c behind → Stands old.blocks (object_entries object row ++ rest) →
-          Stands last.blocks (threaded side object row (first_of capsule_addr next before)
+          IsSpot side row prev next before c behind → BlocksAre old.blocks (object_entries object row ++ rest) →
+          BlocksAre last.blocks (threaded side object row (first_of capsule_addr next before)
           (if next == 0 then prev else last_of capsule_addr 0 (before ++ (c ∷ behind))) next before
           ++ from_spot side row before c behind rest)
       unlinked row before c behind rest p s =
@@ -288,36 +288,36 @@ module _ {side : Side} {object prev next : ℕ} {old : Heap} where
 
       module _ {gone : ℕ} {new : Heap} (w : new ≡ with_given last gone) where
         left_of : (row : ObjectRow) (before : List CapsuleRow) (c : CapsuleRow) (behind : List CapsuleRow) (rest : Entries) →
-            IsSpot side row prev next before c behind → gone ≡ c.addr → Stands old.blocks (object_entries object row ++ rest) →
-            Stands new.blocks (object_entries object (with_capsules side (before ++ behind) row) ++ rest)
+            IsSpot side row prev next before c behind → gone ≡ c.addr → BlocksAre old.blocks (object_entries object row ++ rest) →
+            BlocksAre new.blocks (object_entries object (with_capsules side (before ++ behind) row) ++ rest)
         left_of row before c behind rest p g s =
             let R = around side row ++ rest in
             let L = if next == 0 then prev else last_of capsule_addr 0 (before ++ (c ∷ behind)) in
             let F = threaded side object row (first_of capsule_addr next before) L next before in
             let at_end = unlinked row before c behind rest p s in
             let none = none_behind next (F ++ ((c.addr, capsule_block 0 (first_of capsule_addr 0 behind) c) ∷ [])) c.addr behind R
-            (subst (λ (es : Entries). Stands last.blocks es)
+            (subst (λ (es : Entries). BlocksAre last.blocks es)
             (sym (append_assoc F ((c.addr, capsule_block 0 (first_of capsule_addr 0 behind) c) ∷ []) (chain c.addr 0 behind ++ R)))
             at_end) p.at_next in
-            let one : Stands (with_block last.blocks c.addr None) (F ++ (chain c.addr 0 behind ++ R)) =
+            let one : BlocksAre (with_block last.blocks c.addr None) (F ++ (chain c.addr 0 behind ++ R)) =
             went last.blocks c.addr (capsule_block 0 (first_of capsule_addr 0 behind) c) F (chain c.addr 0 behind ++ R) at_end in
-            let here : Stands new.blocks (F ++ (chain c.addr 0 behind ++ R)) =
-            subst (λ (b : Blocks). Stands b (F ++ (chain c.addr 0 behind ++ R)))
+            let here : BlocksAre new.blocks (F ++ (chain c.addr 0 behind ++ R)) =
+            subst (λ (b : Blocks). BlocksAre b (F ++ (chain c.addr 0 behind ++ R)))
             (sym (given_blocks gone last new w ∙ ap (λ p. with_block last.blocks p None) g)) one in
-            let two : Stands new.blocks ((object, ends_block side row (first_of capsule_addr next before) L)
+            let two : BlocksAre new.blocks ((object, ends_block side row (first_of capsule_addr next before) L)
             ∷ (chain 0 0 (before ++ behind) ++ R)) =
-            subst (λ (es : Entries). Stands new.blocks ((object, ends_block side row (first_of capsule_addr next before) L) ∷ es))
+            subst (λ (es : Entries). BlocksAre new.blocks ((object, ends_block side row (first_of capsule_addr next before) L) ∷ es))
             (rejoined next c.addr before behind R p.at_next) here in
-            let three : Stands new.blocks ((
+            let three : BlocksAre new.blocks ((
               object,
               ends_block side row (first_of capsule_addr next before)
                   (last_of capsule_addr 0 (before ++ behind)),
             ) ∷ (chain 0 0 (before ++ behind) ++ R)) =
-            subst (λ (n : ℕ). Stands new.blocks
+            subst (λ (n : ℕ). BlocksAre new.blocks
             ((object, ends_block side row (first_of capsule_addr next before) n) ∷ (chain 0 0 (before ++ behind) ++ R)))
             (last_without next prev c before behind none p.at_next p.at_previous) two in
             closed side object row (before ++ behind) rest
-            (subst (λ (n : ℕ). Stands new.blocks ((object, ends_block side row n (last_of capsule_addr 0 (before ++ behind)))
+            (subst (λ (n : ℕ). BlocksAre new.blocks ((object, ends_block side row n (last_of capsule_addr 0 (before ++ behind)))
             ∷ (chain 0 0 (before ++ behind) ++ R)))
             (ap (λ (m : ℕ). first_of capsule_addr m before) p.at_next ∙ sym (first-append capsule_addr capsule_block 0 before behind)) three)
 

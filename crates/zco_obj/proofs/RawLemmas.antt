@@ -2,7 +2,7 @@
 use Rattle.std.proofs.Common.{◌≡◌, ◌≤◌, ℕ, List, ◌++◌, None, Some, refl, sym, ◌∙◌, arith, subst}
 use Rattle.std.specs.Prelude.{Option}
 use Rattle.sdr_base.specs.Blocks.{Block, Blocks, IsKind, IsOther}
-use Rattle.sdr_base.specs.Entries.{Entries, Stands, times}
+use Rattle.sdr_base.specs.Entries.{Entries, BlocksAre, times}
 use Rattle.sdr_base.specs.Objects.{Heap}
 use Rattle.sdr_base.specs.Raws.{raw_block, raw_entries}
 use Rattle.sdr_base.specs.ZcoObjects.{ObjectRow, object_entries}
@@ -18,7 +18,7 @@ use Rattle.zco_acct.specs.Kept.{queue_entries}
 use Rattle.zco_obj.specs.Appending.{taking_over}
 use Rattle.zco_obj.specs.AppendStops.{RawPieceStops}
 use Rattle.zco_obj.specs.Beside.{IsWithRaw, KeepsWithRaw}
-use Rattle.zco_obj.specs.declared.extent.Piece.{Piece}
+use Rattle.zco_obj.specs.declared.extent.ExtentPiece.{ExtentPiece}
 use Rattle.zco_obj.proofs.SourceStopLemmas.{beside_stands}
 use Rattle.zco_ref.specs.Kept.{IsRaw, KeepsRaw, count_in}
 use Rattle.zco_ref.specs.Naming.{RawStops}
@@ -39,7 +39,7 @@ is_raw is w kind =
     record { named_by = q.named_by; bytes = q.bytes; keeps = raw_beside q.keeps; named = q.keeps.named }
 
 -- why none is appended: for its address, or since a source names it
-pub address_stops : (object number : ℕ) (piece : Piece) (old new : Heap) (stop : Stop) → IsKind (old.blocks object) kinds.Object →
+pub address_stops : (object number : ℕ) (piece : ExtentPiece) (old new : Heap) (stop : Stop) → IsKind (old.blocks object) kinds.Object →
     (IsKind (old.blocks piece.of) kinds.Source → ⊥) → RawStops old.blocks piece.of stop → new ≡ old →
     RawPieceStops object number piece old new stop
 address_stops object number piece old new (Refused (refusals.BadAddress bad)) is other r same =
@@ -66,7 +66,7 @@ count_none accts.Inbound raw bytes = refl
 count_none accts.Outbound raw bytes = refl
 
 -- where nothing stands now, nothing stood before, if no less stood
-pub none_before : (b b' : Blocks) (es es' : Entries) (p : ℕ) → Stands b es → Stands b' es' → times p es ≤ times p es' → b' p ≡ None → b p ≡ None
+pub none_before : (b b' : Blocks) (es es' : Entries) (p : ℕ) → BlocksAre b es → BlocksAre b' es' → times p es ≤ times p es' → b' p ≡ None → b p ≡ None
 none_before b b' es es' p s s' le e =
     let none = nowhere-at p es' (sym (s'.same p) ∙ e) in s.same p ∙ at-nowhere p es (omega (arith, none, le))
 

@@ -1,7 +1,7 @@
 -- A part of a raw object is appended, which a source has taken over, or it isn't.
 use Rattle.std.proofs.Common.{◌≡◌, ◌-◌, ◌<◌, ◌≤◌, ◌^◌, ℕ, List, [], ◌∷◌, ◌++◌, refl, sym, ap, ◌∙◌, arith, subst, append_assoc}
 use Rattle.sdr_base.specs.Blocks.{IsKind}
-use Rattle.sdr_base.specs.Entries.{Changes, Entries, Stands}
+use Rattle.sdr_base.specs.Entries.{Changes, Entries, BlocksAre}
 use Rattle.sdr_base.specs.Objects.{Heap, OnlyShort}
 use Rattle.sdr_base.specs.Raws.{raw_block, raw_entries}
 use Rattle.sdr_base.specs.ZcoObjects.{ObjectRow, object_entries}
@@ -25,7 +25,7 @@ use Rattle.zco_obj.specs.Beside.{IsWithRaw, KeepsPair, KeepsWithRaw, SomePair, S
 use Rattle.zco_obj.specs.Charging.{ChargesObject, ObjectAllows, ObjectChargeStops}
 use Rattle.zco_obj.specs.Extents.{extent_of, with_extent}
 use Rattle.zco_obj.specs.Kept.{SomeWithQueue}
-use Rattle.zco_obj.specs.declared.extent.Piece.{Piece}
+use Rattle.zco_obj.specs.declared.extent.ExtentPiece.{ExtentPiece}
 use Rattle.zco_obj.proofs.CauseLemmas.{object_cause}
 use Rattle.zco_obj.proofs.ChargeLemmas.{charged_moves, free_before, lacks_after, pays, queue_of}
 use Rattle.zco_obj.proofs.PairLemmas.{beside_still, swapped}
@@ -53,7 +53,7 @@ module _ {heap : Heap} {object raw : ℕ} (is : IsKind (heap.blocks object) kind
   pub of_raw : (P : List ℕ → Type 0) → ((bytes : List ℕ) → KeepsRaw (heap.blocks raw) 0 bytes → P bytes) → OfRaw P object raw heap
   of_raw P holds = record { is_object = is; unnamed = u; holds = holds }
 
-module _ {object : ℕ} (number : ℕ) {old : Heap} (piece : Piece) (have : ℕ) (is : IsKind (old.blocks object) kinds.Object)
+module _ {object : ℕ} (number : ℕ) {old : Heap} (piece : ExtentPiece) (have : ℕ) (is : IsKind (old.blocks object) kinds.Object)
     (r : IsWithRaw old object piece.of) (h : HasUnnamed (old.blocks piece.of) have) where
   abbrev q : SomeWithQueue old object
   q = queue_with_raw is r h.unnamed
@@ -123,7 +123,7 @@ module _ {object : ℕ} (number : ℕ) {old : Heap} (piece : Piece) (have : ℕ)
 
       -- the raw object is there once the account was charged
       raw_stands : {row : ObjectRow} {tickets : List Ticket} {bytes : List ℕ} (k : KeepsWithRaw old object row tickets piece.of 0 bytes) →
-          Stands mid.blocks
+          BlocksAre mid.blocks
           (object_entries object row
           ++ (raw_entries piece.of 0 bytes
           ++ (queue_entries row.account (charged tickets number (extent_amounts spaces.Heap piece.bytes)) ++ k.beside.behind)))
@@ -166,8 +166,9 @@ module _ {object : ℕ} (number : ℕ) {old : Heap} (piece : Piece) (have : ℕ)
       module _ {source : ℕ} {src : Heap} (m : MakesRawSource media.Heap piece.of source mid src) where
         -- the object, the source and the raw object are there once it was made
         made_stands : {row : ObjectRow} {tickets : List Ticket} {bytes : List ℕ} → KeepsWithRaw old object row tickets piece.of 0 bytes →
-            (rest : Entries) → Stands mid.blocks (object_entries object row ++ (raw_entries piece.of 0 bytes ++ rest)) →
-            Stands src.blocks
+            (rest : Entries) → BlocksAre mid.blocks
+                (object_entries object row ++ (raw_entries piece.of 0 bytes ++ rest)) →
+            BlocksAre src.blocks
             (object_entries object row ++ (counted_entries source (taking_over piece.of bytes) ++ (raw_entries piece.of source bytes ++ rest)))
         made_stands {row} {tickets} {bytes} k rest s =
             let O = object_entries object row in
@@ -175,12 +176,12 @@ module _ {object : ℕ} (number : ℕ) {old : Heap} (piece : Piece) (have : ℕ)
             let R = raw_entries piece.of source bytes in
             moved_back O C (R ++ rest)
             (swapped src.blocks C R O rest
-            (subst (λ (es : Entries). Stands src.blocks es) (append_assoc C R (O ++ rest))
+            (subst (λ (es : Entries). BlocksAre src.blocks es) (append_assoc C R (O ++ rest))
             ((m.adds bytes (raw_still k)).changes.kept (O ++ rest) (moved O (raw_entries piece.of 0 bytes) rest s))))
 
         module _ (small : piece.of < 2 ^ 64) where
           pair_then : {row : ObjectRow} {tickets : List Ticket} {bytes : List ℕ} → KeepsWithRaw old object row tickets piece.of 0 bytes →
-              (rest : Entries) → Stands mid.blocks (object_entries object row ++ (raw_entries piece.of 0 bytes ++ rest)) →
+              (rest : Entries) → BlocksAre mid.blocks (object_entries object row ++ (raw_entries piece.of 0 bytes ++ rest)) →
               KeepsPair src.blocks object row source (taking_over piece.of bytes)
           pair_then {row} {tickets} {bytes} k rest s = record {
             rest = raw_entries piece.of source bytes ++ rest;
@@ -248,10 +249,10 @@ module _ {object : ℕ} (number : ℕ) {old : Heap} (piece : Piece) (have : ℕ)
                     let C = counted_entries source (taking_over piece.of bytes) in
                     let C' = counted_entries source (attached row.account (taking_over piece.of bytes)) in
                     let R = raw_entries piece.of source bytes in
-                    let s1 = subst (λ (es : Entries). Stands mid.blocks es) (append_assoc O (raw_entries piece.of 0 bytes) rest) s in
-                    let s2 = subst (λ (es : Entries). Stands src.blocks es) (sym (append_assoc O C (R ++ rest))) (made_stands z rest s1) in
+                    let s1 = subst (λ (es : Entries). BlocksAre mid.blocks es) (append_assoc O (raw_entries piece.of 0 bytes) rest) s in
+                    let s2 = subst (λ (es : Entries). BlocksAre src.blocks es) (sym (append_assoc O C (R ++ rest))) (made_stands z rest s1) in
                     let s3 = (n.names row (taking_over piece.of bytes) (pair_then z rest s1)).kept (R ++ rest) s2 in
-                    subst (λ (es : Entries). Stands new.blocks es)
+                    subst (λ (es : Entries). BlocksAre new.blocks es)
                     (append_assoc O' C' (R ++ rest) ∙ ap (λ (es : Entries). O' ++ es) (sym (append_assoc C' R rest))
                     ∙ sym (append_assoc O' (C' ++ R) rest)) s3;
               }

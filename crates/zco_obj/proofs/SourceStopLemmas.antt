@@ -2,7 +2,7 @@
 use Rattle.std.proofs.Common.{◌≡◌, ◌≤◌, ◌^◌, ℕ, List, ◌++◌, false, true, Some, refl, sym, ◌∙◌, arith, subst, append_assoc}
 use Rattle.std.specs.Prelude.{Option}
 use Rattle.sdr_base.specs.Blocks.{Block, IsKind}
-use Rattle.sdr_base.specs.Entries.{Entries, Stands}
+use Rattle.sdr_base.specs.Entries.{Entries, BlocksAre}
 use Rattle.sdr_base.specs.Objects.{Heap, OnlyShort}
 use Rattle.sdr_base.specs.ZcoObjects.{ObjectRow, object_block, object_entries}
 use Rattle.sdr_base.specs.declared.account.Amounts.{Amounts}
@@ -21,7 +21,7 @@ use Rattle.zco_obj.specs.Beside.{KeepsBeside, KeepsWithSource, SomePair, SomeWit
 use Rattle.zco_obj.specs.Charging.{ChargesObject, LacksRoom, ObjectAllows, ObjectChargeStops, ObjectRefuses}
 use Rattle.zco_obj.specs.Kept.{SomeWithQueue}
 use Rattle.zco_obj.specs.Sources.{SeesSource}
-use Rattle.zco_obj.specs.declared.extent.Piece.{Piece}
+use Rattle.zco_obj.specs.declared.extent.ExtentPiece.{ExtentPiece}
 use Rattle.zco_obj.specs.declared.seeing.SeenSource.{SeenSource}
 use Rattle.zco_obj.proofs.CauseLemmas.{object_cause}
 use Rattle.zco_obj.proofs.ChargeLemmas.{charged_moves, charged_spare, free_before, lacks_after, none_took, object_of, pays, queue_of}
@@ -36,12 +36,12 @@ of_kind o x e = subst (λ (p : Option Block). IsKind p x.kind) (sym e) refl
 -- what stands beside an object and its queue
 pub beside_stands : {heap : Heap} {object : ℕ} {row : ObjectRow} {tickets : List Ticket} {es : Entries}
     (k : KeepsBeside heap object row tickets es) →
-    Stands heap.blocks ((object_entries object row ++ queue_entries row.account tickets) ++ (es ++ k.behind))
+    BlocksAre heap.blocks ((object_entries object row ++ queue_entries row.account tickets) ++ (es ++ k.behind))
 beside_stands {heap} {object} {row} {tickets} {es} k =
     let O = object_entries object row in
     let Q = queue_entries row.account tickets in
-    subst (λ (xs : Entries). Stands heap.blocks xs) (sym (append_assoc O Q (es ++ k.behind)))
-    (subst (λ (rest : Entries). Stands heap.blocks (O ++ (Q ++ rest))) k.whole k.keeps.stands)
+    subst (λ (xs : Entries). BlocksAre heap.blocks xs) (sym (append_assoc O Q (es ++ k.behind)))
+    (subst (λ (rest : Entries). BlocksAre heap.blocks (O ++ (Q ++ rest))) k.whole k.keeps.stands)
 
 -- the object's block is of its kind
 pub object_kind : {heap : Heap} {object : ℕ} → SomeWithQueue heap object → IsKind (heap.blocks object) kinds.Object
@@ -77,7 +77,7 @@ pub object_spare : {object number : ℕ} {amounts : Amounts} {old mid : Heap} �
     ChargesObject object number amounts old mid → mid.spare ≡ old.spare
 object_spare q c = charged_spare (c.charges q.row q.tickets q.keeps) (queue_of q.keeps)
 
-module _ {object : ℕ} (number : ℕ) {old : Heap} (piece : Piece) (seen : SeenSource) (q : SomeWithSource old object piece.of)
+module _ {object : ℕ} (number : ℕ) {old : Heap} (piece : ExtentPiece) (seen : SeenSource) (q : SomeWithSource old object piece.of)
     (v : SeesSource (old.blocks piece.of) seen) where
   -- it has the bytes, so they are few
   pub piece_short : IsWithin piece seen.bytes → piece.bytes ≤ 2 ^ 40

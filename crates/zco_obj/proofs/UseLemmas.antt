@@ -2,7 +2,7 @@
 use Rattle.std.proofs.Common.{◌≡◌, ◌+◌, ◌≤◌, ◌^◌, ℕ, Bool, List, [], ◌∷◌, ◌++◌, length, true, false, Some, refl, sym, ap, ◌∙◌, arith, subst}
 use Rattle.std.specs.Prelude.{◌==◌, ◌&&◌, MatchBool, Option, if◌then◌else◌}
 use Rattle.sdr_base.specs.Blocks.{Block, Blocks, Reaches}
-use Rattle.sdr_base.specs.Entries.{Changes, Entries, Stands}
+use Rattle.sdr_base.specs.Entries.{Changes, Entries, BlocksAre}
 use Rattle.sdr_base.specs.Making.{Made, gave}
 use Rattle.sdr_base.specs.Objects.{Heap, OnlyUnmoved, with_given}
 use Rattle.sdr_base.specs.Raws.{raw_block}
@@ -33,7 +33,7 @@ use Rattle.zco_obj.specs.declared.seeing.SeenExtent.{SeenExtent}
 use Rattle.zco_obj.specs.declared.seeing.SeenSource.{SeenSource}
 use Rattle.zco_obj.proofs.WalkLemmas.{source_is}
 use Rattle.zco_ref.specs.Counting.{Becomes, DetachStops, Detaches, detached, gone_next}
-use Rattle.zco_ref.specs.Going.{Goes, goes_next, going, going_by, gone_with, is_passing, left_by, passing_blocks, word_in}
+use Rattle.zco_ref.specs.Going.{SourceGoes, goes_next, going, going_by, gone_with, is_passing, blocks_left, passing_blocks, word_in}
 use Rattle.zco_ref.specs.Kept.{CountedSource, IsTiedRaw, KeepsSource, KeepsTied, SomeAttached, SomeSource, counted_block, counted_entries, raw_part, tied_entries, uses_of}
 use Rattle.zco_ref.proofs.GoneLemmas.{unmoved}
 use Rattle.zco_ref.proofs.KeptLemmas.{flag_is, inbound_is, medium_is, outbound_is}
@@ -75,7 +75,7 @@ going_is {found} addr s k =
 
 -- a source's raw object stands with it
 raw_stands : (m : Medium) (b : Blocks) (raw addr : ℕ) (bytes : List ℕ) (xs rest : Entries) →
-    Stands b (xs ++ (raw_part m raw addr bytes ++ rest)) → IsTiedRaw m (b raw) addr bytes
+    BlocksAre b (xs ++ (raw_part m raw addr bytes ++ rest)) → IsTiedRaw m (b raw) addr bytes
 raw_stands media.Heap b raw addr bytes xs rest s = found b raw (raw_block addr bytes) xs rest s
 raw_stands media.Obj b raw addr bytes xs rest s = found b raw (raw_block addr bytes) xs rest s
 raw_stands media.File b raw addr bytes xs rest s = tt
@@ -128,7 +128,7 @@ module _ {acct : Acct} {b : Blocks} {extent : ℕ} {seen : SeenExtent} (q : Some
 -- what becomes of a source that counts one less
 pub record DetachedAs (acct : Acct) (addr : ℕ) (s : CountedSource) (bytes : List ℕ) (goes : Bool) (old mid : Heap) : Type 0 where
   pub changes : Changes old.blocks mid.blocks (tied_entries addr s bytes)
-      (if goes then left_by s.row.medium s.row.subject bytes else tied_entries addr (detached acct s) bytes)
+      (if goes then blocks_left s.row.medium s.row.subject bytes else tied_entries addr (detached acct s) bytes)
   pub made : Made (gave (if goes then gone_with s.row.medium s.row.subject addr else [])) old mid
 
 -- its raw object stays beside it
@@ -143,7 +143,7 @@ wider accts.Outbound addr s bytes old mid c = record {
 }
 
 detached_as : (acct : Acct) (addr : ℕ) (s : CountedSource) (bytes : List ℕ) (old mid : Heap) (goes : Bool) →
-    MatchBool goes (Goes addr s bytes old mid) (Becomes addr s (detached acct s) old mid) → DetachedAs acct addr s bytes goes old mid
+    MatchBool goes (SourceGoes addr s bytes old mid) (Becomes addr s (detached acct s) old mid) → DetachedAs acct addr s bytes goes old mid
 detached_as acct addr s bytes old mid true g = record { changes = g.changes; made = g.made }
 detached_as acct addr s bytes old mid false g = record {
   changes = wider acct addr s bytes old.blocks mid.blocks g.changes;
@@ -159,13 +159,13 @@ module _ {acct : Acct} (extent : ℕ) {old mid : Heap} {gone : Bool} (seen : See
         let t = use_tied u in
         let there : Detaches e.source acct old mid gone = subst (λ n. Detaches n acct old mid gone) at d in
         detached_as acct e.source s bytes old mid (goes_next s)
-        (subst (λ (b : Bool). MatchBool b (Goes e.source s bytes old mid) (Becomes e.source s (detached acct s) old mid))
+        (subst (λ (b : Bool). MatchBool b (SourceGoes e.source s bytes old mid) (Becomes e.source s (detached acct s) old mid))
         (there.told s t.keeps) (there.does s bytes t))
 
     -- the extent is there still
     extent_behind : (rest : Entries) →
-        Stands old.blocks ((extent, extent_block 0 next e) ∷ (tied_entries e.source s bytes ++ rest)) →
-        Stands mid.blocks (left_next acct e.source s bytes ++ ((extent, extent_block 0 next e) ∷ rest))
+        BlocksAre old.blocks ((extent, extent_block 0 next e) ∷ (tied_entries e.source s bytes ++ rest)) →
+        BlocksAre mid.blocks (left_next acct e.source s bytes ++ ((extent, extent_block 0 next e) ∷ rest))
     extent_behind rest st =
         use_detached.changes.kept ((extent, extent_block 0 next e) ∷ rest)
         (moved ((extent, extent_block 0 next e) ∷ []) (tied_entries e.source s bytes) rest st)
@@ -192,7 +192,7 @@ module _ {acct : Acct} (extent : ℕ) {old mid : Heap} {gone : Bool} (seen : See
         record {
           changes = record {
             kept = λ rest st.
-                subst (λ (b : Blocks). Stands b (left_next acct e.source s bytes ++ rest)) (sym (given_blocks extent mid new g))
+                subst (λ (b : Blocks). BlocksAre b (left_next acct e.source s bytes ++ rest)) (sym (given_blocks extent mid new g))
                 (went mid.blocks extent (extent_block 0 next e) (left_next acct e.source s bytes) rest (extent_behind u rest st));
           };
           made = one_gave (gone_next e.source s) extent (use_detached u).made g;

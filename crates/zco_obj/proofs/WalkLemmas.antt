@@ -4,7 +4,7 @@ use Rattle.std.specs.Prelude.{All, sum_by}
 use Rattle.std.proofs.lemmas.List.Elements.{All-head, All-tail}
 use Rattle.std.proofs.lemmas.List.Sums.{sum_by_push}
 use Rattle.sdr_base.specs.Blocks.{Block, Blocks, Reaches, kind_length}
-use Rattle.sdr_base.specs.Entries.{Entries, Stands}
+use Rattle.sdr_base.specs.Entries.{Entries, BlocksAre}
 use Rattle.sdr_base.specs.Linked.{first_of, last_of, linked}
 use Rattle.sdr_base.specs.Words.{HasWord}
 use Rattle.sdr_base.specs.ZcoObjects.{CapsuleRow, ExtentRow, capsule_addr, capsule_block, extent_addr, extent_block}
@@ -108,10 +108,10 @@ module _ {X : Type 0} (P : X → Type 0) (addr : X → ℕ) (block : ℕ → ℕ
   none_at_zero {blocks} {first} {cursor} {xs} c passed (y ∷ ys) w a z =
       let found =
       linked_found addr block blocks [] c.rest 0 0 passed y ys
-      (subst (λ (l : List X). Stands blocks (linked addr block 0 0 l ++ c.rest)) w c.stands) in
+      (subst (λ (l : List X). BlocksAre blocks (linked addr block 0 0 l ++ c.rest)) w c.stands) in
       absurd (null_free c.stands found (sym a ∙ z))
     where
-      null_free : {es : Entries} {p : ℕ} {o : Block} → Stands blocks es → blocks p ≡ Some o → p ≢ 0
+      null_free : {es : Entries} {p : ℕ} {o : Block} → BlocksAre blocks es → blocks p ≡ Some o → p ≢ 0
       null_free {es} {p} {o} s f e =
           let n : blocks 0 ≡ None = s.same 0 ∙ at-nowhere 0 es s.null in
           let k : None ≡ Some o = sym n ∙ ap blocks (sym e) ∙ f in cc
@@ -122,7 +122,7 @@ module _ {X : Type 0} (P : X → Type 0) (addr : X → ℕ) (block : ℕ → ℕ
         blocks (addr x) ≡ Some (block (last_of addr 0 passed) (first_of addr 0 behind) x)
     one_found passed x behind w =
         linked_found addr block blocks [] c.rest 0 0 passed x behind
-        (subst (λ (l : List X). Stands blocks (linked addr block 0 0 l ++ c.rest)) w c.stands)
+        (subst (λ (l : List X). BlocksAre blocks (linked addr block 0 0 l ++ c.rest)) w c.stands)
 
     pub fits_left : (passed left : List X) → xs ≡ passed ++ left → All P left
     fits_left passed left w = fits_from P passed left (subst (All P) w c.fits)

@@ -14,34 +14,34 @@ use Rattle.sdr_model.specs.Things.{extent_need, source_need}
 use Rattle.zco_obj.specs.Amounts.{extent_amounts, source_space}
 use Rattle.zco_obj.specs.Appending.{HasPiece, MayName, OfRaw, OfSource}
 use Rattle.zco_obj.specs.Charging.{LacksBlock, LacksRoom, ObjectAllows, ObjectRefuses}
-use Rattle.zco_obj.specs.declared.extent.Piece.{Piece}
+use Rattle.zco_obj.specs.declared.extent.ExtentPiece.{ExtentPiece}
 use Rattle.zco_ref.specs.Kept.{CountedSource}
 use Rattle.zco_ref.specs.Naming.{RawStops}
 
 -- a piece is refused for its range: it has no byte, or doesn't lie within so many
-abbrev pub RangeRefused : Piece → ℕ → Stop → Type 0
+abbrev pub RangeRefused : ExtentPiece → ℕ → Stop → Type 0
 RangeRefused piece have (Refused (refusals.BadRange offset bytes most)) =
     (offset ≡ piece.offset) × (bytes ≡ piece.bytes) × (most ≡ have)
     × ((piece.bytes ≡ 0) ⊎ (have < piece.offset + piece.bytes))
 RangeRefused piece have stop = ⊥
 
 -- an extent may name this piece of a source, and the object's account allows its charge
-pub record SourceAllowed (object number : ℕ) (piece : Piece) (heap : Heap) (source : CountedSource) : Type 0 where
+pub record SourceAllowed (object number : ℕ) (piece : ExtentPiece) (heap : Heap) (source : CountedSource) : Type 0 where
   pub may : MayName piece source
   pub allows : ObjectAllows object number (extent_amounts (source_space source) piece.bytes) heap
 
 -- an extent may name it, and the object's account has this cause to refuse
-pub record SourceRefused (object number : ℕ) (piece : Piece) (heap : Heap) (refusal : Refusal) (source : CountedSource) : Type 0 where
+pub record SourceRefused (object number : ℕ) (piece : ExtentPiece) (heap : Heap) (refusal : Refusal) (source : CountedSource) : Type 0 where
   pub may : MayName piece source
   pub refuses : ObjectRefuses object number (extent_amounts (source_space source) piece.bytes) heap refusal
 
 -- the source isn't flagged, and the piece is refused for its range
-abbrev pub OutsideSource : Piece → Refusal → CountedSource → Type 0
+abbrev pub OutsideSource : ExtentPiece → Refusal → CountedSource → Type 0
 OutsideSource piece refusal source = (source.row.flagged ≡ false) × RangeRefused piece source.row.length (Refused refusal)
 
 -- why no piece of a source is appended: the source is flagged, or has not the bytes, or the object's account refuses, in this
 -- order, and all is as before; or there is no block for the extent, or no log room; or a fault
-abbrev pub SourceStops : ℕ → ℕ → Piece → Heap → Heap → Stop → Type 0
+abbrev pub SourceStops : ℕ → ℕ → ExtentPiece → Heap → Heap → Stop → Type 0
 SourceStops object number piece old new (Refused refusals.NotFound) =
     OfSource (λ source. source.row.flagged ≡ true) object piece.of old × (new ≡ old)
 SourceStops object number piece old new (Refused (refusals.BadRange offset bytes have)) =
@@ -57,12 +57,12 @@ SourceStops object number piece old new (Refused refusal) =
 SourceStops object number piece old new stop = OnlyFault stop
 
 -- a raw object of these bytes has the piece, and the object's account allows the charge
-pub record RawAllowed (object number : ℕ) (piece : Piece) (heap : Heap) (bytes : List ℕ) : Type 0 where
+pub record RawAllowed (object number : ℕ) (piece : ExtentPiece) (heap : Heap) (bytes : List ℕ) : Type 0 where
   pub has : HasPiece piece bytes
   pub allows : ObjectAllows object number (extent_amounts spaces.Heap piece.bytes) heap
 
 -- it has the piece, and the object's account has this cause to refuse
-pub record RawRefused (object number : ℕ) (piece : Piece) (heap : Heap) (refusal : Refusal) (bytes : List ℕ) : Type 0 where
+pub record RawRefused (object number : ℕ) (piece : ExtentPiece) (heap : Heap) (refusal : Refusal) (bytes : List ℕ) : Type 0 where
   pub has : HasPiece piece bytes
   pub refuses : ObjectRefuses object number (extent_amounts spaces.Heap piece.bytes) heap refusal
 
@@ -91,7 +91,7 @@ LacksRooms first second old new (Refused refusal) = ⊥
 LacksRooms first second old new stop = OnlyFault stop
 
 -- the block of an object stands there, and none of a source at the other address, for which the call is refused
-pub record NamesNoRaw (object : ℕ) (piece : Piece) (heap : Heap) (refusal : Refusal) : Type 0 where
+pub record NamesNoRaw (object : ℕ) (piece : ExtentPiece) (heap : Heap) (refusal : Refusal) : Type 0 where
   pub is_object : IsKind (heap.blocks object) kinds.Object
   pub other : IsKind (heap.blocks piece.of) kinds.Source → ⊥
   pub stops : RawStops heap.blocks piece.of (Refused refusal)
@@ -99,7 +99,7 @@ pub record NamesNoRaw (object : ℕ) (piece : Piece) (heap : Heap) (refusal : Re
 -- why no piece of a raw object is appended: for its address, or since a source names it, or since it has not the bytes, or the
 -- object's account refuses, in this order, and all is as before; or there is no block for the source or for the extent, or no
 -- log room; or a fault
-abbrev pub RawPieceStops : ℕ → ℕ → Piece → Heap → Heap → Stop → Type 0
+abbrev pub RawPieceStops : ℕ → ℕ → ExtentPiece → Heap → Heap → Stop → Type 0
 RawPieceStops object number piece old new (Refused (refusals.BadAddress bad)) =
     NamesNoRaw object piece old (refusals.BadAddress bad) × (new ≡ old)
 RawPieceStops object number piece old new (Refused (refusals.WrongKind bad kind)) =
@@ -119,7 +119,7 @@ RawPieceStops object number piece old new (Refused refusal) =
 RawPieceStops object number piece old new stop = OnlyFault stop
 
 -- why none was: for the object, and all is as before; or else for what it is of
-abbrev pub AppendStops : ℕ → ℕ → Piece → Heap → Heap → Stop → Type 0
+abbrev pub AppendStops : ℕ → ℕ → ExtentPiece → Heap → Heap → Stop → Type 0
 AppendStops object number piece old new (Refused refusal) =
     (Misses (old.blocks object) object kinds.Object (Refused refusal) × (new ≡ old))
     ⊎ (SourceStops object number piece old new (Refused refusal) ⊎ RawPieceStops object number piece old new (Refused refusal))

@@ -16,14 +16,14 @@ use Rattle.zco_obj.specs.Amounts.{extent_amounts, source_space}
 use Rattle.zco_obj.specs.Beside.{KeepsPair, KeepsWithRaw, KeepsWithSource}
 use Rattle.zco_obj.specs.Charging.{IsFree, Pays}
 use Rattle.zco_obj.specs.Extents.{extent_of, with_extent}
-use Rattle.zco_obj.specs.declared.extent.Piece.{Piece}
+use Rattle.zco_obj.specs.declared.extent.ExtentPiece.{ExtentPiece}
 use Rattle.zco_ref.specs.Counting.{attached}
 use Rattle.zco_ref.specs.Kept.{CountedSource, KeepsRaw, KeepsSource, counted_entries}
 use Rattle.zco_ref.specs.Making.{plain_row, unused}
 use Rattle.zco_ref.specs.Naming.{IsUnnamed}
 
 -- whichever object and source are kept, the object has an extent of this piece more, which is last, and it is counted
-pub record NamesSource (object : ℕ) (piece : Piece) (old new : Heap) : Type 0 where
+pub record NamesSource (object : ℕ) (piece : ExtentPiece) (old new : Heap) : Type 0 where
   pub addr : ℕ
   pub new_block : IsFree old.blocks addr
   pub names : (row : ObjectRow) (source : CountedSource) → KeepsPair old.blocks object row piece.of source →
@@ -32,7 +32,7 @@ pub record NamesSource (object : ℕ) (piece : Piece) (old new : Heap) : Type 0 
   pub made : Made (Took extent_need addr ∷ []) old new
 
 -- the piece has a byte at least, and lies within so many
-pub record IsWithin (piece : Piece) (have : ℕ) : Type 0 where
+pub record IsWithin (piece : ExtentPiece) (have : ℕ) : Type 0 where
   pub some : 1 ≤ piece.bytes
   pub within : piece.offset + piece.bytes ≤ have
 
@@ -43,13 +43,13 @@ pub record OfSource (P : CountedSource → Type 0) (object addr : ℕ) (heap : H
   pub holds : (source : CountedSource) → KeepsSource (heap.blocks addr) source → P source
 
 -- an extent may name this piece of a source: the source isn't flagged, and has the bytes
-pub record MayName (piece : Piece) (source : CountedSource) : Type 0 where
+pub record MayName (piece : ExtentPiece) (source : CountedSource) : Type 0 where
   pub unflagged : source.row.flagged ≡ false
   pub within : IsWithin piece source.row.length
 
 -- whichever object and source are kept, the object has an extent of this piece more, which is last, the source counts it, and
 -- the object's account is charged for it
-pub record AppendsSource (object number : ℕ) (piece : Piece) (old new : Heap) : Type 0 where
+pub record AppendsSource (object number : ℕ) (piece : ExtentPiece) (old new : Heap) : Type 0 where
   pub may : OfSource (MayName piece) object piece.of old
   pub addr : ℕ
   pub new_block : IsFree old.blocks addr
@@ -66,11 +66,11 @@ pub record OfRaw (P : List ℕ → Type 0) (object raw : ℕ) (heap : Heap) : Ty
   pub holds : (bytes : List ℕ) → KeepsRaw (heap.blocks raw) 0 bytes → P bytes
 
 -- the raw object has the bytes
-abbrev pub HasPiece : Piece → List ℕ → Type 0
+abbrev pub HasPiece : ExtentPiece → List ℕ → Type 0
 HasPiece piece bytes = IsWithin piece (length bytes)
 
 -- this piece of a raw object, as one of the source that takes it over
-abbrev pub taken_piece : ℕ → Piece → Piece
+abbrev pub taken_piece : ℕ → ExtentPiece → ExtentPiece
 taken_piece source piece = record piece { of = source }
 
 -- a source of a raw object of these bytes that it has taken over, and which no extent names
@@ -79,7 +79,7 @@ taking_over raw bytes = unused (plain_row media.Heap raw (length bytes))
 
 -- whichever object and raw object are kept, a new source has taken that over, the object has an extent of this piece of it
 -- more, which is last, the source counts it, and the object's account is charged for it
-pub record AppendsRaw (object number : ℕ) (piece : Piece) (old new : Heap) : Type 0 where
+pub record AppendsRaw (object number : ℕ) (piece : ExtentPiece) (old new : Heap) : Type 0 where
   pub may : OfRaw (HasPiece piece) object piece.of old
   pub source : ℕ
   pub addr : ℕ
@@ -93,5 +93,5 @@ pub record AppendsRaw (object number : ℕ) (piece : Piece) (old new : Heap) : T
       ++ (counted_entries source (attached row.account (taking_over piece.of bytes)) ++ raw_entries piece.of source bytes)) old new
 
 -- a piece of a source was appended, or one of a raw object
-abbrev pub AppendsPiece : ℕ → ℕ → Piece → Heap → Heap → Type 0
+abbrev pub AppendsPiece : ℕ → ℕ → ExtentPiece → Heap → Heap → Type 0
 AppendsPiece object number piece old new = AppendsSource object number piece old new ⊎ AppendsRaw object number piece old new

@@ -1,7 +1,7 @@
 -- An object that is kept with its queue, and a source or a raw object that stands beside it.
 use Rattle.std.specs.Prelude.{◌≡◌, ◌≢◌, ◌<◌, ◌≤◌, ◌^◌, ℕ, List, ◌++◌, length}
 use Rattle.sdr_base.specs.Blocks.{Blocks, IsKind}
-use Rattle.sdr_base.specs.Entries.{Entries, Stands}
+use Rattle.sdr_base.specs.Entries.{Entries, BlocksAre}
 use Rattle.sdr_base.specs.Objects.{Heap}
 use Rattle.sdr_base.specs.Raws.{raw_entries}
 use Rattle.sdr_base.specs.ZcoObjects.{ObjectRow, object_entries}
@@ -61,7 +61,7 @@ IsWithRaw heap object raw =
 -- these blocks keep an object, and beside it a source which one extent more of its account may name
 pub record KeepsPair (blocks : Blocks) (object : ℕ) (row : ObjectRow) (addr : ℕ) (source : CountedSource) : Type 0 where
   pub rest : Entries
-  pub stands : Stands blocks (object_entries object row ++ (counted_entries addr source ++ rest))
+  pub stands : BlocksAre blocks (object_entries object row ++ (counted_entries addr source ++ rest))
   pub object_fits : ObjectFits row
   pub source_fits : SourceFits source
   pub below : count_in row.account source < 2 ^ 62

@@ -1,7 +1,7 @@
 -- The end of an object, and when it is refused.
 use Rattle.std.specs.Prelude.{◌≡◌, ◌+◌, ◌*◌, ◌≤◌, ℕ, List, [], ◌∷◌, ◌++◌, length, map}
 use Rattle.sdr_base.specs.Blocks.{Blocks, IsKind}
-use Rattle.sdr_base.specs.Entries.{Changes, Entries, Stands}
+use Rattle.sdr_base.specs.Entries.{Changes, Entries, BlocksAre}
 use Rattle.sdr_base.specs.Making.{GaveSome, Made, besides, gave, with_moves}
 use Rattle.sdr_base.specs.Objects.{Heap, Misses, OnlyFault}
 use Rattle.sdr_base.specs.ZcoObjects.{CapsuleRow, ObjectRow, capsule_addr, object_block, object_entries}
@@ -17,13 +17,13 @@ use Rattle.sdr_model.specs.Charges.{capsule_bytes, object_bytes}
 use Rattle.zco_acct.specs.Words.{occupied_in, with_occupied}
 use Rattle.zco_obj.specs.Amounts.{charge_of}
 use Rattle.zco_obj.specs.Uses.{AreNamed, uses_lines}
-use Rattle.zco_obj.specs.Gone.{NamedSource, extent_charge, gone_blocks, sources_entries, sources_left}
+use Rattle.zco_obj.specs.Gone.{NamedSource, extent_row_charge, gone_blocks, sources_entries, sources_left}
 use Rattle.zco_obj.specs.Kept.{ObjectFits}
 
 -- these blocks keep an object, and the sources that its extents name beside it
 pub record KeepsSources (blocks : Blocks) (object : ℕ) (row : ObjectRow) (sources : List NamedSource) : Type 0 where
   pub rest : Entries
-  pub stands : Stands blocks (object_entries object row ++ (sources_entries sources ++ rest))
+  pub stands : BlocksAre blocks (object_entries object row ++ (sources_entries sources ++ rest))
   pub fits : ObjectFits row
   pub named : AreNamed row.account row.extents sources
 
@@ -49,12 +49,12 @@ abbrev pub IsWithSources : Heap → ℕ → Type 0
 IsWithSources heap object = IsKind (heap.blocks object) kinds.Object → SomeWithSources heap object
 
 -- what a header or trailer charges of a space
-abbrev pub capsule_charge : Space → CapsuleRow → ℕ
-capsule_charge space c = in_space spaces.Heap (capsule_bytes (length c.text)) space
+abbrev pub capsule_row_charge : Space → CapsuleRow → ℕ
+capsule_row_charge space c = in_space spaces.Heap (capsule_bytes (length c.text)) space
 
 -- what the parts of an object charge, where it charges so much of each space for itself
 abbrev pub charges_with : (Space → ℕ) → ObjectRow → List NamedSource → Amounts
-charges_with own row sources = amounts_by (λ space. charge_of (own space) (extent_charge sources space) (capsule_charge space) row)
+charges_with own row sources = amounts_by (λ space. charge_of (own space) (extent_row_charge sources space) (capsule_row_charge space) row)
 
 -- what the parts of an object charge
 abbrev pub parts_amounts : ObjectRow → List NamedSource → Amounts
@@ -72,7 +72,8 @@ parts_lines row sources = 24 * length row.headers + uses_lines row.extents sourc
 -- the others stand
 pub record PartsGone (object : ℕ) (row : ObjectRow) (sources : List NamedSource) (rest : Entries) (old new : Heap) (charged : Amounts)
     : Type 0 where
-  pub stands : Stands new.blocks ((object, object_block row) ∷ (sources_left row.account row.extents sources ++ rest))
+  pub stands : BlocksAre new.blocks
+      ((object, object_block row) ∷ (sources_left row.account row.extents sources ++ rest))
   pub made : Made (gave (gone_parts row sources)) old new
   pub charge : charged ≡ parts_amounts row sources
 

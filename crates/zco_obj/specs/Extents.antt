@@ -12,7 +12,7 @@ use Rattle.sdr_base.specs.declared.moves.Move.TheVariants.{Took}
 use Rattle.sdr_model.specs.Things.{extent_need}
 use Rattle.zco_obj.specs.Charging.{IsFree}
 use Rattle.zco_obj.specs.Kept.{KeepsObject, extents_length}
-use Rattle.zco_obj.specs.declared.extent.Piece.{Piece}
+use Rattle.zco_obj.specs.declared.extent.ExtentPiece.{ExtentPiece}
 
 -- the length of an object's part once so many bytes came: the part grows where it reached the end of what is there
 abbrev pub grown : ObjectRow → ℕ → ℕ
@@ -55,11 +55,11 @@ pub record SetsPart (object : ℕ) (of : ObjectRow → ℕ) (old new : Heap) : T
   pub same : besides new ≡ besides old
 
 -- the extent at an address that names this part of a source
-abbrev pub extent_of : ℕ → Piece → ExtentRow
+abbrev pub extent_of : ℕ → ExtentPiece → ExtentRow
 extent_of addr piece = record { addr = addr; source = piece.of; offset = piece.offset; length = piece.bytes }
 
 -- whichever object is kept has one more extent, which is last, and all else stays
-pub record AddsExtent (object : ℕ) (piece : Piece) (old new : Heap) : Type 0 where
+pub record AddsExtent (object : ℕ) (piece : ExtentPiece) (old new : Heap) : Type 0 where
   pub addr : ℕ
   pub new_block : IsFree old.blocks addr
   pub adds : (row : ObjectRow) → KeepsObject old.blocks object row →

@@ -1,6 +1,6 @@
 -- Headers and trailers that are given back, the first one of a chain first.
 use Rattle.std.specs.Prelude.{◌≡◌, ◌≤◌, ℕ, List, length, map, sum_by}
-use Rattle.sdr_base.specs.Entries.{Entries, Stands}
+use Rattle.sdr_base.specs.Entries.{Entries, BlocksAre}
 use Rattle.sdr_base.specs.Making.{GaveSome, Made, gave}
 use Rattle.sdr_base.specs.Objects.{Heap, OnlyFault}
 use Rattle.sdr_base.specs.ZcoObjects.{CapsuleRow, capsule_addr}
@@ -29,7 +29,7 @@ capsules_charge = sum_by (λ c. capsule_bytes (length c.text))
 
 -- these headers or trailers were given back, what they charge is so much, and the other blocks stand
 pub record CapsulesGone (rows : List CapsuleRow) (rest : Entries) (old new : Heap) (charged : ℕ) : Type 0 where
-  pub stands : Stands new.blocks rest
+  pub stands : BlocksAre new.blocks rest
   pub made : Made (gave (map capsule_addr rows)) old new
   pub charge : charged ≡ capsules_charge rows
 

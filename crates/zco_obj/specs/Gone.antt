@@ -10,7 +10,7 @@ use Rattle.sdr_model.specs.Amounts.{amounts_by}
 use Rattle.sdr_model.specs.Charges.{bytes_charge}
 use Rattle.zco_obj.specs.Amounts.{source_space}
 use Rattle.zco_ref.specs.Counting.{with_count}
-use Rattle.zco_ref.specs.Going.{gone_with, is_passing, left_by}
+use Rattle.zco_ref.specs.Going.{gone_with, is_passing, blocks_left}
 use Rattle.zco_ref.specs.Kept.{CountedSource, count_in, tied_entries, uses_of}
 
 -- a source with its address, and with the bytes of its raw object where it has one
@@ -44,7 +44,7 @@ less_uses acct n source = with_count acct (count_in acct source - n) source
 -- the blocks that are left of a source once these extents of an account are gone
 abbrev pub left_of : Acct → List ExtentRow → NamedSource → Entries
 left_of acct extents s =
-    if goes_with extents s then left_by s.source.row.medium s.source.row.subject s.bytes
+    if goes_with extents s then blocks_left s.source.row.medium s.source.row.subject s.bytes
     else tied_entries s.addr (less_uses acct (naming s.addr extents) s.source) s.bytes
 
 -- the blocks that are left of these sources
@@ -69,9 +69,9 @@ space_in None = spaces.Heap
 space_in (Some s) = source_space s.source
 
 -- what an extent charges of a space
-abbrev pub extent_charge : List NamedSource → Space → ExtentRow → ℕ
-extent_charge sources space e = bytes_charge (space_in (source_at e.source sources)) e.length space
+abbrev pub extent_row_charge : List NamedSource → Space → ExtentRow → ℕ
+extent_row_charge sources space e = bytes_charge (space_in (source_at e.source sources)) e.length space
 
 -- what these extents charge
 abbrev pub extents_amounts : List NamedSource → List ExtentRow → Amounts
-extents_amounts sources extents = amounts_by (λ space. sum_by (extent_charge sources space) extents)
+extents_amounts sources extents = amounts_by (λ space. sum_by (extent_row_charge sources space) extents)

@@ -1,7 +1,7 @@
 -- Zero-copy objects that are kept in a heap.
 use Rattle.std.specs.Prelude.{◌≡◌, ◌+◌, ◌<◌, ◌≤◌, ◌^◌, ℕ, List, ◌++◌, length, sum_by, All}
 use Rattle.sdr_base.specs.Blocks.{Blocks, IsKind}
-use Rattle.sdr_base.specs.Entries.{Entries, Stands}
+use Rattle.sdr_base.specs.Entries.{Entries, BlocksAre}
 use Rattle.sdr_base.specs.Linked.{first_of, last_of}
 use Rattle.sdr_base.specs.Objects.{Heap}
 use Rattle.sdr_base.specs.ZcoObjects.{CapsuleRow, ExtentRow, ObjectRow, object_entries}
@@ -45,7 +45,7 @@ pub record ObjectFits (row : ObjectRow) : Type 0 where
 -- an object is kept among these blocks
 pub record KeepsObject (blocks : Blocks) (object : ℕ) (row : ObjectRow) : Type 0 where
   pub rest : Entries
-  pub stands : Stands blocks (object_entries object row ++ rest)
+  pub stands : BlocksAre blocks (object_entries object row ++ rest)
   pub fits : ObjectFits row
 
 -- some object is kept there
@@ -60,7 +60,7 @@ IsObject blocks object = IsKind (blocks object) kinds.Object → SomeObject bloc
 -- the heap keeps an object, and these tickets in the queue of its account
 pub record KeepsWithQueue (heap : Heap) (object : ℕ) (row : ObjectRow) (tickets : List Ticket) : Type 0 where
   pub rest : Entries
-  pub stands : Stands heap.blocks (object_entries object row ++ (queue_entries row.account tickets ++ rest))
+  pub stands : BlocksAre heap.blocks (object_entries object row ++ (queue_entries row.account tickets ++ rest))
   pub fits : ObjectFits row
   pub first : heap.roots (first_word row.account) ≡ first_of block_of 0 tickets
   pub last : heap.roots (last_word row.account) ≡ last_of block_of 0 tickets

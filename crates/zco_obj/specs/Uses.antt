@@ -1,7 +1,7 @@
 -- Extents that are given back, each after what goes with it.
 use Rattle.std.specs.Prelude.{◌≡◌, ◌+◌, ◌*◌, ◌<◌, ◌≤◌, ◌^◌, ℕ, List, [], ◌∷◌, ◌++◌, length, All, Option, None, Some, if◌then◌else◌}
 use Rattle.sdr_base.specs.Blocks.{Blocks}
-use Rattle.sdr_base.specs.Entries.{Changes, Entries, Stands}
+use Rattle.sdr_base.specs.Entries.{Changes, Entries, BlocksAre}
 use Rattle.sdr_base.specs.Linked.{first_of}
 use Rattle.sdr_base.specs.Making.{GaveSome, Made, gave}
 use Rattle.sdr_base.specs.Objects.{Heap, OnlyFault}
@@ -17,14 +17,14 @@ use Rattle.zco_obj.specs.Gone.{NamedSource, extents_amounts, gone_blocks, naming
 use Rattle.zco_obj.specs.Kept.{ExtentFits}
 use Rattle.zco_obj.specs.declared.destroying.GivenExtent.{GivenExtent}
 use Rattle.zco_ref.specs.Counting.{detached, gone_next}
-use Rattle.zco_ref.specs.Going.{goes_next, going, left_by, word_in}
+use Rattle.zco_ref.specs.Going.{goes_next, going, blocks_left, word_in}
 use Rattle.zco_ref.specs.Kept.{CountedSource, SourceFits, count_in, tied_entries}
 
 -- an extent stands there before another, and the source that it names with its raw object; an extent of the account names it
 pub record UseAt (acct : Acct) (blocks : Blocks) (extent next : ℕ) (e : ExtentRow) (source : CountedSource) (bytes : List ℕ)
     : Type 0 where
   pub rest : Entries
-  pub stands : Stands blocks ((extent, extent_block 0 next e) ∷ (tied_entries e.source source bytes ++ rest))
+  pub stands : BlocksAre blocks ((extent, extent_block 0 next e) ∷ (tied_entries e.source source bytes ++ rest))
   pub extent_fits : ExtentFits e
   pub next_fits : next < 2 ^ 64
   pub source_fits : SourceFits source
@@ -45,7 +45,7 @@ going_with blocks extent = going (blocks (word_in (blocks extent) SOURCE))
 -- the blocks that are left of a source where an extent less of the account names it
 abbrev pub left_next : Acct → ℕ → CountedSource → List ℕ → Entries
 left_next acct addr source bytes =
-    if goes_next source then left_by source.row.medium source.row.subject bytes else tied_entries addr (detached acct source) bytes
+    if goes_next source then blocks_left source.row.medium source.row.subject bytes else tied_entries addr (detached acct source) bytes
 
 -- the extent was given back, and before it what goes with it; this is what it charged, and the next one
 pub record UseGone (acct : Acct) (extent next : ℕ) (e : ExtentRow) (source : CountedSource) (bytes : List ℕ) (old new : Heap)
@@ -89,7 +89,7 @@ pub record AreNamed (acct : Acct) (extents : List ExtentRow) (sources : List Nam
 -- extents of an account are a chain there, and their sources stand beside
 pub record UsesAt (acct : Acct) (blocks : Blocks) (first : ℕ) (extents : List ExtentRow) (sources : List NamedSource) : Type 0 where
   pub rest : Entries
-  pub stands : Stands blocks (extent_entries extents ++ (sources_entries sources ++ rest))
+  pub stands : BlocksAre blocks (extent_entries extents ++ (sources_entries sources ++ rest))
   pub at_first : first ≡ first_of extent_addr 0 extents
   pub fits : All ExtentFits extents
   pub few : length extents < 2 ^ 22
@@ -109,7 +109,7 @@ uses_lines extents sources = 24 * length (gone_blocks sources extents extents) +
 -- these extents were given back, each after what goes with it; this is what they charged, and the other blocks stand
 pub record ExtentsGone (acct : Acct) (extents : List ExtentRow) (sources : List NamedSource) (rest : Entries) (old new : Heap)
     (charged : Amounts) : Type 0 where
-  pub stands : Stands new.blocks (sources_left acct extents sources ++ rest)
+  pub stands : BlocksAre new.blocks (sources_left acct extents sources ++ rest)
   pub made : Made (gave (gone_blocks sources extents extents)) old new
   pub charge : charged ≡ extents_amounts sources extents
 

@@ -1,7 +1,7 @@
 -- Chains of headers, extents and trailers, and how far one was walked.
 use Rattle.std.specs.Prelude.{◌≡◌, ◌<◌, ◌^◌, ℕ, List, [], ◌∷◌, ◌++◌, length, sum_by, All, Option, Some}
 use Rattle.sdr_base.specs.Blocks.{Block, Blocks}
-use Rattle.sdr_base.specs.Entries.{Entries, Stands}
+use Rattle.sdr_base.specs.Entries.{Entries, BlocksAre}
 use Rattle.sdr_base.specs.Linked.{first_of, last_of, linked}
 use Rattle.sdr_base.specs.ZcoObjects.{CapsuleRow, ExtentRow, capsule_addr, capsule_block, extent_addr, extent_block}
 use Rattle.zco_obj.specs.Kept.{CapsuleFits, ExtentFits}
@@ -48,7 +48,7 @@ pub record SeesExtent (found : Option Block) (seen : SeenExtent) : Type 0 where
 pub record ChainAt {X : Type 0} (P : X → Type 0) (addr : X → ℕ) (block : ℕ → ℕ → X → Block) (blocks : Blocks) (first : ℕ)
     (xs : List X) : Type 0 where
   pub rest : Entries
-  pub stands : Stands blocks (linked addr block 0 0 xs ++ rest)
+  pub stands : BlocksAre blocks (linked addr block 0 0 xs ++ rest)
   pub at_first : first ≡ first_of addr 0 xs
   pub fits : All P xs
   pub few : length xs < 2 ^ 22

@@ -1,7 +1,7 @@
 // Headers and trailers that come.
 ghost use Rattle.std.specs.Prelude.{◌≡◌, ◌≤◌, ◌+◌, ◌/◌, length, IfErr, OnOk};
 ghost use Rattle.sdr_base.specs.Moves.{KeepsSome};
-ghost use Rattle.sdr_base.specs.Works.{Works};
+ghost use Rattle.sdr_base.specs.Works.{Spends};
 ghost use Rattle.zco_obj.specs.Capsules.{AddsCapsule, CapsuleStops, ChargesCapsule, IsCapsuleLength, TextRefused};
 ghost use Rattle.zco_obj.specs.Capsules.{with_header, with_trailer};
 ghost use Rattle.zco_obj.specs.Kept.{IsWithQueue};
@@ -27,7 +27,7 @@ pub fn prepend_header<O: Objects>(
         (AddsCapsule with_header object ticket text.now (O.heap o.old) (O.heap o.new)) }
     ensures refused { IfErr result
         (CapsuleStops object ticket text.now (O.heap o.old) (O.heap o.new)) }
-    ensures works { Works O.HasHeap
+    ensures works { Spends O.HasHeap
         (35 + (TEXT_FROM + length text.now) / 32) o.old o.new result }
 {
     charge_capsule(o, object, ticket, text)?;
@@ -51,7 +51,7 @@ pub fn append_trailer<O: Objects>(
         (AddsCapsule with_trailer object ticket text.now (O.heap o.old) (O.heap o.new)) }
     ensures refused { IfErr result
         (CapsuleStops object ticket text.now (O.heap o.old) (O.heap o.new)) }
-    ensures works { Works O.HasHeap
+    ensures works { Spends O.HasHeap
         (35 + (TEXT_FROM + length text.now) / 32) o.old o.new result }
 {
     charge_capsule(o, object, ticket, text)?;
@@ -68,7 +68,7 @@ fn charge_capsule<O: Objects>(o: &mut O, object: Addr, ticket: u64, text: &[u8])
         (ChargesCapsule object ticket text.now (O.heap o.old) (O.heap o.new)) }
     ensures refused { IfErr result
         (CapsuleStops object ticket text.now (O.heap o.old) (O.heap o.new)) }
-    ensures works { Works O.HasHeap 5 o.old o.new result }
+    ensures works { Spends O.HasHeap 5 o.old o.new result }
 {
     expect_kind(o, object, Kind::Object)?;
     check_text(text.len() as u64)?;

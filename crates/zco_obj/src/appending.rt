@@ -3,7 +3,7 @@ ghost use Rattle.std.specs.Prelude.{◌≡◌, ◌≤◌, IfErr, OnOk};
 ghost use Rattle.sdr_base.specs.Blocks.{IsKind};
 ghost use Rattle.sdr_base.specs.Moves.{KeepsSome};
 ghost use Rattle.sdr_base.specs.Objects.{OnlyShort};
-ghost use Rattle.sdr_base.specs.Works.{Works};
+ghost use Rattle.sdr_base.specs.Works.{Spends};
 ghost use Rattle.sdr_base.specs.declared.kind.Kind.TheVariants as kinds;
 ghost use Rattle.sdr_model.specs.Limits.{longest_source};
 ghost use Rattle.zco_obj.specs.Appending.{AppendsPiece, AppendsRaw, AppendsSource, IsWithin};
@@ -13,7 +13,7 @@ ghost use Rattle.zco_obj.specs.AppendStops.{RangeRefused, RawPieceStops, SourceS
 ghost use Rattle.zco_obj.specs.Beside.{IsWithRaw, IsWithSource, SomePair, SomeWithRaw, SomeWithSource};
 
 use crate::charging::{charge_object, extent_amounts};
-use crate::extent::{Piece, add_extent};
+use crate::extent::{ExtentPiece, add_extent};
 use crate::object::account;
 use crate::seeing::see_source;
 use sdr_base::{Addr, Kind, Objects, Refusal, Space, Stop, expect_kind};
@@ -41,12 +41,12 @@ pub fn append_extent<O: Objects>(
     ensures refused { IfErr result (AppendStops object ticket
         (record { of = source_or_raw; offset = offset; bytes = bytes })
         (O.heap o.old) (O.heap o.new)) }
-    ensures works { Works O.HasHeap 73 o.old o.new result }
+    ensures works { Spends O.HasHeap 73 o.old o.new result }
     ensures works_source { IsKind ((O.heap o.old).blocks source_or_raw) kinds.Source →
-        Works O.HasHeap 42 o.old o.new result }
+        Spends O.HasHeap 42 o.old o.new result }
 {
     expect_kind(o, object, Kind::Object)?;
-    let piece = Piece {
+    let piece = ExtentPiece {
         of: source_or_raw,
         offset,
         bytes,
@@ -58,7 +58,7 @@ pub fn append_extent<O: Objects>(
 }
 
 // Puts a part of a source behind an object's extents, and charges the object's account for it.
-fn append_source<O: Objects>(o: &mut O, object: Addr, ticket: u64, piece: Piece) -> Result<(), Stop>
+fn append_source<O: Objects>(o: &mut O, object: Addr, ticket: u64, piece: ExtentPiece) -> Result<(), Stop>
     requires kept { KeepsSome (O.keeps o.old) }
     requires spare { 1 ≤ (O.heap o.old).spare }
     requires some { SomeWithSource (O.heap o.old) object piece.of }
@@ -66,7 +66,7 @@ fn append_source<O: Objects>(o: &mut O, object: Addr, ticket: u64, piece: Piece)
         (AppendsSource object ticket piece (O.heap o.old) (O.heap o.new)) }
     ensures refused { IfErr result
         (SourceStops object ticket piece (O.heap o.old) (O.heap o.new)) }
-    ensures works { Works O.HasHeap 42 o.old o.new result }
+    ensures works { Spends O.HasHeap 42 o.old o.new result }
 {
     let seen = see_source(o, piece.of)?;
     if seen.flagged {
@@ -79,7 +79,7 @@ fn append_source<O: Objects>(o: &mut O, object: Addr, ticket: u64, piece: Piece)
 
 // Puts a part of a raw object behind an object's extents, whose account is charged for it. A source
 // takes the raw object over before.
-fn append_raw<O: Objects>(o: &mut O, object: Addr, ticket: u64, piece: Piece) -> Result<(), Stop>
+fn append_raw<O: Objects>(o: &mut O, object: Addr, ticket: u64, piece: ExtentPiece) -> Result<(), Stop>
     requires kept { KeepsSome (O.keeps o.old) }
     requires spare { 2 ≤ (O.heap o.old).spare }
     requires object { IsKind ((O.heap o.old).blocks object) kinds.Object }
@@ -89,7 +89,7 @@ fn append_raw<O: Objects>(o: &mut O, object: Addr, ticket: u64, piece: Piece) ->
         (AppendsRaw object ticket piece (O.heap o.old) (O.heap o.new)) }
     ensures refused { IfErr result
         (RawPieceStops object ticket piece (O.heap o.old) (O.heap o.new)) }
-    ensures works { Works O.HasHeap 73 o.old o.new result }
+    ensures works { Spends O.HasHeap 73 o.old o.new result }
 {
     let have = expect_unnamed(o, piece.of)?;
     check_range(piece, have)?;
@@ -98,7 +98,7 @@ fn append_raw<O: Objects>(o: &mut O, object: Addr, ticket: u64, piece: Piece) ->
     name_source(
         o,
         object,
-        Piece {
+        ExtentPiece {
             of: source,
             ..piece
         },
@@ -106,7 +106,7 @@ fn append_raw<O: Objects>(o: &mut O, object: Addr, ticket: u64, piece: Piece) ->
 }
 
 // Refuses a piece that has no byte, or doesn't lie within so many.
-fn check_range(piece: Piece, have: u64) -> Result<(), Stop>
+fn check_range(piece: ExtentPiece, have: u64) -> Result<(), Stop>
     ensures within { OnOk result (IsWithin piece have) }
     ensures refused { IfErr result (RangeRefused piece have) }
 {
@@ -121,14 +121,14 @@ fn check_range(piece: Piece, have: u64) -> Result<(), Stop>
 }
 
 // Puts an extent behind an object's others that names this piece of a source, which counts it.
-fn name_source<O: Objects>(o: &mut O, object: Addr, piece: Piece) -> Result<(), Stop>
+fn name_source<O: Objects>(o: &mut O, object: Addr, piece: ExtentPiece) -> Result<(), Stop>
     requires kept { KeepsSome (O.keeps o.old) }
     requires spare { 1 ≤ (O.heap o.old).spare }
     requires some { SomePair (O.heap o.old).blocks object piece.of }
     requires short { piece.bytes ≤ longest_source }
     ensures named { OnOk result (NamesSource object piece (O.heap o.old) (O.heap o.new)) }
     ensures refused { IfErr result (OnlyShort 32 (O.heap o.old) (O.heap o.new)) }
-    ensures works { Works O.HasHeap 37 o.old o.new result }
+    ensures works { Spends O.HasHeap 37 o.old o.new result }
 {
     let acct = account(o, object)?;
     add_extent(o, object, piece)?;

@@ -3,7 +3,7 @@ ghost use Rattle.std.specs.Prelude.{◌≡◌, ◌≤◌, ◌+◌, ◌/◌, [], 
 ghost use Rattle.sdr_base.specs.Moves.{KeepsSome};
 ghost use Rattle.sdr_base.specs.Objects.{OnlyFault, OnlyShort, OnlyUnmoved};
 ghost use Rattle.sdr_base.specs.Words.{layout};
-ghost use Rattle.sdr_base.specs.Works.{Looks, Works};
+ghost use Rattle.sdr_base.specs.Works.{Looks, Spends};
 ghost use Rattle.zco_obj.specs.Chains.{InsertsCapsule, RemovesCapsule, SomeGap, SomeSpot, TakesCapsule};
 
 use crate::charging::LONGEST_CAPSULE;
@@ -22,7 +22,7 @@ fn take_capsule<O: Objects>(o: &mut O, next: Addr, text: &[u8]) -> Result<Addr, 
     ensures taken { IfOk result (TakesCapsule next text.now (O.heap o.old) (O.heap o.new)) }
     ensures refused { IfErr result
         (OnlyShort (TEXT_FROM + length text.now) (O.heap o.old) (O.heap o.new)) }
-    ensures works { Works O.HasHeap
+    ensures works { Spends O.HasHeap
         (26 + (TEXT_FROM + length text.now) / 32) o.old o.new result }
 {
     let mut buffer = [0; TEXT_FROM + LONGEST_CAPSULE as usize];
@@ -59,7 +59,7 @@ pub fn insert_capsule<O: Objects>(
         (InsertsCapsule side object prev next text.now (O.heap o.old) (O.heap o.new)) }
     ensures refused { IfErr result
         (OnlyShort (TEXT_FROM + length text.now) (O.heap o.old) (O.heap o.new)) }
-    ensures works { Works O.HasHeap
+    ensures works { Spends O.HasHeap
         (30 + (TEXT_FROM + length text.now) / 32) o.old o.new result }
 {
     let added = take_capsule(o, next, text)?;
@@ -83,7 +83,7 @@ pub fn remove_capsule<O: Objects>(
     ensures removed { OnOk result
         (RemovesCapsule side object prev gone next (O.heap o.old) (O.heap o.new)) }
     ensures refused { IfErr result (OnlyUnmoved (O.heap o.old) (O.heap o.new)) }
-    ensures works { Works O.HasHeap 28 o.old o.new result }
+    ensures works { Spends O.HasHeap 28 o.old o.new result }
 {
     link_next(o, object, side, prev, next)?;
     link_last(o, object, side, next, prev)?;

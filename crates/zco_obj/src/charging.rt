@@ -1,7 +1,7 @@
 // What is charged to an object's account.
 ghost use Rattle.std.specs.Prelude.{◌≡◌, ◌≤◌, IfErr, OnOk};
 ghost use Rattle.sdr_base.specs.Moves.{KeepsSome};
-ghost use Rattle.sdr_base.specs.Works.{Works};
+ghost use Rattle.sdr_base.specs.Works.{Spends};
 ghost use Rattle.sdr_model.specs.Charges.{capsule_bytes};
 ghost use Rattle.sdr_model.specs.Limits.{longest_source};
 ghost use Rattle.zco_obj.specs.Amounts.{extent_amounts, heap_amounts};
@@ -70,7 +70,7 @@ pub fn charge_object<O: Objects>(
         (ChargesObject object ticket amounts.now (O.heap o.old) (O.heap o.new)) }
     ensures refused { IfErr result
         (ObjectChargeStops object ticket amounts.now (O.heap o.old) (O.heap o.new)) }
-    ensures works { Works O.HasHeap 5 o.old o.new result }
+    ensures works { Spends O.HasHeap 5 o.old o.new result }
 {
     let acct = account(o, object)?;
     charge(o, acct, ticket, amounts)

@@ -2,7 +2,7 @@
 ghost use Rattle.std.specs.Prelude.{◌≡◌, ◌≤◌, ◌+◌, ◌*◌, ◌^◌, List, length, IfErr, IfOk, OnOk};
 ghost use Rattle.sdr_base.specs.Blocks.{IsKind};
 ghost use Rattle.sdr_base.specs.Moves.{KeepsSome};
-ghost use Rattle.sdr_base.specs.Works.{Works};
+ghost use Rattle.sdr_base.specs.Works.{Spends};
 ghost use Rattle.sdr_base.specs.ZcoObjects.{CapsuleRow, ExtentRow, ObjectRow};
 ghost use Rattle.sdr_base.specs.declared.kind.Kind.TheVariants as kinds;
 ghost use Rattle.zco_obj.specs.Destroying.{DestroysObject, DestroyStops, GivesParts, IsWithSources};
@@ -42,9 +42,9 @@ pub fn destroy<O: Objects>(o: &mut O, object: Addr) -> Result<(), Stop>
     ensures refused { IfErr result (DestroyStops object (O.heap o.old) (O.heap o.new)) }
     ensures works { (row : ObjectRow) (sources : List NamedSource) →
         KeepsSources (O.heap o.old).blocks object row sources →
-        Works O.HasHeap (27 + parts_lines row sources) o.old o.new result }
+        Spends O.HasHeap (27 + parts_lines row sources) o.old o.new result }
     ensures missed { (IsKind ((O.heap o.old).blocks object) kinds.Object → ⊥) →
-        Works O.HasHeap 0 o.old o.new result }
+        Spends O.HasHeap 0 o.old o.new result }
 {
     expect_kind(o, object, Kind::Object)?;
     let acct = account(o, object)?;
@@ -63,7 +63,7 @@ fn give_parts<O: Objects>(o: &mut O, object: Addr, acct: Acct) -> Result<Amounts
     ensures refused { IfErr result (PartStops object (O.heap o.old) (O.heap o.new)) }
     ensures works { (row : ObjectRow) (sources : List NamedSource) →
         KeepsSources (O.heap o.old).blocks object row sources →
-        Works O.HasHeap (parts_lines row sources) o.old o.new result }
+        Spends O.HasHeap (parts_lines row sources) o.old o.new result }
 {
     let first = first_parts(o, object)?;
     let headers = give_capsules(o, first.header)?;
@@ -81,7 +81,7 @@ fn give_capsules<O: Objects>(o: &mut O, first: Addr) -> Result<u64, Stop>
     ensures most { IfOk result (λ charged. charged ≤ 2 ^ 33) }
     ensures refused { IfErr result (CapsuleGiveStops first (O.heap o.old) (O.heap o.new)) }
     ensures works { (rows : List CapsuleRow) → CapsulesAt (O.heap o.old).blocks first rows →
-        Works O.HasHeap (24 * length rows) o.old o.new result }
+        Spends O.HasHeap (24 * length rows) o.old o.new result }
 {
     check_failed(o)?;
     let mut charged = 0;
@@ -108,7 +108,7 @@ pub fn give_extents<O: Objects>(o: &mut O, acct: Acct, first: Addr) -> Result<Am
     ensures refused { IfErr result (ExtentsGiveStops acct first (O.heap o.old) (O.heap o.new)) }
     ensures works { (extents : List ExtentRow) (sources : List NamedSource) →
         UsesAt acct (O.heap o.old).blocks first extents sources →
-        Works O.HasHeap (uses_lines extents sources) o.old o.new result }
+        Spends O.HasHeap (uses_lines extents sources) o.old o.new result }
 {
     check_failed(o)?;
     let mut charged = NOTHING;
@@ -132,7 +132,7 @@ fn give_extent<O: Objects>(o: &mut O, acct: Acct, extent: Addr) -> Result<GivenE
     ensures given { IfOk result (GivesExtent acct extent (O.heap o.old) (O.heap o.new)) }
     ensures most { IfOk result (λ given. AreAtMost (2 ^ 40 + 32) given.charged) }
     ensures refused { IfErr result (ExtentGiveStops acct extent (O.heap o.old) (O.heap o.new)) }
-    ensures works { Works O.HasHeap
+    ensures works { Spends O.HasHeap
         (28 + 24 * going_with (O.heap o.old).blocks extent) o.old o.new result }
 {
     let seen = see_extent(o, extent)?;

@@ -3,7 +3,7 @@ ghost use Rattle.std.specs.Prelude.{◌≡◌, ◌≢◌, ◌+◌, ◌<◌, ◌�
 ghost use Rattle.sdr_base.specs.Blocks.{UsesRange};
 ghost use Rattle.sdr_base.specs.Moves.{KeepsSome};
 ghost use Rattle.sdr_base.specs.Objects.{OnlyShort, OnlyUnmoved};
-ghost use Rattle.sdr_base.specs.Works.{Works};
+ghost use Rattle.sdr_base.specs.Works.{Spends};
 ghost use Rattle.sdr_model.specs.Limits.{longest_source};
 ghost use Rattle.zco_obj.specs.Extents.{AddsExtent, LinksExtent, SetsPart, grown};
 ghost use Rattle.zco_obj.specs.Kept.{SomeObject};
@@ -14,7 +14,7 @@ use sdr_base::{Addr, Kind, Objects, Stop, check_failed, set_word, take_words, wo
 
 /// A part of a source, or of a raw object that a source is to take over.
 #[derive(Clone, Copy)]
-pub struct Piece {
+pub struct ExtentPiece {
     pub of: Addr,
     /// The first of its bytes there, and how many they are.
     pub offset: u64,
@@ -29,7 +29,7 @@ fn grow<O: Objects>(o: &mut O, object: Addr, bytes: u64) -> Result<(), Stop>
     requires short { bytes ≤ longest_source }
     ensures grown { OnOk result (SetsPart object (λ row. grown row bytes) (O.heap o.old) (O.heap o.new)) }
     ensures refused { IfErr result (OnlyUnmoved (O.heap o.old) (O.heap o.new)) }
-    ensures works { Works O.HasHeap 2 o.old o.new result }
+    ensures works { Spends O.HasHeap 2 o.old o.new result }
 {
     let first = word(o, object, words::FIRST_EXTENT)?;
     let offset = word(o, object, words::PART_OFFSET)?;
@@ -50,7 +50,7 @@ pub fn link_extent<O: Objects>(o: &mut O, object: Addr, last: Addr, added: Addr)
     requires last { last ≢ 0 → UsesRange (O.heap o.old).blocks last 0 32 }
     ensures linked { OnOk result (LinksExtent object last added (O.heap o.old) (O.heap o.new)) }
     ensures refused { IfErr result (OnlyUnmoved (O.heap o.old) (O.heap o.new)) }
-    ensures works { Works O.HasHeap 4 o.old o.new result }
+    ensures works { Spends O.HasHeap 4 o.old o.new result }
 {
     set_word(o, object, words::LAST_EXTENT, added)?;
     if last == 0 {
@@ -61,14 +61,14 @@ pub fn link_extent<O: Objects>(o: &mut O, object: Addr, last: Addr, added: Addr)
 }
 
 // Makes an extent behind an object's others.
-pub fn add_extent<O: Objects>(o: &mut O, object: Addr, piece: Piece) -> Result<(), Stop>
+pub fn add_extent<O: Objects>(o: &mut O, object: Addr, piece: ExtentPiece) -> Result<(), Stop>
     requires kept { KeepsSome (O.keeps o.old) }
     requires spare { 1 ≤ (O.heap o.old).spare }
     requires object { SomeObject (O.heap o.old).blocks object }
     requires short { piece.bytes ≤ longest_source }
     ensures added { OnOk result (AddsExtent object piece (O.heap o.old) (O.heap o.new)) }
     ensures refused { IfErr result (OnlyShort 32 (O.heap o.old) (O.heap o.new)) }
-    ensures works { Works O.HasHeap 35 o.old o.new result }
+    ensures works { Spends O.HasHeap 35 o.old o.new result }
 {
     let last = word(o, object, words::LAST_EXTENT)?;
     let words = [piece.of, piece.offset, piece.bytes, 0];

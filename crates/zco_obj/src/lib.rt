@@ -36,7 +36,7 @@ pub use capsule::TEXT_FROM;
 pub use charging::{LONGEST_CAPSULE, capsule_bytes, charge_object, extent_amounts, heap_amounts};
 pub use destroying::{destroy, give_extents};
 pub use discarding::{discard_first_header, discard_last_trailer};
-pub use extent::{Piece, link_extent};
+pub use extent::{ExtentPiece, link_extent};
 pub use object::{Firsts, OBJECT_BYTES, account, create, first_parts, make_object};
 pub use seeing::{
     SeenCapsule, SeenExtent, SeenSource, TOO_MANY_PARTS, see_capsule, see_extent, see_source,

@@ -3,7 +3,7 @@ ghost use Rattle.std.specs.Prelude.{◌≡◌, ◌≢◌, ◌≤◌, IfErr, OnOk
 ghost use Rattle.sdr_base.specs.Blocks.{UsesRange};
 ghost use Rattle.sdr_base.specs.Moves.{KeepsSome};
 ghost use Rattle.sdr_base.specs.Objects.{OnlyUnmoved};
-ghost use Rattle.sdr_base.specs.Works.{Works};
+ghost use Rattle.sdr_base.specs.Works.{Spends};
 ghost use Rattle.zco_obj.specs.Chains.{LinksLast, LinksNext, first_field, last_field};
 
 use sdr_base::layout::{capsule as capsule_words, object as words};
@@ -52,7 +52,7 @@ pub fn link_next<O: Objects>(
     ensures linked { OnOk result
         (LinksNext side object prev next (O.heap o.old) (O.heap o.new)) }
     ensures refused { IfErr result (OnlyUnmoved (O.heap o.old) (O.heap o.new)) }
-    ensures works { Works O.HasHeap 2 o.old o.new result }
+    ensures works { Spends O.HasHeap 2 o.old o.new result }
 {
     if prev == 0 {
         set_word(o, object, first_field(side), next)
@@ -74,7 +74,7 @@ pub fn link_last<O: Objects>(
     ensures linked { OnOk result
         (LinksLast side object next prev (O.heap o.old) (O.heap o.new)) }
     ensures refused { IfErr result (OnlyUnmoved (O.heap o.old) (O.heap o.new)) }
-    ensures works { Works O.HasHeap 2 o.old o.new result }
+    ensures works { Spends O.HasHeap 2 o.old o.new result }
 {
     if next == 0 {
         set_word(o, object, last_field(side), prev)

@@ -3,7 +3,7 @@ ghost use Rattle.std.specs.Prelude.{◌≡◌, ◌≤◌, IfOk, IfErr};
 ghost use Rattle.sdr_base.specs.Moves.{KeepsSome};
 ghost use Rattle.sdr_base.specs.Making.{MakesThing};
 ghost use Rattle.sdr_base.specs.Objects.{OnlyFault, OnlyShort};
-ghost use Rattle.sdr_base.specs.Works.{Looks, Works};
+ghost use Rattle.sdr_base.specs.Works.{Looks, Spends};
 ghost use Rattle.sdr_base.specs.ZcoObjects.{account_number, object_entries};
 ghost use Rattle.sdr_model.specs.Charges.{object_bytes};
 ghost use Rattle.zco_acct.specs.Kept.{SomeQueue};
@@ -36,7 +36,7 @@ pub fn create<O: Objects>(o: &mut O, acct: Acct, ticket: u64) -> Result<Addr, St
     ensures made { IfOk result (λ object.
         CreatesObject acct ticket object (O.heap o.old) (O.heap o.new)) }
     ensures refused { IfErr result (CreateStops acct ticket (O.heap o.old) (O.heap o.new)) }
-    ensures works { Works O.HasHeap 34 o.old o.new result }
+    ensures works { Spends O.HasHeap 34 o.old o.new result }
 {
     charge(o, acct, ticket, &heap_amounts(OBJECT_BYTES))?;
     make_object(o, acct)
@@ -49,7 +49,7 @@ pub fn make_object<O: Objects>(o: &mut O, acct: Acct) -> Result<Addr, Stop>
     ensures made { IfOk result (λ object. MakesThing object_bytes object
         (object_entries object (empty_row acct)) (O.heap o.old) (O.heap o.new)) }
     ensures refused { IfErr result (OnlyShort object_bytes (O.heap o.old) (O.heap o.new)) }
-    ensures works { Works O.HasHeap 29 o.old o.new result }
+    ensures works { Spends O.HasHeap 29 o.old o.new result }
 {
     let number = account_number(acct);
     take_words(o, Kind::Object, &[number, 0, 0, 0, 0, 0, 0, 0, 0])

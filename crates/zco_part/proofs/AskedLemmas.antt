@@ -2,7 +2,7 @@
 use Rattle.std.proofs.Common.{◌≡◌, ◌+◌, ◌≤◌, ◌<◌, ◌^◌, ℕ, List, ◌∷◌, ◌++◌, sym, ap, ◌∙◌, arith, subst, append_assoc}
 use Rattle.std.specs.Prelude.{sum_by}
 use Rattle.sdr_base.specs.Blocks.{Blocks, IsKind}
-use Rattle.sdr_base.specs.Entries.{Entries, Stands}
+use Rattle.sdr_base.specs.Entries.{Entries, BlocksAre}
 use Rattle.sdr_base.specs.Linked.{first_of}
 use Rattle.sdr_base.specs.Objects.{Heap, Misses, OnlyFault}
 use Rattle.sdr_base.specs.Words.{HasWord}
@@ -23,7 +23,7 @@ use Rattle.zco_acct.specs.Kept.{queue_entries}
 use Rattle.zco_obj.specs.Amounts.{heap_amounts}
 use Rattle.zco_obj.specs.Gone.{NamedSource, sources_entries}
 use Rattle.zco_obj.specs.Kept.{KeepsObject, SomeObject, SomeWithQueue}
-use Rattle.zco_obj.specs.declared.extent.Piece.{Piece}
+use Rattle.zco_obj.specs.declared.extent.ExtentPiece.{ExtentPiece}
 use Rattle.zco_obj.proofs.ChargeLemmas.{object_of}
 use Rattle.zco_obj.proofs.KeptLemmas.{extents_most, object_word}
 use Rattle.zco_obj.proofs.PairLemmas.{swapped}
@@ -89,22 +89,22 @@ module _ (object : ℕ) (row : ObjectRow) where
       let X = extent_entries row.extents in
       ap (λ (es : Entries). (object, object_block row) ∷ es) (append_assoc (H ++ X) tail rest ∙ append_assoc H X (tail ++ rest))
 
-  pub opened : (b : Blocks) (S rest : Entries) → Stands b (object_entries object row ++ (S ++ rest)) →
-      Stands b (S ++ (extent_entries row.extents ++ (head ++ (tail ++ rest))))
+  pub opened : (b : Blocks) (S rest : Entries) → BlocksAre b (object_entries object row ++ (S ++ rest)) →
+      BlocksAre b (S ++ (extent_entries row.extents ++ (head ++ (tail ++ rest))))
   opened b S rest s =
       swapped b S head (extent_entries row.extents) (tail ++ rest)
-      (subst (λ (es : Entries). Stands b (S ++ es)) (whole rest) (moved (object_entries object row) S rest s))
+      (subst (λ (es : Entries). BlocksAre b (S ++ es)) (whole rest) (moved (object_entries object row) S rest s))
 
-  pub closed : (b : Blocks) (front S rest : Entries) → Stands b (front ++ (S ++ (extent_entries row.extents ++ (head ++ (tail ++ rest))))) →
-      Stands b (front ++ (object_entries object row ++ (S ++ rest)))
+  pub closed : (b : Blocks) (front S rest : Entries) → BlocksAre b (front ++ (S ++ (extent_entries row.extents ++ (head ++ (tail ++ rest))))) →
+      BlocksAre b (front ++ (object_entries object row ++ (S ++ rest)))
   closed b front S rest s =
       let X = extent_entries row.extents in
       let O = object_entries object row in
       swapped b front S O rest
-      (subst (λ (es : Entries). Stands b es) (append_assoc front S (O ++ rest))
-      (subst (λ (es : Entries). Stands b ((front ++ S) ++ es)) (sym (whole rest))
+      (subst (λ (es : Entries). BlocksAre b es) (append_assoc front S (O ++ rest))
+      (subst (λ (es : Entries). BlocksAre b ((front ++ S) ++ es)) (sym (whole rest))
       (swapped b (front ++ S) X head (tail ++ rest)
-      (subst (λ (es : Entries). Stands b es) (sym (append_assoc front S (X ++ (head ++ (tail ++ rest))))) s))))
+      (subst (λ (es : Entries). BlocksAre b es) (sym (append_assoc front S (X ++ (head ++ (tail ++ rest))))) s))))
 
 -- its extents and their sources stand beside
 pub extents_beside : {heap : Heap} {object first : ℕ} {row : ObjectRow} {tickets : List Ticket} {sources : List NamedSource} →
@@ -120,7 +120,7 @@ extents_beside {heap} {object} {first} {row} {tickets} {sources} k e =
       stands =
           opened object row heap.blocks S (Q ++ k.beside.behind)
           (swapped heap.blocks O Q S k.beside.behind
-          (subst (λ (rest : Entries). Stands heap.blocks (O ++ (Q ++ rest))) k.beside.whole k.beside.keeps.stands));
+          (subst (λ (rest : Entries). BlocksAre heap.blocks (O ++ (Q ++ rest))) k.beside.whole k.beside.keeps.stands));
       at_first = e;
       fits = k.beside.keeps.fits.extents;
       few = omega (arith, few);
@@ -136,7 +136,8 @@ some_beside seen q v = record {
 }
 
 -- an object charges for itself what no extent does
-clone_sum : (sources : List NamedSource) (ps : List Piece) (charge : Amounts) → charge ≡ pieces_amounts sources ps →
+clone_sum : (sources : List NamedSource) (ps : List ExtentPiece) (charge : Amounts) → charge ≡ pieces_amounts sources
+    ps →
     plus charge (heap_amounts 72) ≡ clone_amounts sources ps
 clone_sum sources ps charge e =
     same_amounts (λ space. amount charge space + amount (heap_amounts 72) space)

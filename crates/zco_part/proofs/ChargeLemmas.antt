@@ -5,7 +5,7 @@ use Rattle.std.proofs.lemmas.List.Concat.{flat_map-append}
 use Rattle.std.proofs.lemmas.List.Elements.{All-head}
 use Rattle.std.proofs.lemmas.List.Sums.{sum_by-append}
 use Rattle.sdr_base.specs.Blocks.{Blocks}
-use Rattle.sdr_base.specs.Entries.{Entries, Stands}
+use Rattle.sdr_base.specs.Entries.{Entries, BlocksAre}
 use Rattle.sdr_base.specs.ZcoObjects.{ExtentRow, extent_addr, extent_block, extent_entries}
 use Rattle.sdr_base.specs.Linked.{first_of}
 use Rattle.sdr_base.specs.declared.account.Amounts.{Amounts}
@@ -19,7 +19,7 @@ use Rattle.zco_obj.specs.Gone.{NamedSource, source_at, sources_entries, space_in
 use Rattle.zco_obj.specs.Kept.{ExtentFits}
 use Rattle.zco_obj.specs.Uses.{IsThere}
 use Rattle.zco_obj.specs.Walks.{ExtentsAt, KeepsExtent, SomeExtent}
-use Rattle.zco_obj.specs.declared.extent.Piece.{Piece}
+use Rattle.zco_obj.specs.declared.extent.ExtentPiece.{ExtentPiece}
 use Rattle.zco_obj.proofs.SpotLemmas.{SpotOf, amount_by, find_spot, same_amounts}
 use Rattle.zco_obj.proofs.WalkLemmas.{HasFirst, fits_from, none_at_zero}
 use Rattle.zco_ref.specs.Kept.{CountedSource, KeepsSource, SomeSource, counted_block, tied_entries}
@@ -45,7 +45,7 @@ spot_counts {xs} {ss} m s =
     All-head MayCount s.here s.behind (fits_from MayCount s.before (s.here ∷ s.behind) (subst (All MayCount) s.whole m.counted))
 
 -- it stands among the others
-pub spot_kept : {blocks : Blocks} {ss : List NamedSource} {addr : ℕ} (front rest : Entries) → Stands blocks (front ++ (sources_entries ss ++ rest)) →
+pub spot_kept : {blocks : Blocks} {ss : List NamedSource} {addr : ℕ} (front rest : Entries) → BlocksAre blocks (front ++ (sources_entries ss ++ rest)) →
     (s : SpotOf addr ss) → MayCount s.here → KeepsSource (blocks addr) s.here.source
 spot_kept {blocks} {ss} {addr} front rest st s m = record {
   block =
@@ -59,8 +59,8 @@ spot_kept {blocks} {ss} {addr} front rest st s m = record {
       ∙ append_assoc A (T ++ B) rest ∙ ap (λ (es : Entries). A ++ es) (append_assoc T B rest) in
       subst (λ n. blocks n ≡ Some (counted_block s.here.source)) s.at
       (found blocks s.here.addr (counted_block s.here.source) (front ++ A) _
-      (subst (λ (es : Entries). Stands blocks es) (sym (append_assoc front A (T ++ (B ++ rest))))
-      (subst (λ (es : Entries). Stands blocks (front ++ es)) cut st)));
+      (subst (λ (es : Entries). BlocksAre blocks es) (sym (append_assoc front A (T ++ (B ++ rest))))
+      (subst (λ (es : Entries). BlocksAre blocks (front ++ es)) cut st)));
   fits = m.fits;
 }
 
@@ -107,7 +107,8 @@ charge_begun blocks first span nothing e = record {
 }
 
 -- one piece more, if it has a byte
-more_charged : (ss : List NamedSource) (done : List Piece) (p : Piece) (s : CountedSource) (charge more : Amounts) →
+more_charged : (ss : List NamedSource) (done : List ExtentPiece) (p : ExtentPiece) (s : CountedSource)
+    (charge more : Amounts) →
     space_in (source_at p.of ss) ≡ source_space s → charge ≡ pieces_amounts ss done →
     more ≡ amounts_by (λ space. sum_by (λ q. bytes_charge (source_space s) q.bytes space) (filled p)) →
     plus charge more ≡ pieces_amounts ss (done ++ filled p)
@@ -115,19 +116,21 @@ more_charged ss done p s charge more in_space e m =
     same_amounts (λ space. amount charge space + amount more space) (λ space. sum_by (piece_charge ss space) (done ++ filled p)) (λ space.
     let a : amount charge space ≡ sum_by (piece_charge ss space) done =
     ap (λ (x : Amounts). amount x space) e ∙ amount_by (λ (z : Space). sum_by (piece_charge ss z) done) space in
-    let b : amount more space ≡ sum_by (λ (q : Piece). bytes_charge (source_space s) q.bytes space) (filled p) =
+    let b : amount more space ≡ sum_by (λ (q : ExtentPiece). bytes_charge (source_space s) q.bytes space) (filled p) =
     ap (λ (x : Amounts). amount x space) m
-    ∙ amount_by (λ (z : Space). sum_by (λ (q : Piece). bytes_charge (source_space s) q.bytes z) (filled p)) space in
+    ∙ amount_by (λ (z : Space). sum_by (λ (q : ExtentPiece). bytes_charge (source_space s) q.bytes z) (filled p))
+        space in
     let c = same space in
     let d = sum_by-append (piece_charge ss space) done (filled p) in omega (arith, a, b, c, d))
   where
-    same : (space : Space) → sum_by (λ (q : Piece). bytes_charge (source_space s) q.bytes space) (filled p)
+    same : (space : Space) → sum_by (λ (q : ExtentPiece). bytes_charge (source_space s) q.bytes space) (filled p)
         ≡ sum_by (piece_charge ss space) (filled p)
     same space =
-        elim (p.bytes == 0) as (λ v. sum_by (λ (q : Piece). bytes_charge (source_space s) q.bytes space) (if v then [] else p ∷ [])
+        elim (p.bytes == 0) as (λ v. sum_by (λ (q : ExtentPiece). bytes_charge (source_space s) q.bytes space) (if v then [] else p ∷ [])
         ≡ sum_by (piece_charge ss space) (if v then [] else p ∷ [])) [
           | true ↦ refl
-          | false ↦ ap (λ (of : Space). sum_by (λ (q : Piece). bytes_charge of q.bytes space) (p ∷ [])) (sym in_space)
+          | false ↦ ap (λ (of : Space). sum_by (λ (q : ExtentPiece). bytes_charge of q.bytes space) (p ∷ []))
+              (sym in_space)
         ]
 
 module _ {blocks : Blocks} {first : ℕ} {span now : Span} {cursor i : ℕ} {charge : Amounts}
@@ -137,17 +140,17 @@ module _ {blocks : Blocks} {first : ℕ} {span now : Span} {cursor i : ℕ} {cha
       let w = (l.so_far q.extents q.sources q.is).walk in
       record { next = _; extent = _; keeps = keeps_here q.is w (walk_first w nz) }
 
-  pub source_there : (link : Link) (piece : Piece) → cursor ≢ 0 → SomeExtentsBeside blocks first → SeesLink (blocks cursor) link →
+  pub source_there : (link : Link) (piece : ExtentPiece) → cursor ≢ 0 → SomeExtentsBeside blocks first → SeesLink (blocks cursor) link →
       piece ≡ cut now.from now.to link.piece → SomeSource (blocks piece.of)
   source_there link piece nz q v e =
       let w = (l.so_far q.extents q.sources q.is).walk in
       let h = walk_first w nz in
       let at : h.one.source ≡ piece.of =
-      sym (ap (λ (p : Piece). p.of) e ∙ ap (λ (p : Piece). p.of) (v.piece _ h.one (keeps_here q.is w h))) in
+      sym (ap (λ (p : ExtentPiece). p.of) e ∙ ap (λ (p : ExtentPiece). p.of) (v.piece _ h.one (keeps_here q.is w h))) in
       record { source = _; keeps = subst (λ n. KeepsSource (blocks n) (spot_here q.is w h).here.source) at (source_here q.is w h) }
 
   -- one more was passed
-  pub charge_on : (link : Link) (piece : Piece) (more charge' : Amounts) (after : Span) → cursor ≢ 0 → SeesLink (blocks cursor) link →
+  pub charge_on : (link : Link) (piece : ExtentPiece) (more charge' : Amounts) (after : Span) → cursor ≢ 0 → SeesLink (blocks cursor) link →
       piece ≡ cut now.from now.to link.piece → ChargesPiece blocks piece more → charge' ≡ plus charge more →
       after.from ≡ now.from - link.piece.bytes → after.to ≡ now.to - link.piece.bytes →
       ChargedSoFar blocks first span link.next (i + 1) after charge'
@@ -160,15 +163,15 @@ module _ {blocks : Blocks} {first : ℕ} {span now : Span} {cursor i : ℕ} {cha
         let s = spot_here c w h in
         let here : piece ≡ cut now.from now.to (piece_of h.one) = e ∙ ap (cut now.from now.to) is in
         let kept : KeepsSource (blocks piece.of) s.here.source =
-        subst (λ (q : Piece). KeepsSource (blocks q.of) s.here.source) (sym here) (source_here c w h) in
+        subst (λ (q : ExtentPiece). KeepsSource (blocks q.of) s.here.source) (sym here) (source_here c w h) in
         record {
-          walk = walk_on w h link.next after (v.next _ h.one k) (from ∙ ap (λ (q : Piece). now.from - q.bytes) is)
-              (to ∙ ap (λ (q : Piece). now.to - q.bytes) is);
+          walk = walk_on w h link.next after (v.next _ h.one k) (from ∙ ap (λ (q : ExtentPiece). now.from - q.bytes) is)
+              (to ∙ ap (λ (q : ExtentPiece). now.to - q.bytes) is);
           sum =
               p ∙ more_charged ss w.done (cut now.from now.to (piece_of h.one)) s.here.source charge more
               (ap space_in s.is_found) (l.so_far xs ss c).sum
               (m.charges s.here.source kept
-              ∙ ap (λ (q : Piece). amounts_by (λ space. sum_by (λ r. bytes_charge (source_space s.here.source) r.bytes space) (filled q))) here);
+              ∙ ap (λ (q : ExtentPiece). amounts_by (λ space. sum_by (λ r. bytes_charge (source_space s.here.source) r.bytes space) (filled q))) here);
         };
   }
 

@@ -2,7 +2,7 @@
 use Rattle.std.proofs.Common.{◌≡◌, ◌-◌, ◌≤◌, ℕ, List, [], ◌∷◌, ◌++◌, length, refl, sym, ap, ◌∙◌, arith, subst, append_assoc, append-nil}
 use Rattle.std.specs.Prelude.{All}
 use Rattle.std.proofs.lemmas.List.Elements.{All-cons, All-head, All-nil, All-tail, All-weaker}
-use Rattle.sdr_base.specs.Entries.{Changes, Entries, Stands, times}
+use Rattle.sdr_base.specs.Entries.{Changes, Entries, BlocksAre, times}
 use Rattle.sdr_base.specs.Linked.{first_of, linked}
 use Rattle.sdr_base.specs.Making.{MakesThing}
 use Rattle.sdr_base.specs.Objects.{AreFirstOf, Heap, OnlyShort}
@@ -26,7 +26,7 @@ use Rattle.zco_obj.specs.Extents.{extent_of}
 use Rattle.zco_obj.specs.Gone.{NamedSource, sources_entries}
 use Rattle.zco_obj.specs.Making.{empty_row}
 use Rattle.zco_obj.specs.Reading.{Tells}
-use Rattle.zco_obj.specs.declared.extent.Piece.{Piece}
+use Rattle.zco_obj.specs.declared.extent.ExtentPiece.{ExtentPiece}
 use Rattle.zco_obj.proofs.CauseLemmas.{IsCause, is_cause}
 use Rattle.zco_obj.proofs.ChargeLemmas.{charged_moves, charged_spare, free_before, pays, queue_of, stands_still}
 use Rattle.zco_obj.proofs.PairLemmas.{swapped}
@@ -36,7 +36,7 @@ use Rattle.zco_part.specs.Charging.{clone_amounts}
 use Rattle.zco_part.specs.Cloning.{ChargesClone, CloneAllowed, ClonesPart, CloneStops, HasRange, IsCloned, KeepsToClone, OfCloned, SeesAsked, SomeToClone, StopsClone, TookFirst}
 use Rattle.zco_part.specs.Copying.{CopiesChain, CopyAt, CopyStops, HasCopied, IsSmall, SomeCopy, parts, takes_extents}
 use Rattle.zco_part.specs.Delimiting.{OfObject}
-use Rattle.zco_part.specs.Pieces.{asked, placed, whole_row}
+use Rattle.zco_part.specs.Pieces.{asked, extents_at, whole_row}
 use Rattle.zco_part.specs.Sources.{all_counted, counted, more_uses, pieces_of}
 use Rattle.zco_part.specs.declared.cloning.Asked.{Asked}
 use Rattle.zco_part.proofs.AskedLemmas.{closed, extents_beside, head, kept_object, opened, same_parts, tail}
@@ -48,17 +48,17 @@ all_both P Q R f (x ∷ xs) p q =
     All-cons R x xs (f x (All-head P x xs p) (All-head Q x xs q)) (all_both P Q R f xs (All-tail P x xs p) (All-tail Q x xs q))
 
 -- extents stand where they were put
-pub placed_there : (prev : ℕ) (addrs : List ℕ) (ps : List Piece) → length addrs ≡ length ps →
-    All (λ a. 1 ≤ times a (linked extent_addr extent_block prev 0 (placed addrs ps))) addrs
+pub placed_there : (prev : ℕ) (addrs : List ℕ) (ps : List ExtentPiece) → length addrs ≡ length ps →
+    All (λ a. 1 ≤ times a (linked extent_addr extent_block prev 0 (extents_at addrs ps))) addrs
 unfolding linked times
-placed_there prev [] ps e = All-nil (λ a. 1 ≤ times a (linked extent_addr extent_block prev 0 (placed [] ps)))
+placed_there prev [] ps e = All-nil (λ a. 1 ≤ times a (linked extent_addr extent_block prev 0 (extents_at [] ps)))
 placed_there prev (a ∷ as') [] e = absurd (omega (arith, e))
 placed_there prev (a ∷ as') (p ∷ ps) e =
-    let Q = λ (x : ℕ). 1 ≤ times x (linked extent_addr extent_block prev 0 (placed (a ∷ as') (p ∷ ps))) in
-    let P = λ (x : ℕ). 1 ≤ times x (linked extent_addr extent_block a 0 (placed as' ps)) in
+    let Q = λ (x : ℕ). 1 ≤ times x (linked extent_addr extent_block prev 0 (extents_at (a ∷ as') (p ∷ ps))) in
+    let P = λ (x : ℕ). 1 ≤ times x (linked extent_addr extent_block a 0 (extents_at as' ps)) in
     All-cons Q a as'
-    (times_head a a (extent_block prev (first_of extent_addr 0 (placed as' ps)) (extent_of a p))
-    (linked extent_addr extent_block a 0 (placed as' ps)) refl)
+    (times_head a a (extent_block prev (first_of extent_addr 0 (extents_at as' ps)) (extent_of a p))
+    (linked extent_addr extent_block a 0 (extents_at as' ps)) refl)
     (All-weaker P Q (λ x le. omega (arith, le)) as' (placed_there a as' ps (omega (arith, e))))
 
 -- so they do among the blocks of an object of theirs
@@ -71,7 +71,7 @@ whole_there clone acct es a =
     let y = times-append a H (extent_entries es) in omega (arith, x, y)
 
 -- sources stand where they stood, however many extents they count
-times-counted : (q : ℕ) (acct : Acct) (ps : List Piece) (ss : List NamedSource) →
+times-counted : (q : ℕ) (acct : Acct) (ps : List ExtentPiece) (ss : List NamedSource) →
     times q (sources_entries (all_counted acct ps ss)) ≡ times q (sources_entries ss)
 unfolding times
 times-counted q acct ps [] = refl
@@ -164,16 +164,16 @@ module _ (number : ℕ) {object offset bytes : ℕ} {acct : Acct} (seen : Asked)
       abbrev pub left : Entries
       left = queue_entries row.account (charged tickets number (clone_amounts sources (asked offset bytes row))) ++ k.beside.behind
 
-      pub stands_then : Stands mid.blocks (object_entries object row ++ (sources_entries sources ++ left))
+      pub stands_then : BlocksAre mid.blocks (object_entries object row ++ (sources_entries sources ++ left))
       stands_then =
           let O = object_entries object row in
           let Q = queue_entries row.account tickets in
           let S = sources_entries sources in
-          subst (λ (es : Entries). Stands mid.blocks es) (append_assoc O S left)
+          subst (λ (es : Entries). BlocksAre mid.blocks es) (append_assoc O S left)
           (stands_still charge_of (queue k) (O ++ S) k.beside.behind
-          (subst (λ (es : Entries). Stands old.blocks es) (sym (append_assoc O S (Q ++ k.beside.behind)))
+          (subst (λ (es : Entries). BlocksAre old.blocks es) (sym (append_assoc O S (Q ++ k.beside.behind)))
           (swapped old.blocks O Q S k.beside.behind
-          (subst (λ (rest : Entries). Stands old.blocks (O ++ (Q ++ rest))) k.beside.whole k.beside.keeps.stands))))
+          (subst (λ (rest : Entries). BlocksAre old.blocks (O ++ (Q ++ rest))) k.beside.whole k.beside.keeps.stands))))
 
     pub spare_enough : SomeToClone old object offset bytes → 1 ≤ mid.spare
     spare_enough q = let e = spare_then q.keeps in let r = q.room in omega (arith, e, r)
@@ -232,12 +232,12 @@ module _ (number : ℕ) {object offset bytes : ℕ} {acct : Acct} (seen : Asked)
     module _ {clone : ℕ} {made : Heap} (m : MakesThing 72 clone (object_entries clone (empty_row acct)) mid made) where
       -- the clone stands before the chain of extents and their sources
       module _ {row : ObjectRow} {tickets : List Ticket} {sources : List NamedSource} (k : KeepsToClone old object row tickets sources) where
-        pub copy_at : (rest : Entries) → Stands mid.blocks (object_entries object row ++ (sources_entries sources ++ rest)) →
+        pub copy_at : (rest : Entries) → BlocksAre mid.blocks (object_entries object row ++ (sources_entries sources ++ rest)) →
             CopyAt clone row.account made.blocks seen.first row.extents sources
         copy_at rest s = record {
           rest = head object row ++ (tail object row ++ rest);
           stands =
-              subst (λ a. Stands made.blocks (object_entries clone (whole_row a [])
+              subst (λ a. BlocksAre made.blocks (object_entries clone (whole_row a [])
               ++ (sources_entries sources ++ (extent_entries row.extents ++ (head object row ++ (tail object row ++ rest)))))) (own k)
               (m.adds.changes.kept _ (opened object row mid.blocks (sources_entries sources) rest s));
           at_first = v.first row (kept_object k);
@@ -263,7 +263,7 @@ module _ (number : ℕ) {object offset bytes : ℕ} {acct : Acct} (seen : Asked)
         sources = q.sources;
         is = copy_then q.keeps;
         room =
-            let n = ap (length {A = Piece}) (these q.keeps) in let r = q.room in let s = made_spare q in omega (arith, n, r, s);
+            let n = ap (length {A = ExtentPiece}) (these q.keeps) in let r = q.room in let s = made_spare q in omega (arith, n, r, s);
       }
 
       -- not all its extents were made
@@ -278,7 +278,7 @@ module _ (number : ℕ) {object offset bytes : ℕ} {acct : Acct} (seen : Asked)
             kind = has.kind;
             holds = λ row tickets sources k.
                 let f = s.few row.account row.extents sources (copy_then k) in
-                let n = ap (length {A = Piece}) (these k) in omega (arith, f, n);
+                let n = ap (length {A = ExtentPiece}) (these k) in omega (arith, f, n);
           };
           moves =
               s.moves ∙ ap (λ (ms : List Move). ms ++ (takes_extents s.addrs ++ (Short 32 ∷ []))) (made_moves q)
@@ -295,7 +295,7 @@ module _ (number : ℕ) {object offset bytes : ℕ} {acct : Acct} (seen : Asked)
             kind = has.kind;
             holds = λ row tickets sources k.
                 let f = s.few row.account row.extents sources (copy_then k) in
-                let n = ap (length {A = Piece}) (these k) in omega (arith, f, n);
+                let n = ap (length {A = ExtentPiece}) (these k) in omega (arith, f, n);
           };
           moves =
               s.moves ∙ ap (λ (ms : List Move). ms ++ takes_extents s.addrs) (made_moves q)
@@ -311,14 +311,14 @@ module _ (number : ℕ) {object offset bytes : ℕ} {acct : Acct} (seen : Asked)
       -- or all were
       module _ {new : Heap} (n : CopiesChain clone seen.first seen.span made new) where
         module _ {row : ObjectRow} {tickets : List Ticket} {sources : List NamedSource} (k : KeepsToClone old object row tickets sources) where
-          abbrev ps : List Piece
+          abbrev ps : List ExtentPiece
           ps = asked offset bytes row
 
           -- the clone's blocks
           abbrev own_entries : Entries
-          own_entries = object_entries clone (whole_row row.account (placed n.addrs ps))
+          own_entries = object_entries clone (whole_row row.account (extents_at n.addrs ps))
 
-          has_copied : (rest : Entries) → Stands mid.blocks (object_entries object row ++ (sources_entries sources ++ rest)) →
+          has_copied : (rest : Entries) → BlocksAre mid.blocks (object_entries object row ++ (sources_entries sources ++ rest)) →
               HasCopied clone row.account n.addrs ps row.extents sources (head object row ++ (tail object row ++ rest)) new
           unfolding copy_at
           has_copied rest s =
@@ -332,8 +332,8 @@ module _ (number : ℕ) {object offset bytes : ℕ} {acct : Acct} (seen : Asked)
                 let O = object_entries object row in
                 let S = sources_entries sources in
                 let S' = sources_entries (all_counted row.account ps sources) in
-                let h = has_copied rest (subst (λ (es : Entries). Stands mid.blocks es) (append_assoc O S rest) s) in
-                subst (λ (es : Entries). Stands new.blocks es)
+                let h = has_copied rest (subst (λ (es : Entries). BlocksAre mid.blocks es) (append_assoc O S rest) s) in
+                subst (λ (es : Entries). BlocksAre new.blocks es)
                 (ap (λ (es : Entries). own_entries ++ es) (sym (append_assoc O S' rest)) ∙ sym (append_assoc own_entries (O ++ S') rest))
                 (closed object row new.blocks own_entries S' rest h.stands);
           }
@@ -345,14 +345,14 @@ module _ (number : ℕ) {object offset bytes : ℕ} {acct : Acct} (seen : Asked)
           }
 
           -- an extent's block is new
-          new_extent : (a : ℕ) → IsSmall a → 1 ≤ times a (extent_entries (placed n.addrs ps)) → IsFree old.blocks a
+          new_extent : (a : ℕ) → IsSmall a → 1 ≤ times a (extent_entries (extents_at n.addrs ps)) → IsFree old.blocks a
           new_extent a small some =
               let S = sources_entries sources in
               let S' = sources_entries (all_counted row.account ps sources) in
               let R = extent_entries row.extents ++ (head object row ++ (tail object row ++ left k)) in
               let now = (has_copied (left k) (stands_then k)).stands in
               let before = opened object row mid.blocks S (left k) (stands_then k) in
-              let there = whole_there clone row.account (placed n.addrs ps) a in
+              let there = whole_there clone row.account (extents_at n.addrs ps) a in
               let one = now.once a in
               let x = times-append a own_entries (S' ++ R) in
               let y = times-append a S' R in
@@ -369,7 +369,7 @@ module _ (number : ℕ) {object offset bytes : ℕ} {acct : Acct} (seen : Asked)
           new_block = free_before (charge_of q.keeps) (queue q.keeps) m.adds.nonzero m.adds.small m.adds.fresh;
           addrs = n.addrs;
           new_blocks =
-              all_both IsSmall (λ a. 1 ≤ times a (extent_entries (placed n.addrs (asked offset bytes q.row)))) (IsFree old.blocks)
+              all_both IsSmall (λ a. 1 ≤ times a (extent_entries (extents_at n.addrs (asked offset bytes q.row)))) (IsFree old.blocks)
               (λ a small some. new_extent q.keeps a small some) n.addrs n.small
               (placed_there 0 n.addrs (asked offset bytes q.row) (is_cloned q.keeps).each);
           clones = λ row tickets sources k. is_cloned k;

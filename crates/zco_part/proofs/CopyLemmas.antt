@@ -6,7 +6,7 @@ use Rattle.std.proofs.lemmas.List.{length-map, map-append}
 use Rattle.std.proofs.lemmas.List.Elements.{All-nil, All-push}
 use Rattle.std.proofs.lemmas.List.Sums.{sum_by_push}
 use Rattle.sdr_base.specs.Blocks.{Blocks}
-use Rattle.sdr_base.specs.Entries.{Entries, Stands}
+use Rattle.sdr_base.specs.Entries.{Entries, BlocksAre}
 use Rattle.sdr_base.specs.Linked.{first_of}
 use Rattle.sdr_base.specs.Making.{Made}
 use Rattle.sdr_base.specs.Objects.{AreFirstOf, Heap}
@@ -25,14 +25,14 @@ use Rattle.zco_obj.specs.Extents.{extent_of, grown, with_extent}
 use Rattle.zco_obj.specs.Gone.{NamedSource, sources_entries}
 use Rattle.zco_obj.specs.Kept.{CapsuleFits, ExtentFits, ObjectFits, extents_length}
 use Rattle.zco_obj.specs.Walks.{ExtentsAt, KeepsExtent, SomeExtent}
-use Rattle.zco_obj.specs.declared.extent.Piece.{Piece}
+use Rattle.zco_obj.specs.declared.extent.ExtentPiece.{ExtentPiece}
 use Rattle.zco_obj.proofs.SpotLemmas.{SpotOf}
 use Rattle.zco_obj.proofs.WalkLemmas.{HasFirst, none_at_zero}
 use Rattle.zco_ref.specs.Counting.{attached}
 use Rattle.zco_ref.specs.Kept.{counted_entries}
 use Rattle.zco_part.specs.Copying.{CopiesChain, CopyAt, CopyStops, HasCopied, IsSmall, SomeCopy, TookSomeExtents, parts, takes_extents}
 use Rattle.zco_part.specs.Naming.{NamesPiece, PieceStops, SomeWholePair}
-use Rattle.zco_part.specs.Pieces.{cut, filled, placed, whole_row}
+use Rattle.zco_part.specs.Pieces.{cut, filled, extents_at, whole_row}
 use Rattle.zco_part.specs.Sources.{all_counted, pieces_of}
 use Rattle.zco_part.specs.Walking.{SeesLink, Walked}
 use Rattle.zco_part.specs.declared.span.Link.{Link}
@@ -43,28 +43,29 @@ use Rattle.zco_part.proofs.SourceLemmas.{focus, more_below, more_fits, none_coun
 use Rattle.zco_part.proofs.WalkLemmas.{done_most, here, walk_at, walk_begun, walk_below, walk_count, walk_first, walk_many, walk_on, walk_over, walk_whole}
 
 -- a piece has a byte, or it is left out
-pub has_byte : (p : Piece) → p.bytes ≢ 0 → filled p ≡ p ∷ []
+pub has_byte : (p : ExtentPiece) → p.bytes ≢ 0 → filled p ≡ p ∷ []
 has_byte p nz = ap (λ v. if v then [] else p ∷ []) (ne_eqb p.bytes 0 nz)
 
-no_byte : (p : Piece) → (p.bytes == 0) ≡ true → filled p ≡ []
+no_byte : (p : ExtentPiece) → (p.bytes == 0) ≡ true → filled p ≡ []
 no_byte p e = ap (λ v. if v then [] else p ∷ []) e
 
-a_byte : (p : Piece) → (p.bytes == 0) ≡ false → filled p ≡ p ∷ []
+a_byte : (p : ExtentPiece) → (p.bytes == 0) ≡ false → filled p ≡ p ∷ []
 a_byte p e = ap (λ v. if v then [] else p ∷ []) e
 
 -- extents of pieces, and one more
-pub placed_more : (addrs : List ℕ) (ps : List Piece) (addr : ℕ) (p : Piece) → length addrs ≡ length ps →
-    placed (addrs ++ (addr ∷ [])) (ps ++ (p ∷ [])) ≡ placed addrs ps ++ (extent_of addr p ∷ [])
+pub placed_more : (addrs : List ℕ) (ps : List ExtentPiece) (addr : ℕ) (p : ExtentPiece) → length addrs ≡ length ps →
+    extents_at (addrs ++ (addr ∷ [])) (ps ++ (p ∷ [])) ≡ extents_at addrs ps ++ (extent_of addr p ∷ [])
 placed_more [] [] addr p e = refl
 placed_more [] (q ∷ qs) addr p e = absurd (omega (arith, e))
 placed_more (a ∷ as') [] addr p e = absurd (omega (arith, e))
 placed_more (a ∷ as') (q ∷ qs) addr p e = ap (λ (l : List ExtentRow). extent_of a q ∷ l) (placed_more as' qs addr p (omega (arith, e)))
 
-pub length-placed : (addrs : List ℕ) (ps : List Piece) → length addrs ≡ length ps → length (placed addrs ps) ≡ length ps
-length-placed [] [] e = refl
-length-placed [] (q ∷ qs) e = absurd (omega (arith, e))
-length-placed (a ∷ as') [] e = absurd (omega (arith, e))
-length-placed (a ∷ as') (q ∷ qs) e = let n = length-placed as' qs (omega (arith, e)) in omega (arith, n)
+pub length-extents_at : (addrs : List ℕ) (ps : List ExtentPiece) → length addrs ≡ length ps →
+    length (extents_at addrs ps) ≡ length ps
+length-extents_at [] [] e = refl
+length-extents_at [] (q ∷ qs) e = absurd (omega (arith, e))
+length-extents_at (a ∷ as') [] e = absurd (omega (arith, e))
+length-extents_at (a ∷ as') (q ∷ qs) e = let n = length-extents_at as' qs (omega (arith, e)) in omega (arith, n)
 
 -- a whole object with one extent more is whole
 pub whole_longer : (acct : Acct) (es : List ExtentRow) (e : ExtentRow) → with_extent (whole_row acct es) e ≡ whole_row acct (es ++ (e ∷ []))
@@ -112,7 +113,7 @@ copy_begun copy first span old = record {
       each = refl;
       fits = All-nil ExtentFits;
       stands =
-          subst (λ (l : List NamedSource). Stands old.blocks
+          subst (λ (l : List NamedSource). BlocksAre old.blocks
           (object_entries copy (whole_row acct []) ++ (sources_entries l ++ (extent_entries xs ++ c.rest))))
           (sym (none_counted acct ss)) c.stands;
     };
@@ -124,13 +125,13 @@ module _ {copy : ℕ} {acct : Acct} {addrs : List ℕ} {span now : Span} {first 
     {cursor i : ℕ} (c : CopyAt copy acct blocks first xs ss) (l : CopyLeft copy acct addrs span xs ss c.rest heap cursor i now) where
   pub chain_now : ExtentsAt heap.blocks first xs
   chain_now =
-      let M = object_entries copy (whole_row acct (placed addrs l.walk.done)) in
+      let M = object_entries copy (whole_row acct (extents_at addrs l.walk.done)) in
       let S = sources_entries (all_counted acct l.walk.done ss) in
       let X = extent_entries xs in
       record {
         rest = (M ++ S) ++ c.rest;
         stands = moved (M ++ S) X c.rest
-            (subst (λ (es : Entries). Stands heap.blocks es) (sym (append_assoc M S (X ++ c.rest))) l.has.stands);
+            (subst (λ (es : Entries). BlocksAre heap.blocks es) (sym (append_assoc M S (X ++ c.rest))) l.has.stands);
         at_first = c.at_first;
         fits = c.fits;
         few = c.few;
@@ -145,27 +146,27 @@ module _ {copy : ℕ} {acct : Acct} {addrs : List ℕ} {span now : Span} {first 
         subst (λ a. KeepsExtent (heap.blocks a) (first_of extent_addr 0 h.behind) h.one) (sym (walk_at l.walk h))
         (keeps_at chain_now l.walk.passed h.one h.behind (walk_whole l.walk h))
 
-    module _ (p : Piece) (is : p ≡ here l.walk h) where
+    module _ (p : ExtentPiece) (is : p ≡ here l.walk h) where
       pub spot : SpotOf p.of ss
       spot =
-          subst (λ a. SpotOf a ss) (sym (ap (λ (q : Piece). q.of) is))
+          subst (λ a. SpotOf a ss) (sym (ap (λ (q : ExtentPiece). q.of) is))
           (spot_of c.may l.walk.passed h.one h.behind (walk_whole l.walk h))
 
       pub done_few : length l.walk.done < 2 ^ 22
       done_few = let f = l.walk.few in let b = walk_below l.walk h in let k = c.few in omega (arith, f, b, k)
 
       -- the object, and the source that the piece is of
-      abbrev pub pair : KeepsPair heap.blocks copy (whole_row acct (placed addrs l.walk.done)) p.of (source_now acct l.walk.done p spot)
+      abbrev pub pair : KeepsPair heap.blocks copy (whole_row acct (extents_at addrs l.walk.done)) p.of (source_now acct l.walk.done p spot)
       pair =
           let m = spot_counts c.may spot in
           let most = of_most spot.here.addr l.walk.done in
           let few : pieces_of spot.here.addr l.walk.done < 2 ^ 22 = let d = done_few in omega (arith, most, d) in
           record {
             rest = others_now acct l.walk.done p spot (extent_entries xs ++ c.rest);
-            stands = focus acct l.walk.done p spot (object_entries copy (whole_row acct (placed addrs l.walk.done)))
+            stands = focus acct l.walk.done p spot (object_entries copy (whole_row acct (extents_at addrs l.walk.done)))
                 (extent_entries xs ++ c.rest) l.has.stands;
-            object_fits = whole_fits acct (placed addrs l.walk.done) l.has.fits
-                (let n = length-placed addrs l.walk.done l.has.each in let d = done_few in omega (arith, n, d));
+            object_fits = whole_fits acct (extents_at addrs l.walk.done) l.has.fits
+                (let n = length-extents_at addrs l.walk.done l.has.each in let d = done_few in omega (arith, n, d));
             source_fits = more_fits acct (pieces_of spot.here.addr l.walk.done) spot.here m few;
             below = more_below acct (pieces_of spot.here.addr l.walk.done) spot.here m few;
           }
@@ -175,23 +176,23 @@ module _ {copy : ℕ} {acct : Acct} {addrs : List ℕ} {span now : Span} {first 
           HasCopied copy acct (addrs ++ (n.addr ∷ [])) (l.walk.done ++ (p ∷ [])) xs ss c.rest new
       named_more {new} n =
           let done = l.walk.done in
-          let M = object_entries copy (whole_row acct (placed addrs done)) in
-          let E = placed addrs done ++ (extent_of n.addr p ∷ []) in
+          let M = object_entries copy (whole_row acct (extents_at addrs done)) in
+          let E = extents_at addrs done ++ (extent_of n.addr p ∷ []) in
           let M' = object_entries copy (whole_row acct E) in
           let C = counted_entries p.of (source_now acct done p spot) in
           let C' = counted_entries p.of (attached acct (source_now acct done p spot)) in
           let O = others_now acct done p spot (extent_entries xs ++ c.rest) in
           let at_end = placed_more addrs done n.addr p l.has.each in
-          let step : Stands new.blocks (M' ++ (C' ++ O)) =
-          subst (λ (es : Entries). Stands new.blocks es) (append_assoc M' C' O)
-          (subst (λ (r : ObjectRow). Stands new.blocks ((object_entries copy r ++ C') ++ O)) (whole_longer acct (placed addrs done) (extent_of n.addr p))
-          ((n.names (whole_row acct (placed addrs done)) (source_now acct done p spot) pair).kept O
-          (subst (λ (es : Entries). Stands heap.blocks es) (sym (append_assoc M C O)) pair.stands))) in
+          let step : BlocksAre new.blocks (M' ++ (C' ++ O)) =
+          subst (λ (es : Entries). BlocksAre new.blocks es) (append_assoc M' C' O)
+          (subst (λ (r : ObjectRow). BlocksAre new.blocks ((object_entries copy r ++ C') ++ O)) (whole_longer acct (extents_at addrs done) (extent_of n.addr p))
+          ((n.names (whole_row acct (extents_at addrs done)) (source_now acct done p spot) pair).kept O
+          (subst (λ (es : Entries). BlocksAre heap.blocks es) (sym (append_assoc M C O)) pair.stands))) in
           record {
             each = let a = length-append addrs (n.addr ∷ []) in let b = length-append done (p ∷ []) in let e = l.has.each in omega (arith, a, b, e);
-            fits = subst (All ExtentFits) (sym at_end) (All-push ExtentFits (placed addrs done) (extent_of n.addr p) l.has.fits new_fits);
+            fits = subst (All ExtentFits) (sym at_end) (All-push ExtentFits (extents_at addrs done) (extent_of n.addr p) l.has.fits new_fits);
             stands =
-                subst (λ (es : List ExtentRow). Stands new.blocks
+                subst (λ (es : List ExtentRow). BlocksAre new.blocks
                 (object_entries copy (whole_row acct es) ++ (sources_entries (all_counted acct (done ++ (p ∷ [])) ss) ++ (extent_entries xs ++ c.rest))))
                 (sym at_end)
                 (unfocus acct done p spot M M' (extent_entries xs ++ c.rest) l.has.stands step);
@@ -201,10 +202,10 @@ module _ {copy : ℕ} {acct : Acct} {addrs : List ℕ} {span now : Span} {first 
           new_fits =
               let f = keeps_here.fits in
               let i = f.inside in
-              let of = ap (λ (q : Piece). q.of) is in
+              let of = ap (λ (q : ExtentPiece). q.of) is in
               let s = f.source in
-              let o = ap (λ (q : Piece). q.offset) is in
-              let b = ap (λ (q : Piece). q.bytes) is in
+              let o = ap (λ (q : ExtentPiece). q.offset) is in
+              let b = ap (λ (q : ExtentPiece). q.bytes) is in
               record {
                 addr = let a = n.new_block.small in omega (arith, a);
                 source = omega (arith, of, s);
@@ -221,7 +222,7 @@ module _ {copy first : ℕ} {span now : Span} {old heap : Heap} {cursor i : ℕ}
       let f = l.left q.acct q.extents q.sources q.is in
       record { next = _; extent = _; keeps = keeps_here q.is f (walk_first f.walk nz) }
 
-  module _ (link : Link) (p : Piece) (nz : cursor ≢ 0) (v : SeesLink (heap.blocks cursor) link) (e : p ≡ cut now.from now.to link.piece) where
+  module _ (link : Link) (p : ExtentPiece) (nz : cursor ≢ 0) (v : SeesLink (heap.blocks cursor) link) (e : p ≡ cut now.from now.to link.piece) where
     module _ {acct : Acct} {xs : List ExtentRow} {ss : List NamedSource} (c : CopyAt copy acct old.blocks first xs ss) where
       abbrev f : CopyLeft copy acct l.addrs span xs ss c.rest heap cursor i now
       f = l.left acct xs ss c
@@ -236,25 +237,26 @@ module _ {copy first : ℕ} {span now : Span} {old heap : Heap} {cursor i : ℕ}
           Walked span xs link.next (i + 1) after
       walk_next after from to =
           let is = v.piece _ h.one (keeps_here c f h) in
-          walk_on f.walk h link.next after (v.next _ h.one (keeps_here c f h)) (from ∙ ap (λ (q : Piece). now.from - q.bytes) is)
-          (to ∙ ap (λ (q : Piece). now.to - q.bytes) is)
+          walk_on f.walk h link.next after (v.next _ h.one (keeps_here c f h)) (from ∙ ap (λ (q : ExtentPiece). now.from - q.bytes) is)
+          (to ∙ ap (λ (q : ExtentPiece). now.to - q.bytes) is)
 
       -- with it there are so many pieces at least
       count_with : length l.addrs + length (filled p) ≤ length (parts span xs)
       count_with =
           let w = walk_count f.walk h in
-          let n = ap (λ (q : Piece). length (filled q)) is_here in
+          let n = ap (λ (q : ExtentPiece). length (filled q)) is_here in
           let k = f.has.each in omega (arith, w, n, k)
 
-      copied : (ps : List Piece) (addrs : List ℕ) {new : Heap} (after : Span) (from : after.from ≡ now.from - link.piece.bytes)
+      copied : (ps : List ExtentPiece) (addrs : List ℕ) {new : Heap} (after : Span) (from : after.from ≡ now.from - link.piece.bytes)
           (to : after.to ≡ now.to - link.piece.bytes) → filled p ≡ ps →
           HasCopied copy acct addrs (f.walk.done ++ ps) xs ss c.rest new →
           CopyLeft copy acct addrs span xs ss c.rest new link.next (i + 1) after
       copied ps addrs {new} after from to e' has = record {
         walk = walk_next after from to;
         has =
-            subst (λ (q : Piece). HasCopied copy acct addrs (f.walk.done ++ filled q) xs ss c.rest new) is_here
-            (subst (λ (qs : List Piece). HasCopied copy acct addrs (f.walk.done ++ qs) xs ss c.rest new) (sym e') has);
+            subst (λ (q : ExtentPiece). HasCopied copy acct addrs (f.walk.done ++ filled q) xs ss c.rest new) is_here
+            (subst (λ (qs : List ExtentPiece). HasCopied copy acct addrs (f.walk.done ++ qs) xs ss c.rest new)
+                (sym e') has);
       }
 
     pub pair_there : SomeCopy copy old first span → SomeWholePair heap.blocks copy p.of
@@ -284,7 +286,7 @@ module _ {copy first : ℕ} {span now : Span} {old heap : Heap} {cursor i : ℕ}
           left = λ acct xs ss c.
               copied c [] l.addrs after from to (no_byte p none)
               (subst (λ (x : Heap). HasCopied copy acct l.addrs ((f c).walk.done ++ []) xs ss c.rest x) (sym same)
-              (subst (λ (qs : List Piece). HasCopied copy acct l.addrs qs xs ss c.rest heap) (sym (append-nil (f c).walk.done)) (f c).has));
+              (subst (λ (qs : List ExtentPiece). HasCopied copy acct l.addrs qs xs ss c.rest heap) (sym (append-nil (f c).walk.done)) (f c).has));
         }
         by false some names = record {
           addrs = l.addrs ++ (names.addr ∷ []);
@@ -302,7 +304,7 @@ module _ {copy first : ℕ} {span now : Span} {old heap : Heap} {cursor i : ℕ}
     copy_stops new (Refused (refusals.NoBlock missing)) s = record {
       is = s.1.0;
       addrs = l.addrs;
-      few = λ acct xs ss c. let n = count_with c in let b = ap (length {A = Piece}) (has_byte p s.0) in omega (arith, n, b);
+      few = λ acct xs ss c. let n = count_with c in let b = ap (length {A = ExtentPiece}) (has_byte p s.0) in omega (arith, n, b);
       moves =
           ap (λ (x : Heap). x.moves) s.1.1 ∙ ap (λ (ms : List Move). ms ++ (Short 32 ∷ [])) (ap (λ (x : Heap). x.moves) l.made.all)
           ∙ append_assoc old.moves (takes_extents l.addrs) (Short 32 ∷ []);
@@ -328,7 +330,7 @@ module _ {copy first : ℕ} {span now : Span} {old heap : Heap} {cursor i : ℕ}
             record {
               addrs = l.addrs ++ (s.1.addr ∷ []);
               few = λ acct xs ss c.
-                  let n = count_with c in let b = ap (length {A = Piece}) (has_byte p s.0) in
+                  let n = count_with c in let b = ap (length {A = ExtentPiece}) (has_byte p s.0) in
                   let a = length-append l.addrs (s.1.addr ∷ []) in omega (arith, n, b, a);
               moves =
                   m ∙ ap (λ (ms : List Move). heap.moves ++ ms) one ∙ ap (λ (ms : List Move). ms ++ (Took 32 s.1.addr ∷ [])) (ap (λ (x : Heap). x.moves) l.made.all)
@@ -357,11 +359,11 @@ module _ {copy first : ℕ} {span now : Span} {old heap : Heap} {cursor i : ℕ}
         by : (b : Bool) → (p.bytes == 0) ≡ b → MatchBool b (new ≡ heap) (NamesSource copy p heap new) →
             length new.moves ≡ length heap.moves + length (filled p)
         by true none same =
-            let a = ap (λ (x : Heap). length x.moves) same in let b = ap (length {A = Piece}) (no_byte p none) in omega (arith, a, b)
+            let a = ap (λ (x : Heap). length x.moves) same in let b = ap (length {A = ExtentPiece}) (no_byte p none) in omega (arith, a, b)
         by false some names =
             let a : length new.moves ≡ length (heap.moves ++ (Took 32 names.addr ∷ [])) = ap (λ (x : Heap). length x.moves) names.made.all in
             let d = length-append heap.moves (Took 32 names.addr ∷ []) in
-            let b = ap (length {A = Piece}) (a_byte p some) in omega (arith, a, b, d)
+            let b = ap (length {A = ExtentPiece}) (a_byte p some) in omega (arith, a, b, d)
 
     -- and so many lines touched at most
     pub lines_with : {acct : Acct} {xs : List ExtentRow} {ss : List NamedSource} → CopyAt copy acct old.blocks first xs ss →
@@ -393,7 +395,7 @@ module _ {copy first : ℕ} {span now : Span} {old heap : Heap} {cursor i : ℕ}
     made = l.made;
     copies = λ acct xs ss c.
         let f = l.left acct xs ss c in
-        subst (λ (ps : List Piece). HasCopied copy acct l.addrs ps xs ss c.rest heap) (sym (walk_over f.walk (none acct xs ss c))) f.has;
+        subst (λ (ps : List ExtentPiece). HasCopied copy acct l.addrs ps xs ss c.rest heap) (sym (walk_over f.walk (none acct xs ss c))) f.has;
   }
 
   -- all are named

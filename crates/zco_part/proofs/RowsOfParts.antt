@@ -2,7 +2,7 @@
 use Rattle.std.proofs.Common.{◌≡◌, List, [], ◌∷◌, refl}
 use Rattle.sdr_base.specs.ZcoObjects.{ObjectRow}
 use Rattle.sdr_base.specs.declared.account.Acct.TheVariants as accts
-use Rattle.zco_obj.specs.declared.extent.Piece.{Piece}
+use Rattle.zco_obj.specs.declared.extent.ExtentPiece.{ExtentPiece}
 use Rattle.zco_part.specs.Pieces.{asked}
 use Rattle.zco_part.specs.Sources.{pieces_of}
 
@@ -24,7 +24,7 @@ row_within : asked 0 2 object ≡ record { of = 88; offset = 11; bytes = 2 } ∷
 row_within = refl
 
 -- across all of them, cut at both ends
-across : List Piece
+across : List ExtentPiece
 across = record { of = 88; offset = 12; bytes = 1 } ∷ record { of = 96; offset = 20; bytes = 4 } ∷ record { of = 88; offset = 30; bytes = 2 } ∷ []
 
 row_across : asked 1 7 object ≡ across

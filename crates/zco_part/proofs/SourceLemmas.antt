@@ -6,13 +6,13 @@ use Rattle.std.proofs.lemmas.List.{map-append}
 use Rattle.std.proofs.lemmas.List.Concat.{flat_map-append}
 use Rattle.std.proofs.lemmas.List.Sums.{sum_by-append, sum_by-cons}
 use Rattle.sdr_base.specs.Blocks.{Blocks}
-use Rattle.sdr_base.specs.Entries.{Entries, Stands, times}
+use Rattle.sdr_base.specs.Entries.{Entries, BlocksAre, times}
 use Rattle.sdr_base.specs.Sources.{SourceRow}
 use Rattle.sdr_base.specs.declared.account.Acct.{Acct}
 use Rattle.sdr_base.specs.declared.account.Acct.TheVariants as accts
 use Rattle.sdr_base.proofs.StandingLemmas.{times-append}
 use Rattle.zco_obj.specs.Gone.{NamedSource, sources_entries}
-use Rattle.zco_obj.specs.declared.extent.Piece.{Piece}
+use Rattle.zco_obj.specs.declared.extent.ExtentPiece.{ExtentPiece}
 use Rattle.zco_obj.proofs.PairLemmas.{swapped}
 use Rattle.zco_obj.proofs.SpotLemmas.{SpotOf, times_head}
 use Rattle.zco_ref.specs.Counting.{attached}
@@ -20,23 +20,24 @@ use Rattle.zco_ref.specs.Kept.{CountedSource, SourceFits, count_in, counted_bloc
 use Rattle.zco_part.specs.Sources.{MayCount, all_counted, counted, more_uses, pieces_of}
 
 -- whether a piece is of the source at an address
-abbrev is_of : ℕ → Piece → ℕ
+abbrev is_of : ℕ → ExtentPiece → ℕ
 is_of addr p = if p.of == addr then 1 else 0
 
 -- one piece more, which is of it
-of_one : (addr : ℕ) (ps : List Piece) (p : Piece) → p.of ≡ addr → pieces_of addr (ps ++ (p ∷ [])) ≡ pieces_of addr ps + 1
+of_one : (addr : ℕ) (ps : List ExtentPiece) (p : ExtentPiece) → p.of ≡ addr → pieces_of addr (ps ++ (p ∷ [])) ≡ pieces_of addr ps + 1
 of_one addr ps p is =
     let a = sum_by-append (is_of addr) ps (p ∷ []) in let c = sum_by-cons (is_of addr) p [] in
     let n : is_of addr p ≡ 1 = ap (λ v. if v then 1 else 0) (eq-eqb p.of addr is) in omega (arith, a, c, n)
 
 -- or isn't
-of_other : (addr : ℕ) (ps : List Piece) (p : Piece) → p.of ≢ addr → pieces_of addr (ps ++ (p ∷ [])) ≡ pieces_of addr ps
+of_other : (addr : ℕ) (ps : List ExtentPiece) (p : ExtentPiece) → p.of ≢ addr → pieces_of addr (ps ++ (p ∷ []))
+    ≡ pieces_of addr ps
 of_other addr ps p is =
     let a = sum_by-append (is_of addr) ps (p ∷ []) in let c = sum_by-cons (is_of addr) p [] in
     let n : is_of addr p ≡ 0 = ap (λ v. if v then 1 else 0) (ne_eqb p.of addr is) in omega (arith, a, c, n)
 
 -- so many are at most
-pub of_most : (addr : ℕ) (ps : List Piece) → pieces_of addr ps ≤ length ps
+pub of_most : (addr : ℕ) (ps : List ExtentPiece) → pieces_of addr ps ≤ length ps
 of_most addr [] = omega arith
 of_most addr (p ∷ ps) =
     let c = sum_by-cons (is_of addr) p ps in
@@ -89,7 +90,7 @@ none_counted acct (s ∷ ss) =
     ∙ ap (λ (l : List NamedSource). s ∷ l) (none_counted acct ss)
 
 -- the others are counted as they were, where none is at this address
-others : (acct : Acct) (done : List Piece) (p : Piece) (ts : List NamedSource) →
+others : (acct : Acct) (done : List ExtentPiece) (p : ExtentPiece) (ts : List NamedSource) →
     times p.of (sources_entries (all_counted acct done ts)) ≡ 0 → all_counted acct (done ++ (p ∷ [])) ts ≡ all_counted acct done ts
 others acct done p [] z = refl
 others acct done p (t ∷ ts) z =
@@ -101,7 +102,7 @@ others acct done p (t ∷ ts) z =
     ∙ ap (λ (l : List NamedSource). counted acct done t ∷ l) (others acct done p ts (omega (arith, a, z)))
 
 -- one source among others, once these pieces were counted, and the next piece is of it
-module _ (acct : Acct) (done : List Piece) (p : Piece) {ss : List NamedSource} (s : SpotOf p.of ss) where
+module _ (acct : Acct) (done : List ExtentPiece) (p : ExtentPiece) {ss : List NamedSource} (s : SpotOf p.of ss) where
   -- as it is then
   abbrev pub source_now : CountedSource
   source_now = (counted acct done s.here).source
@@ -120,7 +121,7 @@ module _ (acct : Acct) (done : List Piece) (p : Piece) {ss : List NamedSource} (
   abbrev pub others_now : Entries → Entries
   others_now rest = before ++ (own ++ (behind ++ rest))
 
-  cut_at : (ps : List Piece) (rest : Entries) →
+  cut_at : (ps : List ExtentPiece) (rest : Entries) →
       sources_entries (all_counted acct ps ss) ++ rest
       ≡ sources_entries (all_counted acct ps s.before)
       ++ (tied_entries s.here.addr (counted acct ps s.here).source s.here.bytes
@@ -137,17 +138,17 @@ module _ (acct : Acct) (done : List Piece) (p : Piece) {ss : List NamedSource} (
       ∙ append_assoc A (T ++ B) rest ∙ ap (λ (es : Entries). A ++ es) (append_assoc T B rest)
 
   -- it is brought to the front
-  pub focus : {b : Blocks} (front rest : Entries) → Stands b (front ++ (sources_entries (all_counted acct done ss) ++ rest)) →
-      Stands b (front ++ (counted_entries p.of source_now ++ others_now rest))
+  pub focus : {b : Blocks} (front rest : Entries) → BlocksAre b (front ++ (sources_entries (all_counted acct done ss) ++ rest)) →
+      BlocksAre b (front ++ (counted_entries p.of source_now ++ others_now rest))
   focus {b} front rest st =
       let C = counted_entries s.here.addr source_now in
-      subst (λ a. Stands b (front ++ (counted_entries a source_now ++ others_now rest))) s.at
+      subst (λ a. BlocksAre b (front ++ (counted_entries a source_now ++ others_now rest))) s.at
       (swapped b front before C (own ++ (behind ++ rest))
-      (subst (λ (es : Entries). Stands b (front ++ es))
+      (subst (λ (es : Entries). BlocksAre b (front ++ es))
       (cut_at done rest ∙ ap (λ (es : Entries). before ++ es) (append_assoc C own (behind ++ rest))) st))
 
   -- the others are at other addresses
-  apart : {b : Blocks} (front rest : Entries) → Stands b (front ++ (sources_entries (all_counted acct done ss) ++ rest)) →
+  apart : {b : Blocks} (front rest : Entries) → BlocksAre b (front ++ (sources_entries (all_counted acct done ss) ++ rest)) →
       (times p.of before ≡ 0) × (times p.of behind ≡ 0)
   apart {b} front rest st =
       let C = counted_entries p.of source_now in
@@ -161,9 +162,9 @@ module _ (acct : Acct) (done : List Piece) (p : Piece) {ss : List NamedSource} (
       (omega (arith, one, x, y, z, u, v, h), omega (arith, one, x, y, z, u, v, h))
 
   -- and brought back, where it counts one extent more
-  pub unfocus : {b b' : Blocks} (front front' rest : Entries) → Stands b (front ++ (sources_entries (all_counted acct done ss) ++ rest)) →
-      Stands b' (front' ++ (counted_entries p.of (attached acct source_now) ++ others_now rest)) →
-      Stands b' (front' ++ (sources_entries (all_counted acct (done ++ (p ∷ [])) ss) ++ rest))
+  pub unfocus : {b b' : Blocks} (front front' rest : Entries) → BlocksAre b (front ++ (sources_entries (all_counted acct done ss) ++ rest)) →
+      BlocksAre b' (front' ++ (counted_entries p.of (attached acct source_now) ++ others_now rest)) →
+      BlocksAre b' (front' ++ (sources_entries (all_counted acct (done ++ (p ∷ [])) ss) ++ rest))
   unfocus {b} {b'} front front' rest st st' =
       let more = done ++ (p ∷ []) in
       let now = attached acct source_now in
@@ -186,6 +187,6 @@ module _ (acct : Acct) (done : List Piece) (p : Piece) {ss : List NamedSource} (
       ++ (tied_entries s.here.addr (counted acct more s.here).source s.here.bytes ++ (sources_entries l ++ rest)))
       (sym (others acct done p s.behind off.1))
       ∙ sym (cut_at more rest) in
-      subst (λ (es : Entries). Stands b' (front' ++ es)) whole
+      subst (λ (es : Entries). BlocksAre b' (front' ++ es)) whole
       (swapped b' front' C before (own ++ (behind ++ rest))
-      (subst (λ a. Stands b' (front' ++ (counted_entries a now ++ others_now rest))) (sym s.at) st'))
+      (subst (λ a. BlocksAre b' (front' ++ (counted_entries a now ++ others_now rest))) (sym s.at) st'))

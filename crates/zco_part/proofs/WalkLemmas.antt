@@ -3,14 +3,14 @@ use Rattle.std.proofs.Common.{◌≡◌, ◌≢◌, ◌+◌, ◌-◌, ◌≤◌,
 use Rattle.std.specs.Prelude.{◌==◌, if◌then◌else◌}
 use Rattle.sdr_base.specs.Linked.{first_of}
 use Rattle.sdr_base.specs.ZcoObjects.{ExtentRow, extent_addr}
-use Rattle.zco_obj.specs.declared.extent.Piece.{Piece}
+use Rattle.zco_obj.specs.declared.extent.ExtentPiece.{ExtentPiece}
 use Rattle.zco_obj.proofs.WalkLemmas.{HasFirst, has_first}
 use Rattle.zco_part.specs.Pieces.{cut, filled, piece_of, pieces}
 use Rattle.zco_part.specs.Walking.{Walked}
 use Rattle.zco_part.specs.declared.span.Span.{Span}
 
 -- a piece is one at most
-pub filled_most : (p : Piece) → length (filled p) ≤ 1
+pub filled_most : (p : ExtentPiece) → length (filled p) ≤ 1
 filled_most p =
     elim (p.bytes == 0) as (λ v. length (if v then [] else p ∷ []) ≤ 1) [
       | true ↦ omega arith
@@ -34,7 +34,7 @@ module _ {span now : Span} {xs : List ExtentRow} {cursor i : ℕ} (w : Walked sp
   walk_first nz = has_first extent_addr w.left (λ z. nz (w.at_cursor ∙ z))
 
   module _ (h : HasFirst w.left) where
-    abbrev pub here : Piece
+    abbrev pub here : ExtentPiece
     here = cut now.from now.to (piece_of h.one)
 
     pub walk_whole : xs ≡ w.passed ++ (h.one ∷ h.behind)
@@ -74,7 +74,7 @@ module _ {span now : Span} {xs : List ExtentRow} {cursor i : ℕ} (w : Walked sp
     -- so many pieces are there with it at least
     pub walk_count : length w.done + length (filled here) ≤ length (pieces span.from span.to xs)
     walk_count =
-        let e = ap (length {A = Piece}) walk_parts in
+        let e = ap (length {A = ExtentPiece}) walk_parts in
         let l = length-append w.done (filled here) in
         let m = length-append (w.done ++ filled here) (pieces (now.from - h.one.length) (now.to - h.one.length) h.behind) in
         omega (arith, e, l, m)
@@ -92,7 +92,7 @@ module _ {span now : Span} {xs : List ExtentRow} {cursor i : ℕ} (w : Walked sp
   -- so many pieces are done at most
   pub done_most : length w.done ≤ length (pieces span.from span.to xs)
   done_most =
-      let e = ap (length {A = Piece}) w.parts in
+      let e = ap (length {A = ExtentPiece}) w.parts in
       let l = length-append w.done (pieces now.from now.to w.left) in omega (arith, e, l)
 
   pub passed_most : i ≤ length xs

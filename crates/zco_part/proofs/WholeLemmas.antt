@@ -12,12 +12,12 @@ use Rattle.sdr_base.proofs.ObjectsLemmas.{with_block-again, with_block-here}
 use Rattle.sdr_base.proofs.WritingLemmas.{reaches_less}
 use Rattle.zco_obj.specs.Extents.{AddsExtent, LinksExtent, SetsPart, grown}
 use Rattle.zco_obj.specs.Kept.{extents_length}
-use Rattle.zco_obj.specs.declared.extent.Piece.{Piece}
+use Rattle.zco_obj.specs.declared.extent.ExtentPiece.{ExtentPiece}
 use Rattle.zco_obj.proofs.ExtentLemmas.{adds_extent, extent_words, grown_reaches, kept_beside, last_reaches, links_first_extent, links_next_extent, part_grows, word_reaches}
 use Rattle.zco_obj.proofs.KeptLemmas.{extents_most, object_found, object_word, object_words, words_fit}
 use Rattle.zco_obj.proofs.PairLemmas.{pair_object}
 use Rattle.zco_obj.proofs.PartsLemmas.{extents_at}
-use Rattle.zco_part.specs.Naming.{Follows, IsWhole, SomeWhole, SomeWholePair, with_end}
+use Rattle.zco_part.specs.Naming.{FollowsLast, IsWholeRow, SomeWhole, SomeWholePair, with_end}
 use Rattle.zco_part.proofs.LinkLemmas.{as_many_bytes, word_there}
 
 -- the words from that for the last extent to that for the part's length, written at once, are those two written
@@ -29,7 +29,7 @@ ends_written : (account first last added was part : ℕ) →
 unfolding layout
 ends_written account first last added was part = refl
 
-block_ended : (o : Option Block) (row : ObjectRow) (added part : ℕ) → IsWhole row → o ≡ Some (object_block row) →
+block_ended : (o : Option Block) (row : ObjectRow) (added part : ℕ) → IsWholeRow row → o ≡ Some (object_block row) →
     overwritten o 16 (layout (added ∷ 0 ∷ 0 ∷ 0 ∷ 0 ∷ 0 ∷ part ∷ []) [])
     ≡ overwritten (overwritten o 64 (big_bytes 8 part)) 16 (big_bytes 8 added)
 block_ended o row added part whole is =
@@ -62,11 +62,11 @@ ended_by {object} added part old new bytes q is w =
 
 -- the one link is set, or the other
 pub follows_first : {object last added : ℕ} {old new : Heap} → last ≡ 0 → new ≡ with_word old object 1 added →
-    Follows object last added old new
+    FollowsLast object last added old new
 follows_first none w = record { first = λ zero. w; next = λ some. absurd (some none) }
 
 pub follows_next : {object last added : ℕ} {old new : Heap} → last ≢ 0 → new ≡ with_word old last 3 added →
-    Follows object last added old new
+    FollowsLast object last added old new
 follows_next some w = record { first = λ none. absurd (some none); next = λ nonzero. w }
 
 -- its part is longer by what is to come
@@ -101,7 +101,7 @@ whole_of_pair q = record {
 }
 
 -- the block of an extent was taken
-module _ {object addr : ℕ} {old mid : Heap} (piece : Piece) (t : TakesBytes kinds.Extent (layout (extent_words piece) []) addr old mid)
+module _ {object addr : ℕ} {old mid : Heap} (piece : ExtentPiece) (t : TakesBytes kinds.Extent (layout (extent_words piece) []) addr old mid)
     (q : SomeWhole old.blocks object) where
   -- the object is there still
   pub whole_beside : SomeWhole mid.blocks object
@@ -140,7 +140,8 @@ module _ {object addr : ℕ} {old mid : Heap} (piece : Piece) (t : TakesBytes ki
         (last_reaches piece t grows q.some l n)
 
     -- and the extent is linked
-    pub adds_last : {last : ℕ} {new : Heap} → HasWord (old.blocks object) 2 last → Follows object last addr ended new →
+    pub adds_last : {last : ℕ} {new : Heap} → HasWord (old.blocks object) 2 last → FollowsLast object last addr ended
+        new →
         AddsExtent object piece old new
     adds_last {last} {new} l f = by last refl
       where

@@ -22,7 +22,7 @@ use Rattle.zco_obj.specs.Kept.{KeepsObject}
 use Rattle.zco_part.specs.Charging.{clone_amounts}
 use Rattle.zco_part.specs.Copying.{parts, takes_extents}
 use Rattle.zco_part.specs.Delimiting.{OfObject}
-use Rattle.zco_part.specs.Pieces.{asked, placed, whole_row}
+use Rattle.zco_part.specs.Pieces.{asked, extents_at, whole_row}
 use Rattle.zco_part.specs.Sources.{AreCountable, ExtentsBeside, all_counted}
 use Rattle.zco_part.specs.declared.cloning.Asked.{Asked}
 
@@ -103,7 +103,7 @@ pub record IsCloned (object number offset bytes clone : ℕ) (addrs : List ℕ) 
   pub each : length addrs ≡ length (asked offset bytes row)
   pub pays : Pays row.account number (clone_amounts sources (asked offset bytes row)) tickets (takes_clone clone addrs)
       (object_entries object row ++ sources_entries sources)
-      (object_entries clone (whole_row row.account (placed addrs (asked offset bytes row)))
+      (object_entries clone (whole_row row.account (extents_at addrs (asked offset bytes row)))
       ++ (object_entries object row ++ sources_entries (all_counted row.account (asked offset bytes row) sources))) old new
 
 -- so it is with whichever object is kept

@@ -1,7 +1,7 @@
 -- Pieces of a chain of extents, named by a new object.
 use Rattle.std.specs.Prelude.{◌≡◌, ◌+◌, ◌-◌, ◌<◌, ◌≤◌, ◌^◌, ℕ, List, [], ◌∷◌, ◌++◌, length, map, All}
 use Rattle.sdr_base.specs.Blocks.{Blocks}
-use Rattle.sdr_base.specs.Entries.{Entries, Stands}
+use Rattle.sdr_base.specs.Entries.{Entries, BlocksAre}
 use Rattle.sdr_base.specs.Linked.{first_of}
 use Rattle.sdr_base.specs.Making.{Made}
 use Rattle.sdr_base.specs.Objects.{Heap, OnlyFault}
@@ -15,8 +15,8 @@ use Rattle.sdr_base.specs.declared.stop.Stop.TheVariants.{Refused}
 use Rattle.sdr_model.specs.Things.{extent_need}
 use Rattle.zco_obj.specs.Gone.{NamedSource, sources_entries}
 use Rattle.zco_obj.specs.Kept.{ExtentFits}
-use Rattle.zco_obj.specs.declared.extent.Piece.{Piece}
-use Rattle.zco_part.specs.Pieces.{pieces, placed, whole_row}
+use Rattle.zco_obj.specs.declared.extent.ExtentPiece.{ExtentPiece}
+use Rattle.zco_part.specs.Pieces.{pieces, extents_at, whole_row}
 use Rattle.zco_part.specs.Sources.{AreCountable, all_counted}
 use Rattle.zco_part.specs.declared.span.Span.{Span}
 
@@ -29,14 +29,14 @@ abbrev pub IsSmall : ℕ → Type 0
 IsSmall addr = addr < 2 ^ 32
 
 -- what these extents name of their bytes in a span
-abbrev pub parts : Span → List ExtentRow → List Piece
+abbrev pub parts : Span → List ExtentRow → List ExtentPiece
 parts span extents = pieces span.from span.to extents
 
 -- an object with nothing in it stands there, a chain of extents, and their sources
 pub record CopyAt (copy : ℕ) (acct : Acct) (blocks : Blocks) (first : ℕ) (extents : List ExtentRow) (sources : List NamedSource)
     : Type 0 where
   pub rest : Entries
-  pub stands : Stands blocks
+  pub stands : BlocksAre blocks
       (object_entries copy (whole_row acct []) ++ (sources_entries sources ++ (extent_entries extents ++ rest)))
   pub at_first : first ≡ first_of extent_addr 0 extents
   pub fits : All ExtentFits extents
@@ -52,12 +52,12 @@ pub record SomeCopy (copy : ℕ) (heap : Heap) (first : ℕ) (span : Span) : Typ
   pub room : length (parts span extents) ≤ heap.spare
 
 -- the object has extents of these pieces at these addresses, and their sources count them
-pub record HasCopied (copy : ℕ) (acct : Acct) (addrs : List ℕ) (ps : List Piece) (extents : List ExtentRow)
+pub record HasCopied (copy : ℕ) (acct : Acct) (addrs : List ℕ) (ps : List ExtentPiece) (extents : List ExtentRow)
     (sources : List NamedSource) (rest : Entries) (now : Heap) : Type 0 where
   pub each : length addrs ≡ length ps
-  pub fits : All ExtentFits (placed addrs ps)
-  pub stands : Stands now.blocks
-      (object_entries copy (whole_row acct (placed addrs ps))
+  pub fits : All ExtentFits (extents_at addrs ps)
+  pub stands : BlocksAre now.blocks
+      (object_entries copy (whole_row acct (extents_at addrs ps))
       ++ (sources_entries (all_counted acct ps sources) ++ (extent_entries extents ++ rest)))
 
 -- so it is with all pieces of whichever chain is there, for each of which a block was taken

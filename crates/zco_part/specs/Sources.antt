@@ -1,19 +1,19 @@
 -- The sources that some extents name, which extents more are to name.
 use Rattle.std.specs.Prelude.{◌≡◌, ◌+◌, ◌<◌, ◌==◌, ◌^◌, ℕ, List, ◌++◌, length, map, sum_by, All, if◌then◌else◌}
 use Rattle.sdr_base.specs.Blocks.{Blocks}
-use Rattle.sdr_base.specs.Entries.{Entries, Stands}
+use Rattle.sdr_base.specs.Entries.{Entries, BlocksAre}
 use Rattle.sdr_base.specs.Linked.{first_of}
 use Rattle.sdr_base.specs.ZcoObjects.{ExtentRow, extent_addr, extent_entries}
 use Rattle.sdr_base.specs.declared.account.Acct.{Acct}
 use Rattle.zco_obj.specs.Gone.{NamedSource, source_at, sources_entries}
 use Rattle.zco_obj.specs.Kept.{ExtentFits}
 use Rattle.zco_obj.specs.Uses.{IsThere}
-use Rattle.zco_obj.specs.declared.extent.Piece.{Piece}
+use Rattle.zco_obj.specs.declared.extent.ExtentPiece.{ExtentPiece}
 use Rattle.zco_ref.specs.Counting.{with_count}
 use Rattle.zco_ref.specs.Kept.{CountedSource, SourceFits, count_in}
 
 -- how many of these pieces are of the source at an address
-abbrev pub pieces_of : ℕ → List Piece → ℕ
+abbrev pub pieces_of : ℕ → List ExtentPiece → ℕ
 pieces_of addr = sum_by (λ p. if p.of == addr then 1 else 0)
 
 -- the source with so many extents of an account more
@@ -21,11 +21,11 @@ abbrev pub more_uses : Acct → ℕ → CountedSource → CountedSource
 more_uses acct n source = with_count acct (count_in acct source + n) source
 
 -- the source, once an extent of the account more names each of these pieces
-abbrev pub counted : Acct → List Piece → NamedSource → NamedSource
+abbrev pub counted : Acct → List ExtentPiece → NamedSource → NamedSource
 counted acct ps s = record s { source = more_uses acct (pieces_of s.addr ps) s.source }
 
 -- so it is with each of these sources
-abbrev pub all_counted : Acct → List Piece → List NamedSource → List NamedSource
+abbrev pub all_counted : Acct → List ExtentPiece → List NamedSource → List NamedSource
 all_counted acct ps = map (counted acct ps)
 
 -- the numbers of a source fit, and as many extents more as a chain may have can be counted
@@ -42,7 +42,7 @@ pub record AreCountable (extents : List ExtentRow) (sources : List NamedSource) 
 -- extents are a chain there, and their sources stand beside
 pub record ExtentsBeside (blocks : Blocks) (first : ℕ) (extents : List ExtentRow) (sources : List NamedSource) : Type 0 where
   pub rest : Entries
-  pub stands : Stands blocks (sources_entries sources ++ (extent_entries extents ++ rest))
+  pub stands : BlocksAre blocks (sources_entries sources ++ (extent_entries extents ++ rest))
   pub at_first : first ≡ first_of extent_addr 0 extents
   pub fits : All ExtentFits extents
   pub few : length extents < 2 ^ 22

@@ -4,7 +4,7 @@ use Rattle.sdr_base.specs.Blocks.{Block}
 use Rattle.sdr_base.specs.Linked.{first_of}
 use Rattle.sdr_base.specs.ZcoObjects.{ExtentRow, extent_addr}
 use Rattle.zco_obj.specs.Walks.{KeepsExtent}
-use Rattle.zco_obj.specs.declared.extent.Piece.{Piece}
+use Rattle.zco_obj.specs.declared.extent.ExtentPiece.{ExtentPiece}
 use Rattle.zco_part.specs.Pieces.{piece_of, pieces}
 use Rattle.zco_part.specs.declared.span.Link.{Link}
 use Rattle.zco_part.specs.declared.span.Span.{Span}
@@ -19,7 +19,7 @@ pub record SeesLink (found : Option Block) (link : Link) : Type 0 where
 pub record Walked (span : Span) (extents : List ExtentRow) (cursor i : ℕ) (now : Span) : Type 0 where
   pub passed : List ExtentRow
   pub left : List ExtentRow
-  pub done : List Piece
+  pub done : List ExtentPiece
   pub whole : extents ≡ passed ++ left
   pub counted : length passed ≡ i
   pub at_cursor : cursor ≡ first_of extent_addr 0 left

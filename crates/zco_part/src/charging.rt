@@ -12,7 +12,7 @@ ghost use Rattle.zco_ref.specs.Kept.{SomeSource};
 use crate::span::{Span, cut, later, see_link};
 use sdr_base::{Addr, Amounts, Objects, Stop, check_failed};
 use sdr_model::amounts::{NOTHING, plus};
-use zco_obj::{Piece, TOO_MANY_PARTS, extent_amounts, see_source};
+use zco_obj::{ExtentPiece, TOO_MANY_PARTS, extent_amounts, see_source};
 
 // What extents charge of the bytes of a chain in a span. It is linear in the chain.
 pub fn chain_charge<O: Objects>(o: &mut O, first: Addr, span: Span) -> Result<Amounts, Stop>
@@ -41,7 +41,7 @@ pub fn chain_charge<O: Objects>(o: &mut O, first: Addr, span: Span) -> Result<Am
 }
 
 // What an extent of a piece charges: nothing where the piece has no byte, since there is none then.
-fn piece_charge<O: Objects>(o: &mut O, piece: Piece) -> Result<Amounts, Stop>
+fn piece_charge<O: Objects>(o: &mut O, piece: ExtentPiece) -> Result<Amounts, Stop>
     requires kept { KeepsSome (O.keeps o.old) }
     requires source { SomeSource ((O.heap o.old).blocks piece.of) }
     requires short { piece.bytes ≤ longest_source }

@@ -3,7 +3,7 @@ ghost use Rattle.std.specs.Prelude.{◌≡◌, ◌≤◌, ◌+◌, ◌*◌, List
 ghost use Rattle.sdr_base.specs.Blocks.{IsKind};
 ghost use Rattle.sdr_base.specs.Moves.{KeepsSome};
 ghost use Rattle.sdr_base.specs.Objects.{OnlyFault};
-ghost use Rattle.sdr_base.specs.Works.{Looks, Works};
+ghost use Rattle.sdr_base.specs.Works.{Looks, Spends};
 ghost use Rattle.sdr_base.specs.ZcoObjects.{ObjectRow};
 ghost use Rattle.sdr_base.specs.declared.kind.Kind.TheVariants as kinds;
 ghost use Rattle.sdr_model.specs.declared.accounts.Ticket.{Ticket};
@@ -54,9 +54,9 @@ pub fn clone_part<O: Objects>(
         (CloneStops object ticket offset bytes (O.heap o.old) (O.heap o.new)) }
     ensures works { (row : ObjectRow) (tickets : List Ticket) (sources : List NamedSource) →
         KeepsToClone (O.heap o.old) object row tickets sources →
-        Works O.HasHeap (34 + 33 * length (asked offset bytes row)) o.old o.new result }
+        Spends O.HasHeap (34 + 33 * length (asked offset bytes row)) o.old o.new result }
     ensures missed { (IsKind ((O.heap o.old).blocks object) kinds.Object → ⊥) →
-        Works O.HasHeap 0 o.old o.new result }
+        Spends O.HasHeap 0 o.old o.new result }
 {
     expect_kind(o, object, Kind::Object)?;
     let have = word(o, object, words::PART_LENGTH)?;
@@ -97,7 +97,7 @@ fn make_clone<O: Objects>(
         (CloneStops object ticket offset bytes (O.heap o.old) (O.heap o.new)) }
     ensures works { (row : ObjectRow) (tickets : List Ticket) (sources : List NamedSource) →
         KeepsToClone (O.heap o.old) object row tickets sources →
-        Works O.HasHeap (34 + 33 * length (asked offset bytes row)) o.old o.new result }
+        Spends O.HasHeap (34 + 33 * length (asked offset bytes row)) o.old o.new result }
 {
     let acct = account(o, object)?;
     let seen = see_asked(o, object, offset, bytes)?;
@@ -136,7 +136,7 @@ fn charge_clone<O: Objects>(o: &mut O, acct: Acct, ticket: u64, asked: Asked) ->
     ensures charged { OnOk result
         (ChargesClone acct ticket asked (O.heap o.old) (O.heap o.new)) }
     ensures refused { IfErr result (StopsClone acct ticket asked (O.heap o.old) (O.heap o.new)) }
-    ensures works { Works O.HasHeap 5 o.old o.new result }
+    ensures works { Spends O.HasHeap 5 o.old o.new result }
 {
     let extents = chain_charge(o, asked.first, asked.span)?;
     charge(

@@ -1,7 +1,7 @@
 // The part of an object.
 ghost use Rattle.std.specs.Prelude.{◌≡◌, ◌≤◌, ◌+◌, IfErr, OnOk};
 ghost use Rattle.sdr_base.specs.Moves.{KeepsSome};
-ghost use Rattle.sdr_base.specs.Works.{Works};
+ghost use Rattle.sdr_base.specs.Works.{Spends};
 ghost use Rattle.zco_obj.specs.Kept.{IsObject};
 ghost use Rattle.zco_part.specs.Delimiting.{Delimits, DelimitStops, IsPast};
 
@@ -20,7 +20,7 @@ pub fn delimit<O: Objects>(o: &mut O, object: Addr, offset: u64, bytes: u64) -> 
     ensures delimited { OnOk result (Delimits object offset bytes (O.heap o.old) (O.heap o.new)) }
     ensures refused { IfErr result
         (DelimitStops object offset bytes (O.heap o.old) (O.heap o.new)) }
-    ensures works { Works O.HasHeap 4 o.old o.new result }
+    ensures works { Spends O.HasHeap 4 o.old o.new result }
 {
     expect_kind(o, object, Kind::Object)?;
     let first = word(o, object, words::FIRST_EXTENT)?;

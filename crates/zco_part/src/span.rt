@@ -10,7 +10,7 @@ ghost use Rattle.zco_part.specs.Walking.{SeesLink};
 
 use sdr_base::layout::extent as words;
 use sdr_base::{Addr, Objects, Stop, word};
-use zco_obj::{Piece, see_extent};
+use zco_obj::{ExtentPiece, see_extent};
 
 // Places among the bytes of some extents: those from one on and before another.
 #[derive(Clone, Copy)]
@@ -22,18 +22,18 @@ pub struct Span {
 // What an extent names, and the address of the next one, 0 for none.
 #[derive(Clone, Copy)]
 pub struct Link {
-    pub piece: Piece,
+    pub piece: ExtentPiece,
     pub next: Addr,
 }
 
 // A piece, cut to those of its bytes that are in a span, which begins to count at the first of them.
-pub fn cut(span: Span, piece: Piece) -> Piece
+pub fn cut(span: Span, piece: ExtentPiece) -> ExtentPiece
     requires ends { piece.offset + piece.bytes ≤ longest_source }
     ensures cut { result ≡ cut span.from span.to piece }
     ensures short { result.bytes ≤ longest_source }
 {
     let first = span.from.min(piece.bytes);
-    Piece {
+    ExtentPiece {
         of: piece.of,
         offset: piece.offset + first,
         bytes: span.to.min(piece.bytes).saturating_sub(first),
@@ -63,7 +63,7 @@ pub fn see_link<O: Objects>(o: &mut O, extent: Addr) -> Result<Link, Stop>
     let seen = see_extent(o, extent)?;
     let offset = word(o, extent, words::OFFSET)?;
     Ok(Link {
-        piece: Piece {
+        piece: ExtentPiece {
             of: seen.source,
             offset,
             bytes: seen.length,

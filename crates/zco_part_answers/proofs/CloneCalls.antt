@@ -6,16 +6,16 @@ use Rattle.std.specs.Option.{option_map_or}
 use Rattle.std.specs.Prelude.{slice_index}
 use Rattle.sdr_answers.proofs.ListLemmas.{IsSmall}
 use Rattle.sdr_answers.proofs.RowLemmas.{misnamed_refused, moved_answered, row_refused}
-use Rattle.sdr_answers.specs.Answering.{Aim, Answered, IsRefused, IsServed}
+use Rattle.sdr_answers.specs.Answering.{Aim, Answered, IsRefused, IsReady}
 use Rattle.sdr_audit.proofs.ChangeLemmas.{apart, nothing_at}
 use Rattle.sdr_audit.specs.Rows.{object_row}
 use Rattle.sdr_audit.specs.Standing.{HeapStandsFor, entries_of, thing_entries, with_taken_marked}
 use Rattle.sdr_audit.specs.Ties.{ties_of}
 use Rattle.sdr_base.specs.Blocks.{IsKind}
-use Rattle.sdr_base.specs.Entries.{Changes, Entries, Stands}
+use Rattle.sdr_base.specs.Entries.{Changes, Entries, BlocksAre}
 use Rattle.sdr_base.specs.Objects.{Heap}
 use Rattle.sdr_base.specs.Section.{section}
-use Rattle.sdr_base.specs.Works.{Works}
+use Rattle.sdr_base.specs.Works.{Spends}
 use Rattle.sdr_base.specs.ZcoObjects.{ObjectRow, object_entries}
 use Rattle.sdr_base.specs.declared.account.Amounts.{Amounts}
 use Rattle.sdr_base.specs.declared.has_heap.HasHeap.{Ghosts}
@@ -34,7 +34,7 @@ use Rattle.sdr_lock.proofs.WorkLemmas.{on_false, on_some, on_true}
 use Rattle.sdr_model.specs.Accounts.{tickets_of}
 use Rattle.sdr_model.specs.Amounts.{amounts_by}
 use Rattle.sdr_model.specs.Charges.{object_charge}
-use Rattle.sdr_model.specs.Charging.{Charges, with_used}
+use Rattle.sdr_model.specs.Charging.{Charges, with_covered}
 use Rattle.sdr_model.specs.Cuts as model
 use Rattle.sdr_model.specs.ObjectSteps.{InRange, with_object}
 use Rattle.sdr_model.specs.PartSteps.{asked_extents, clone_moves, object_of}
@@ -64,11 +64,11 @@ use Rattle.zco_answers.proofs.ObjectLemmas.{IsObjectAt, no_object, object_is_at,
 use Rattle.zco_answers.proofs.PayingLemmas.{paid_stands, paid_world, same_refusal}
 use Rattle.zco_obj.specs.Charging.{Pays, refusal_in}
 use Rattle.zco_obj.specs.Gone.{NamedSource, sources_entries}
-use Rattle.zco_obj.specs.declared.extent.Piece.{Piece}
+use Rattle.zco_obj.specs.declared.extent.ExtentPiece.{ExtentPiece}
 use Rattle.zco_part.specs.Charging.{clone_amounts}
 use Rattle.zco_part.specs.Cloning.{ClonesPart, CloneAllowed, CloneStops, HasRange, IsCloned, KeepsToClone, LacksNext, OfCloned, next_need, takes_clone, takes_first}
 use Rattle.zco_part.specs.Copying.{takes_extents}
-use Rattle.zco_part.specs.Pieces.{asked, placed, whole_row}
+use Rattle.zco_part.specs.Pieces.{asked, extents_at, whole_row}
 use Rattle.zco_part.specs.Sources.{all_counted}
 use Rattle.zco_part_answers.proofs.CloneCharges.{clone_charge, clone_moves_charge, named_as_often, placed_names, uncut}
 use Rattle.zco_part_answers.proofs.CloneTies.{cloned, cloned_first}
@@ -77,7 +77,7 @@ use Rattle.zco_part_answers.proofs.KeptLemmas.{kept_to_clone, rows}
 use Rattle.zco_part_answers.proofs.PieceLemmas.{asked_same, clone_row, named, spots, taken_clone, takes_as_rows}
 
 -- a call on a heap that stands for a world in which it is served
-module _ (old new : Heap) (w : World) (unmoved : old.moves ≡ []) (s : HeapStandsFor old w) (served : IsServed w) (small : IsSmall old)
+module _ (old new : Heap) (w : World) (unmoved : old.moves ≡ []) (s : HeapStandsFor old w) (served : IsReady w) (small : IsSmall old)
     (addr number offset bytes : ℕ) where
   abbrev call : Call
   call = calls.ClonePart addr number offset bytes
@@ -133,7 +133,7 @@ module _ (old new : Heap) (w : World) (unmoved : old.moves ≡ []) (s : HeapStan
         ∙ clone_charge z.extents w mine.sources mine.are.found z.account (z.part.offset + offset) (z.part.offset + offset + bytes)
 
     many : length (asked offset bytes (object_row z)) ≡ length es
-    many = ap (length {A = Piece}) (asked_same z offset bytes) ∙ length-map es named
+    many = ap (length {A = ExtentPiece}) (asked_same z offset bytes) ∙ length-map es named
 
     -- the world with a clone whose blocks have these addresses
     module _ (clone : ℕ) (addrs : List ℕ) (same : length addrs ≡ length es) where
@@ -158,7 +158,7 @@ module _ (old new : Heap) (w : World) (unmoved : old.moves ≡ []) (s : HeapStan
       cloned_row : HasRange offset bytes (object_row z) → IsPaid w z.account number (charge_for z) → ByRow w outcome call
       cloned_row range p =
           let taken = taken_clone clone addrs in
-          let used = with_used w p.pending (amounts_by (charge_for z)) in
+          let used = with_covered w p.pending (amounts_by (charge_for z)) in
           let world = λ (u : World) (l : List ℕ).
           record (with_object u (slice_index l 0) (object_of z.account (model.placed (slice_index l) 1 es))) {
             marks = w.marks ++ taken_addresses moves;
@@ -191,13 +191,13 @@ module _ (old new : Heap) (w : World) (unmoved : old.moves ≡ []) (s : HeapStan
           (λ (r : ObjectRow). Pays z.account number (amounts_by (charge_for z)) tickets moves own (object_entries clone r ++ counted) old new)
           (clone_row clone addrs es same z.account)
           (subst
-          (λ (ps : List Piece). Pays z.account number (amounts_by (charge_for z)) tickets moves own
-          (object_entries clone (whole_row z.account (placed addrs ps))
+          (λ (ps : List ExtentPiece). Pays z.account number (amounts_by (charge_for z)) tickets moves own
+          (object_entries clone (whole_row z.account (extents_at addrs ps))
           ++ (object_entries addr (object_row z) ++ sources_entries (all_counted z.account ps sources))) old new)
           (asked_same z offset bytes)
           (subst
           (λ (a : Amounts). Pays z.account number a tickets moves own
-          (object_entries clone (whole_row z.account (placed addrs (asked offset bytes (object_row z))))
+          (object_entries clone (whole_row z.account (extents_at addrs (asked offset bytes (object_row z))))
           ++ (object_entries addr (object_row z)
           ++ sources_entries (all_counted z.account (asked offset bytes (object_row z)) sources))) old new)
           same_charge i.pays))
@@ -235,7 +235,7 @@ module _ (old new : Heap) (w : World) (unmoved : old.moves ≡ []) (s : HeapStan
         let thing = things.Object (made clone c.addrs same) in
         let alone = apart clone thing stands (here_at w.things clone (Some thing)) in
         let distinct = clone_distinct clone z.account c.addrs (map named es) alone.rest (same ∙ sym (length-map es named))
-        (subst (λ (r : ObjectRow). Stands new.blocks (object_entries clone r ++ alone.rest))
+        (subst (λ (r : ObjectRow). BlocksAre new.blocks (object_entries clone r ++ alone.rest))
         (sym (clone_row clone c.addrs es same z.account)) alone.stands) in
         let is : new.moves ≡ takes_clone clone c.addrs =
         ap (λ (h : Heap). h.moves) pays.others ∙ ap (λ (ms : List Move). ms ++ takes_clone clone c.addrs) unmoved in
@@ -366,13 +366,13 @@ module _ (old new : Heap) (w : World) (unmoved : old.moves ≡ []) (s : HeapStan
   -- so many lines it touches at most, by the extents that are asked for in the world
   pub clone_works : {S T : Type 0} {m : Ghosts S} {a b : S} {r : Result T Stop} →
       ((row : ObjectRow) (tickets : List Ticket) (sources : List NamedSource) → KeepsToClone old addr row tickets sources →
-      Works m (34 + 33 * length (asked offset bytes row)) a b r) →
-      ((IsKind (old.blocks addr) kinds.Object → ⊥) → Works m 0 a b r) →
-      Works m (option_map_or (λ x. 34 + 33 * length (asked_extents x offset bytes)) (object_at w addr) 0) a b r
+      Spends m (34 + 33 * length (asked offset bytes row)) a b r) →
+      ((IsKind (old.blocks addr) kinds.Object → ⊥) → Spends m 0 a b r) →
+      Spends m (option_map_or (λ x. 34 + 33 * length (asked_extents x offset bytes)) (object_at w addr) 0) a b r
   clone_works {S} {T} {m} {a} {b} {r} works missed = by (object_at w addr) refl
     where
       by : (o : Option ZcoObject) → object_at w addr ≡ o →
-          Works m (option_map_or (λ x. 34 + 33 * length (asked_extents x offset bytes)) o 0) a b r
+          Spends m (option_map_or (λ x. 34 + 33 * length (asked_extents x offset bytes)) o 0) a b r
       by None is =
           missed (λ kind.
           let at = object_is_at old w addr s served kind in

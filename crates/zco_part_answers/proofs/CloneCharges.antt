@@ -28,14 +28,14 @@ use Rattle.zco_answers.proofs.AppendLemmas.{same_space}
 use Rattle.zco_answers.proofs.GoneUses.{IsFound, UsedSource, itself, named_later, named_of}
 use Rattle.zco_obj.specs.Gone as rows
 use Rattle.zco_obj.specs.Gone.{NamedSource}
-use Rattle.zco_obj.specs.declared.extent.Piece.{Piece}
+use Rattle.zco_obj.specs.declared.extent.ExtentPiece.{ExtentPiece}
 use Rattle.zco_part.specs.Charging.{clone_amounts, piece_charge}
 use Rattle.zco_part.specs.Sources.{pieces_of}
 use Rattle.zco_part_answers.proofs.PieceLemmas.{named}
 
 -- pieces are of a source as often as the extents that they are of name it, wherever those are
 pub named_as_often : (q : ℕ) (es : List Extent) → pieces_of q (map named es) ≡ naming q es
-named_as_often q es = sum_by-map (λ (p : Piece). if p.of == q then 1 else 0) named es
+named_as_often q es = sum_by-map (λ (p : ExtentPiece). if p.of == q then 1 else 0) named es
 
 pub placed_names : (q : ℕ) (at : ℕ → ℕ) (k : ℕ) (es : List Extent) → naming q (model.placed at k es) ≡ naming q es
 placed_names q at k [] = refl

@@ -24,7 +24,7 @@ use Rattle.sdr_model.specs.PartSteps.{object_of}
 use Rattle.sdr_model.specs.Things.{Things}
 use Rattle.sdr_model.specs.Valid.{FitTogether}
 use Rattle.sdr_model.specs.World.{World, thing_at}
-use Rattle.sdr_model.specs.Zco.{count_of, is_of_raw, naming, raw_of, source_on, uses_in}
+use Rattle.sdr_model.specs.Zco.{count_of, is_of_raw, naming, raw_of, source_naming, uses_in}
 use Rattle.sdr_model.specs.declared.things.Thing.{Thing}
 use Rattle.sdr_model.specs.declared.things.Thing.TheVariants as things
 use Rattle.sdr_model.specs.declared.zco.Extent.{Extent}
@@ -42,7 +42,7 @@ use Rattle.zco_answers.proofs.GoneWorlds.{beside, keys, others}
 use Rattle.zco_answers.proofs.MovingLemmas.{entries_at}
 use Rattle.zco_obj.specs.Gone as rows
 use Rattle.zco_obj.specs.Gone.{sources_entries}
-use Rattle.zco_obj.specs.declared.extent.Piece.{Piece}
+use Rattle.zco_obj.specs.declared.extent.ExtentPiece.{ExtentPiece}
 use Rattle.zco_part.specs.Sources.{all_counted, more_uses, pieces_of}
 use Rattle.zco_ref.specs.Kept.{CountedSource, counted_entries, raw_part, tied_entries}
 use Rattle.zco_served.proofs.NamedLemmas.{named_at}
@@ -72,7 +72,7 @@ module _ (w : World) (clone : ℕ) (acct : Acct) (es : List Extent) (none : thin
   cloned = record w { things = finite.insert w.things clone new }
 
   -- no raw object is named otherwise
-  same_on : (raw : ℕ) → source_on cloned raw ≡ source_on w raw
+  same_on : (raw : ℕ) → source_naming cloned raw ≡ source_naming w raw
   same_on raw = same_first raw w.things clone (Some new) (ap (names_raw_at raw) none)
 
   -- a source counts for the account what names it
@@ -117,7 +117,7 @@ module _ (w : World) (clone : ℕ) (acct : Acct) (es : List Extent) (none : thin
 
   -- of an object of the world, with the sources that its extents name, which name all that the clone's name
   module _ (addr : ℕ) (z : ZcoObject) (there : thing_at w addr ≡ Some (things.Object z)) (fits : FitTogether w)
-      (us : List (UsedSource w z.extents)) (are : AreUsed w z.extents z.extents us) (ps : List Piece)
+      (us : List (UsedSource w z.extents)) (are : AreUsed w z.extents z.extents us) (ps : List ExtentPiece)
       (all : (q : ℕ) → pieces_of q ps ≡ naming q es) (only : (q : ℕ) → names_source q z.extents ≡ false → naming q es ≡ 0) where
     -- the addresses of the sources and of their raw objects, the things beside them and the object, and those things' blocks
     abbrev own_keys : List ℕ

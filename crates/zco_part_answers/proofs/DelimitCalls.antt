@@ -3,7 +3,7 @@ use Rattle.std.proofs.Common.{◌≡◌, ◌∙◌, ◌+◌, ◌≤◌, ◌<◌,
 use Rattle.std.proofs.lemmas.Bool.Decides.{nat_tests}
 use Rattle.sdr_answers.proofs.ListLemmas.{IsSmall}
 use Rattle.sdr_answers.proofs.RowLemmas.{Moved, full_refused, marks_none, misnamed_refused, moved_nothing, row_refused, unmoved_answered}
-use Rattle.sdr_answers.specs.Answering.{Aim, Answered, IsRefused, IsServed}
+use Rattle.sdr_answers.specs.Answering.{Aim, Answered, IsRefused, IsReady}
 use Rattle.sdr_audit.proofs.ChangeLemmas.{part_changed}
 use Rattle.sdr_audit.proofs.PartLemmas.{thing_changed}
 use Rattle.sdr_audit.proofs.RootsLemmas.{roots_where}
@@ -48,7 +48,7 @@ row_length : (z : ZcoObject) → rows.extents_length (object_row z).extents ≡ 
 row_length z = sum_by-map (λ (r : ExtentRow). r.length) extent_row z.extents
 
 -- a call on a heap that stands for a world in which it is served
-module _ (old new : Heap) (w : World) (unmoved : old.moves ≡ []) (s : HeapStandsFor old w) (served : IsServed w) (small : IsSmall old)
+module _ (old new : Heap) (w : World) (unmoved : old.moves ≡ []) (s : HeapStandsFor old w) (served : IsReady w) (small : IsSmall old)
     (addr offset bytes : ℕ) where
   abbrev call : Call
   call = calls.Delimit addr offset bytes

@@ -8,7 +8,7 @@ use Rattle.sdr_answers.proofs.RowLemmas.{HasMoves}
 use Rattle.sdr_audit.specs.Standing.{HeapStandsFor}
 use Rattle.sdr_base.proofs.StandingLemmas.{times-append}
 use Rattle.sdr_base.specs.Blocks.{Blocks}
-use Rattle.sdr_base.specs.Entries.{Entries, Stands, times}
+use Rattle.sdr_base.specs.Entries.{Entries, BlocksAre, times}
 use Rattle.sdr_base.specs.Linked.{linked}
 use Rattle.sdr_base.specs.Objects.{Heap}
 use Rattle.sdr_base.specs.ZcoObjects.{capsule_entries, extent_addr, extent_block, extent_entries, object_entries}
@@ -21,11 +21,11 @@ use Rattle.sdr_model.specs.Valid.{IsValid}
 use Rattle.sdr_model.specs.World.{World}
 use Rattle.zco_answers.proofs.GoneMaps.{AreDistinct}
 use Rattle.zco_obj.specs.Charging.{IsFree}
-use Rattle.zco_obj.specs.declared.extent.Piece.{Piece}
+use Rattle.zco_obj.specs.declared.extent.ExtentPiece.{ExtentPiece}
 use Rattle.zco_part.proofs.CloneLemmas.{placed_there, whole_there}
 use Rattle.zco_part.specs.Cloning.{takes_clone}
 use Rattle.zco_part.specs.Copying.{takes_extents}
-use Rattle.zco_part.specs.Pieces.{placed, whole_row}
+use Rattle.zco_part.specs.Pieces.{extents_at, whole_row}
 use Rattle.zco_part_answers.proofs.PieceLemmas.{taken_clone}
 
 -- what stands among these is at another address than one that doesn't
@@ -39,13 +39,13 @@ apart_from addr es none (a ∷ addrs) there = (
 )
 
 -- extents in blocks that stand once are at addresses that differ
-distinct_placed : (prev : ℕ) (addrs : List ℕ) (ps : List Piece) → length addrs ≡ length ps →
-    ((a : ℕ) → times a (linked extent_addr extent_block prev 0 (placed addrs ps)) ≤ 1) → AreDistinct addrs
+distinct_placed : (prev : ℕ) (addrs : List ℕ) (ps : List ExtentPiece) → length addrs ≡ length ps →
+    ((a : ℕ) → times a (linked extent_addr extent_block prev 0 (extents_at addrs ps)) ≤ 1) → AreDistinct addrs
 unfolding linked times
 distinct_placed prev [] ps same once = tt
 distinct_placed prev (addr ∷ addrs) [] same once = absurd (omega (arith, same))
 distinct_placed prev (addr ∷ addrs) (p ∷ ps) same once =
-    let rest = linked extent_addr extent_block addr 0 (placed addrs ps) in
+    let rest = linked extent_addr extent_block addr 0 (extents_at addrs ps) in
     let here = ap {B = ℕ} (λ (b : Bool). cond b 1 0) (eq-eqb addr addr refl) in
     let one = once addr in (
       apart_from addr rest (omega (arith, here, one)) addrs (placed_there addr addrs ps (omega (arith, same))),
@@ -53,12 +53,12 @@ distinct_placed prev (addr ∷ addrs) (p ∷ ps) same once =
     )
 
 -- so are the blocks of a clone
-pub clone_distinct : {b : Blocks} (clone : ℕ) (acct : Acct) (addrs : List ℕ) (ps : List Piece) (rest : Entries) →
-    length addrs ≡ length ps → Stands b (object_entries clone (whole_row acct (placed addrs ps)) ++ rest) → AreDistinct (clone ∷ addrs)
+pub clone_distinct : {b : Blocks} (clone : ℕ) (acct : Acct) (addrs : List ℕ) (ps : List ExtentPiece) (rest : Entries) →
+    length addrs ≡ length ps → BlocksAre b (object_entries clone (whole_row acct (extents_at addrs ps)) ++ rest) → AreDistinct (clone ∷ addrs)
 unfolding times
 clone_distinct clone acct addrs ps rest same s =
-    let own = object_entries clone (whole_row acct (placed addrs ps)) in
-    let extents = extent_entries (placed addrs ps) in
+    let own = object_entries clone (whole_row acct (extents_at addrs ps)) in
+    let extents = extent_entries (extents_at addrs ps) in
     let here = ap {B = ℕ} (λ (b : Bool). cond b 1 0) (eq-eqb clone clone refl) in
     let one = s.once clone in
     let all = times-append clone own rest in
@@ -68,7 +68,7 @@ clone_distinct clone acct addrs ps rest same s =
       distinct_placed 0 addrs ps same (λ a.
           let most = s.once a in
           let both = times-append a own rest in
-          let part = whole_there clone acct (placed addrs ps) a in omega (arith, most, both, part)),
+          let part = whole_there clone acct (extents_at addrs ps) a in omega (arith, most, both, part)),
     )
 
 -- blocks at addresses that differ and aren't in use are taken freshly

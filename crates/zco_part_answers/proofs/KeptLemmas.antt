@@ -7,12 +7,12 @@ use Rattle.std.specs.FinMap as finite
 use Rattle.std.specs.List.{flat_map, sum_by}
 use Rattle.std.specs.Prelude.{All}
 use Rattle.sdr_answers.proofs.ListLemmas.{IsSmall}
-use Rattle.sdr_answers.specs.Answering.{IsServed}
+use Rattle.sdr_answers.specs.Answering.{IsReady}
 use Rattle.sdr_audit.specs.Rows.{capsule_row, extent_row, object_row}
 use Rattle.sdr_audit.specs.Standing.{HeapStandsFor, entries_of, other_entries, thing_entries}
 use Rattle.sdr_audit.specs.Ties.{Ties, ties_of}
 use Rattle.sdr_base.proofs.LinkedLemmas.{length-linked}
-use Rattle.sdr_base.specs.Entries.{Entries, Few, Stands}
+use Rattle.sdr_base.specs.Entries.{Entries, Few, BlocksAre}
 use Rattle.sdr_base.specs.Objects.{Heap}
 use Rattle.sdr_base.specs.Section.{section}
 use Rattle.sdr_base.specs.ZcoObjects.{ExtentRow, ObjectRow, capsule_entries, extent_addr, extent_block, extent_entries, object_entries}
@@ -94,7 +94,7 @@ counts_few heap w source acct s few =
         )
 
 -- in a heap that stands for a world in which calls are served
-module _ (heap : Heap) (w : World) (s : HeapStandsFor heap w) (served : IsServed w) (small : IsSmall heap) (addr : ℕ) where
+module _ (heap : Heap) (w : World) (s : HeapStandsFor heap w) (served : IsReady w) (small : IsSmall heap) (addr : ℕ) where
   -- an object's sources may count more
   module _ (z : ZcoObject) (there : thing_at w addr ≡ Some (things.Object z)) where
     may_count : (u : UsedSource w z.extents) → MayCount (named_of w z.extents u)
@@ -169,7 +169,7 @@ room_to_clone {heap} {object} offset bytes few is room kind =
       room = enough q.row (queue_entries q.row.account q.tickets ++ q.keeps.beside.keeps.rest) q.keeps.beside.keeps.stands;
     }
   where
-    enough : (row : ObjectRow) (rest : Entries) → Stands heap.blocks (object_entries object row ++ rest) →
+    enough : (row : ObjectRow) (rest : Entries) → BlocksAre heap.blocks (object_entries object row ++ rest) →
         1 + length (asked offset bytes row) ≤ heap.spare
     enough row rest s =
         let hs = capsule_entries row.headers in

@@ -15,13 +15,13 @@ use Rattle.sdr_model.specs.Things.{extent_need, object_need}
 use Rattle.sdr_model.specs.declared.zco.Extent.{Extent}
 use Rattle.sdr_model.specs.declared.zco.ZcoObject.{ZcoObject}
 use Rattle.zco_obj.specs.Extents.{extent_of}
-use Rattle.zco_obj.specs.declared.extent.Piece.{Piece}
+use Rattle.zco_obj.specs.declared.extent.ExtentPiece.{ExtentPiece}
 use Rattle.zco_part.specs.Cloning.{takes_clone}
 use Rattle.zco_part.specs.Copying.{takes_extents}
-use Rattle.zco_part.specs.Pieces.{asked, pieces, placed, whole_row}
+use Rattle.zco_part.specs.Pieces.{asked, pieces, extents_at, whole_row}
 
 -- what an extent names
-abbrev pub named : Extent → Piece
+abbrev pub named : Extent → ExtentPiece
 named e = record { of = e.source; offset = e.offset; bytes = e.length }
 
 -- the pieces of a part of some extents are those of the extents that are cut to it
@@ -34,7 +34,7 @@ pieces_cut from to (e ∷ es) = by ((model.cut from to e).length == 0) (pieces_c
         ≡ map named (if b then cut_all (from - e.length) (to - e.length) es
         else model.cut from to e ∷ cut_all (from - e.length) (to - e.length) es)
     by true same = same
-    by false same = ap (λ (ps : List Piece). named (model.cut from to e) ∷ ps) same
+    by false same = ap (λ (ps : List ExtentPiece). named (model.cut from to e) ∷ ps) same
 
 pub asked_same : (z : ZcoObject) (offset bytes : ℕ) → asked offset bytes (object_row z) ≡ map named (asked_extents z offset bytes)
 asked_same z offset bytes = pieces_cut (z.part.offset + offset) (z.part.offset + offset + bytes) z.extents
@@ -54,7 +54,7 @@ takes_later addr addrs k (need ∷ needs) =
 
 -- extents of pieces at these addresses are the extents placed there
 placed_rows : (addrs : List ℕ) (es : List Extent) → length addrs ≡ length es →
-    placed addrs (map named es) ≡ map extent_row (model.placed (slice_index addrs) 0 es)
+    extents_at addrs (map named es) ≡ map extent_row (model.placed (slice_index addrs) 0 es)
 placed_rows [] [] same = refl
 placed_rows [] (e ∷ es) same = absurd (omega (arith, same))
 placed_rows (addr ∷ addrs) [] same = absurd (omega (arith, same))
@@ -76,11 +76,11 @@ module _ (clone : ℕ) (addrs : List ℕ) (es : List Extent) (same : length addr
   abbrev pub spots : ℕ → ℕ
   spots = slice_index (clone ∷ addrs)
 
-  pub clone_rows : placed addrs (map named es) ≡ map extent_row (model.placed spots 1 es)
+  pub clone_rows : extents_at addrs (map named es) ≡ map extent_row (model.placed spots 1 es)
   clone_rows = placed_rows addrs es same ∙ sym (ap (map extent_row) (placed_later clone addrs 0 es))
 
   -- the row of a clone is that of an object of these extents alone
-  pub clone_row : (acct : Acct) → whole_row acct (placed addrs (map named es)) ≡ object_row (object_of acct (model.placed spots 1 es))
+  pub clone_row : (acct : Acct) → whole_row acct (extents_at addrs (map named es)) ≡ object_row (object_of acct (model.placed spots 1 es))
   clone_row acct =
       let z = object_of acct (model.placed spots 1 es) in
       let long = sum_by-map (λ (r : ExtentRow). r.length) extent_row z.extents in

@@ -1,9 +1,9 @@
 // The call that clones a part of an object, as a step of the machine.
 ghost use Rattle.std.specs.Prelude.{[], ◌+◌, ◌/◌, ◌≡◌, ◌≤◌};
-ghost use Rattle.sdr_answers.specs.Answering.{Comes, IsServed};
+ghost use Rattle.sdr_answers.specs.Answering.{ComesInEach, IsReady};
 ghost use Rattle.sdr_audit.specs.Standing.{HeapStandsFor};
 ghost use Rattle.sdr_base.specs.Moves.{KeepsSome};
-ghost use Rattle.sdr_base.specs.Works.{Works};
+ghost use Rattle.sdr_base.specs.Works.{Spends};
 ghost use Rattle.sdr_model.specs.World.{World};
 ghost use Rattle.sdr_model.specs.declared.call.Call.TheVariants as calls;
 ghost use Rattle.zco_part_answers.specs.Answering.{IsCountable, call_lines};
@@ -25,10 +25,10 @@ pub fn clone_part<O: Objects>(
     requires room { (O.heap o.old).size / 4 + 4 ≤ (O.heap o.old).spare }
     requires object { IsCountable (O.heap o.old) object }
     requires unmoved { (O.heap o.old).moves ≡ [] }
-    ensures comes { Comes (calls.ClonePart object ticket offset bytes)
+    ensures comes { ComesInEach (calls.ClonePart object ticket offset bytes)
         (O.heap o.old) (O.heap o.new) page.old page.new result }
-    ensures works { (w : World) → HeapStandsFor (O.heap o.old) w → IsServed w →
-        Works O.HasHeap (call_lines w (calls.ClonePart object ticket offset bytes))
+    ensures works { (w : World) → HeapStandsFor (O.heap o.old) w → IsReady w →
+        Spends O.HasHeap (call_lines w (calls.ClonePart object ticket offset bytes))
         o.old o.new result }
 {
     let addr = zco_part::clone_part(o, object, ticket, offset, bytes)?;

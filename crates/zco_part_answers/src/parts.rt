@@ -1,8 +1,8 @@
 // The call that sets the part of an object, as a step of the machine.
 ghost use Rattle.std.specs.Prelude.{[], ◌≡◌};
-ghost use Rattle.sdr_answers.specs.Answering.{Comes};
+ghost use Rattle.sdr_answers.specs.Answering.{ComesInEach};
 ghost use Rattle.sdr_base.specs.Moves.{KeepsSome};
-ghost use Rattle.sdr_base.specs.Works.{Works};
+ghost use Rattle.sdr_base.specs.Works.{Spends};
 ghost use Rattle.sdr_model.specs.declared.call.Call.TheVariants as calls;
 ghost use Rattle.zco_obj.specs.Kept.{IsObject};
 
@@ -21,9 +21,9 @@ pub fn delimit<O: Objects>(
     requires kept { KeepsSome (O.keeps o.old) }
     requires object { IsObject (O.heap o.old).blocks object }
     requires unmoved { (O.heap o.old).moves ≡ [] }
-    ensures comes { Comes (calls.Delimit object offset bytes)
+    ensures comes { ComesInEach (calls.Delimit object offset bytes)
         (O.heap o.old) (O.heap o.new) page.old page.new result }
-    ensures works { Works O.HasHeap 4 o.old o.new result }
+    ensures works { Spends O.HasHeap 4 o.old o.new result }
 {
     zco_part::delimit(o, object, offset, bytes)?;
     page.clear();

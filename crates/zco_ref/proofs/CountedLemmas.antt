@@ -2,7 +2,7 @@
 use Rattle.std.proofs.Common.{◌≡◌, ℕ, ◌+◌, ◌-◌, ◌<◌, ◌^◌, List, [], ◌∷◌, set, refl, ap, arith, subst}
 use Rattle.std.specs.Prelude.{Option}
 use Rattle.sdr_base.specs.Blocks.{Block}
-use Rattle.sdr_base.specs.Entries.{Stands}
+use Rattle.sdr_base.specs.Entries.{BlocksAre}
 use Rattle.sdr_base.specs.Making.{besides}
 use Rattle.sdr_base.specs.Objects.{Heap}
 use Rattle.sdr_base.specs.Words.{HasWord, layout, with_word}
@@ -40,8 +40,8 @@ source_set : {addr : ℕ} {old new : Heap} (s t : CountedSource) (field value : 
 source_set {addr} {old} {new} s t field value below words path w = record {
   changes = record {
     kept = λ rest st.
-        subst (λ (ws : List ℕ). Stands new.blocks ((addr, block kinds.Source (layout ws t.row.path)) ∷ rest)) words
-        (subst (λ (l : List ℕ). Stands new.blocks ((addr, block kinds.Source (layout (set (source_words s) field value) l)) ∷ rest)) path
+        subst (λ (ws : List ℕ). BlocksAre new.blocks ((addr, block kinds.Source (layout ws t.row.path)) ∷ rest)) words
+        (subst (λ (l : List ℕ). BlocksAre new.blocks ((addr, block kinds.Source (layout (set (source_words s) field value) l)) ∷ rest)) path
         (word_set old.blocks new.blocks addr kinds.Source (source_words s) s.row.path field value [] rest (heap_blocks w) below st));
   };
   same = ap besides w;

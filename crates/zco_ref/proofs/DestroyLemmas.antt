@@ -13,7 +13,7 @@ use Rattle.sdr_base.specs.declared.stop.Stop.{Stop}
 use Rattle.sdr_base.specs.declared.stop.Stop.TheVariants.{Refused, DiskFault, MediaFault, Failed}
 use Rattle.zco_ref.specs.Counting.{Becomes}
 use Rattle.zco_ref.specs.Dropping.{DestroysSource, DestroyStops, IsFlagged, IsOwner, MayGo, flagged}
-use Rattle.zco_ref.specs.Going.{Goes, VanishStops, Vanishes, blocks_with, is_owner}
+use Rattle.zco_ref.specs.Going.{SourceGoes, VanishStops, Vanishes, blocks_with, is_owner}
 use Rattle.zco_ref.specs.Kept.{uses_of}
 use Rattle.zco_ref.specs.Seeing.{SeesSource}
 use Rattle.zco_ref.specs.declared.seeing.Seen.{Seen}
@@ -56,7 +56,7 @@ module _ {addr : ℕ} {old new : Heap} (seen : Seen) (sees : SeesSource (old.blo
         let i = (sees.sees s t.keeps).inbound in
         let o = (sees.sees s t.keeps).outbound in
         let z : uses_of s ≡ 0 = omega (arith, none, i, o) in
-        subst (λ (b : Bool). MatchBool b (Goes addr s bytes old new) (Becomes addr s (flagged s) old new)) (sym (eq-eqb (uses_of s) 0 z))
+        subst (λ (b : Bool). MatchBool b (SourceGoes addr s bytes old new) (Becomes addr s (flagged s) old new)) (sym (eq-eqb (uses_of s) 0 z))
         (v.goes s bytes t);
   }
 
@@ -68,7 +68,7 @@ module _ {addr : ℕ} {old new : Heap} (seen : Seen) (sees : SeesSource (old.blo
         let i = (sees.sees s t.keeps).inbound in
         let o = (sees.sees s t.keeps).outbound in
         let nz : uses_of s ≢ 0 = λ z. some (omega (arith, z, i, o)) in
-        subst (λ (b : Bool). MatchBool b (Goes addr s bytes old new) (Becomes addr s (flagged s) old new)) (sym (ne_eqb (uses_of s) 0 nz))
+        subst (λ (b : Bool). MatchBool b (SourceGoes addr s bytes old new) (Becomes addr s (flagged s) old new)) (sym (ne_eqb (uses_of s) 0 nz))
         (flag_set s w);
   }
 

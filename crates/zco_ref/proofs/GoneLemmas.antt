@@ -3,7 +3,7 @@ use Rattle.std.proofs.Common.{◌≡◌, ◌≢◌, ℕ, ◌-◌, List, [], ◌�
 use Rattle.std.proofs.lemmas.List.{append-nil}
 use Rattle.std.specs.Prelude.{Option, None, Some, ◌⊎◌}
 use Rattle.sdr_base.specs.Blocks.{Block, Blocks, Reaches, with_block}
-use Rattle.sdr_base.specs.Entries.{Changes, Stands}
+use Rattle.sdr_base.specs.Entries.{Changes, BlocksAre}
 use Rattle.sdr_base.specs.Making.{GaveSome, Made, besides, gave, with_moves}
 use Rattle.sdr_base.specs.Objects.{Heap, OnlyUnmoved, with_given}
 use Rattle.sdr_base.specs.Raws.{raw_block}
@@ -20,7 +20,7 @@ use Rattle.sdr_base.proofs.HeapLemmas.{given_blocks, heap_blocks}
 use Rattle.sdr_base.proofs.ObjectsLemmas.{with_block-apart}
 use Rattle.sdr_base.proofs.StandingLemmas.{went}
 use Rattle.sdr_base.proofs.WritingLemmas.{reaches, word_set}
-use Rattle.zco_ref.specs.Going.{Goes, OnlyGave, VanishStops, Vanishes, gone_with, left_by}
+use Rattle.zco_ref.specs.Going.{SourceGoes, OnlyGave, VanishStops, Vanishes, gone_with, blocks_left}
 use Rattle.zco_ref.specs.Kept.{CountedSource, SomeTied, counted_block, counted_entries, raw_part}
 use Rattle.zco_ref.specs.Seeing.{SeesSource}
 use Rattle.zco_ref.specs.declared.seeing.Seen.{Seen}
@@ -37,12 +37,12 @@ gave_two raw addr old =
 -- a source of this medium is gone, by what becomes of its blocks and by its moves
 gone_as : {addr : ℕ} {old new : Heap} (s : CountedSource) (bytes : List ℕ) (medium : Medium) → s.row.medium ≡ medium →
     Changes old.blocks new.blocks (counted_entries addr s ++ raw_part medium s.row.subject addr bytes)
-    (left_by medium s.row.subject bytes) →
-    Made (gave (gone_with medium s.row.subject addr)) old new → Goes addr s bytes old new
+    (blocks_left medium s.row.subject bytes) →
+    Made (gave (gone_with medium s.row.subject addr)) old new → SourceGoes addr s bytes old new
 gone_as {addr} {old} {new} s bytes medium e c m = record {
   changes =
       subst (λ (n : Medium). Changes old.blocks new.blocks (counted_entries addr s ++ raw_part n s.row.subject addr bytes)
-      (left_by n s.row.subject bytes)) (sym e) c;
+      (blocks_left n s.row.subject bytes)) (sym e) c;
   made = subst (λ (n : Medium). Made (gave (gone_with n s.row.subject addr)) old new) (sym e) m;
 }
 
@@ -56,9 +56,9 @@ gone_heap {addr} {old} {mid} {new} seen is sees g h = record {
       gone_as s bytes media.Heap (sym said.medium ∙ is)
       (record {
         kept = λ rest st.
-            subst (λ (b : Blocks). Stands b rest) (sym (given_blocks addr mid new h))
+            subst (λ (b : Blocks). BlocksAre b rest) (sym (given_blocks addr mid new h))
             (went mid.blocks addr (counted_block s) [] rest
-            (subst (λ (b : Blocks). Stands b ((addr, counted_block s) ∷ rest)) (sym (given_blocks s.row.subject old mid first))
+            (subst (λ (b : Blocks). BlocksAre b ((addr, counted_block s) ∷ rest)) (sym (given_blocks s.row.subject old mid first))
             (went old.blocks s.row.subject (raw_block addr bytes) ((addr, counted_block s) ∷ []) rest st)));
       })
       (record {
@@ -76,7 +76,7 @@ gone_obj {addr} {old} {mid} {new} seen is sees w h = record {
       gone_as s bytes media.Obj (sym said.medium ∙ is)
       (record {
         kept = λ rest st.
-            subst (λ (b : Blocks). Stands b ((s.row.subject, raw_block 0 bytes) ∷ rest)) (sym (given_blocks addr mid new h))
+            subst (λ (b : Blocks). BlocksAre b ((s.row.subject, raw_block 0 bytes) ∷ rest)) (sym (given_blocks addr mid new h))
             (went mid.blocks addr (counted_block s) [] ((s.row.subject, raw_block 0 bytes) ∷ rest)
             (word_set old.blocks mid.blocks s.row.subject kinds.Raw (addr ∷ []) bytes 0 0 ((addr, counted_block s) ∷ []) rest
             (heap_blocks first) (omega arith) st));
@@ -94,11 +94,11 @@ gone_plain {addr} {old} {new} seen is sees h = record {
     given : (s : CountedSource) → Changes old.blocks new.blocks (counted_entries addr s) []
     given s = record {
       kept = λ rest st.
-          subst (λ (b : Blocks). Stands b rest) (sym (given_blocks addr old new h)) (went old.blocks addr (counted_block s) [] rest st);
+          subst (λ (b : Blocks). BlocksAre b rest) (sym (given_blocks addr old new h)) (went old.blocks addr (counted_block s) [] rest st);
     }
 
     by : (s : CountedSource) (bytes : List ℕ) → (seen.medium ≡ media.File) ⊎ (seen.medium ≡ media.Bulk) →
-        seen.medium ≡ s.row.medium → Goes addr s bytes old new
+        seen.medium ≡ s.row.medium → SourceGoes addr s bytes old new
     by s bytes (inl e) m = gone_as s bytes media.File (sym m ∙ e) (given s) (record { all = ap besides h })
     by s bytes (inr e) m = gone_as s bytes media.Bulk (sym m ∙ e) (given s) (record { all = ap besides h })
 

@@ -2,7 +2,7 @@
 use Rattle.std.proofs.Common.{◌≡◌, ◌≢◌, ℕ, ◌+◌, ◌-◌, ◌≤◌, List, [], ◌∷◌, length, refl, sym, ap, ◌∙◌, arith, subst}
 use Rattle.std.specs.Prelude.{Option, None, Some}
 use Rattle.sdr_base.specs.Blocks.{Block, Blocks, HasLength, IsKind, Reaches}
-use Rattle.sdr_base.specs.Entries.{Stands}
+use Rattle.sdr_base.specs.Entries.{BlocksAre}
 use Rattle.sdr_base.specs.Making.{besides}
 use Rattle.sdr_base.specs.Objects.{Heap, OnlyShort, OnlyUnmoved}
 use Rattle.sdr_base.specs.Raws.{raw_block}
@@ -19,7 +19,7 @@ use Rattle.sdr_base.proofs.WritingLemmas.{word_set}
 use Rattle.zco_ref.specs.Counting.{TellsUses}
 use Rattle.zco_ref.specs.Kept.{KeepsRaw, SomeFew, SomeRaw, counted_block}
 use Rattle.zco_ref.specs.Making.{TakesSource, plain_row, unused}
-use Rattle.zco_ref.specs.Naming.{HasUnnamed, IsNamed, IsUnnamed, IsUsed, MakesRawSource, NamingStops, RawStops}
+use Rattle.zco_ref.specs.Naming.{HasUnnamed, IsNamed, IsUnnamed, HasUses, MakesRawSource, NamingStops, RawStops}
 use Rattle.zco_ref.proofs.KeptLemmas.{named_by_is, raw_reaches}
 use Rattle.zco_ref.proofs.MadeLemmas.{source_made}
 
@@ -54,7 +54,7 @@ pub in_use : {blocks : Blocks} {raw named_by count : ℕ} → IsKind (blocks raw
 in_use {blocks} {raw} {named_by} {count} kind h nz t = record {
   kind = kind;
   used = λ by bytes k.
-      subst (λ (n : ℕ). IsUsed blocks n count) (named_by_is k h) (record { some = nz; counts = t.tells });
+      subst (λ (n : ℕ). HasUses blocks n count) (named_by_is k h) (record { some = nz; counts = t.tells });
 }
 
 -- the raw object is there once its source's block is taken
@@ -79,9 +79,9 @@ raw_source_made {addr} {count} {old} {mid} {new} medium raw h t w = record {
     changes = record {
       kept = λ rest s.
           let row = plain_row medium raw count in
-          let one : Stands mid.blocks ((addr, counted_block (unused row)) ∷ ((raw, raw_block 0 bytes) ∷ rest)) =
+          let one : BlocksAre mid.blocks ((addr, counted_block (unused row)) ∷ ((raw, raw_block 0 bytes) ∷ rest)) =
           (source_made row t).adds.changes.kept ((raw, raw_block 0 bytes) ∷ rest) s in
-          subst (λ (n : ℕ). Stands new.blocks
+          subst (λ (n : ℕ). BlocksAre new.blocks
           ((addr, counted_block (unused (plain_row medium raw n))) ∷ ((raw, raw_block addr bytes) ∷ rest)))
           (h.counts 0 bytes k)
           (word_set mid.blocks new.blocks raw kinds.Raw (0 ∷ []) bytes 0 addr ((addr, counted_block (unused row)) ∷ []) rest

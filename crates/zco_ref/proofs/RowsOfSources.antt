@@ -8,7 +8,7 @@ use Rattle.sdr_base.specs.declared.account.Acct.TheVariants as accts
 use Rattle.sdr_base.specs.declared.medium.Medium.{Medium}
 use Rattle.sdr_base.specs.declared.medium.Medium.TheVariants as media
 use Rattle.zco_ref.specs.Counting.{attached, detached, gone_next}
-use Rattle.zco_ref.specs.Going.{goes_next, going, left_by}
+use Rattle.zco_ref.specs.Going.{goes_next, going, blocks_left}
 use Rattle.zco_ref.specs.Kept.{CountedSource, counted_block}
 
 -- a source of five bytes of the item 8, or of the raw object there
@@ -46,7 +46,7 @@ unfolding layout number_at
 row_of_staying = refl
 
 -- a raw object that stays with its owner is named by none
-row_of_left : left_by media.Obj 8 (1 ∷ []) ≡ (8, raw_block 0 (1 ∷ [])) ∷ []
+row_of_left : blocks_left media.Obj 8 (1 ∷ []) ≡ (8, raw_block 0 (1 ∷ [])) ∷ []
 row_of_left = refl
 
 -- an extent more and an extent less of an account

@@ -12,7 +12,7 @@ use Rattle.sdr_base.specs.declared.layout.source.TheConstants.{INBOUND, OUTBOUND
 use Rattle.sdr_base.specs.declared.refusal.Refusal.TheVariants.{LogFull}
 use Rattle.sdr_base.specs.declared.stop.Stop.{Stop}
 use Rattle.sdr_base.specs.declared.stop.Stop.TheVariants.{Refused}
-use Rattle.zco_ref.specs.Going.{Goes, goes_next, gone_with}
+use Rattle.zco_ref.specs.Going.{SourceGoes, goes_next, gone_with}
 use Rattle.zco_ref.specs.Kept.{CountedSource, KeepsSource, KeepsTied, count_in, counted_entries, uses_of}
 
 -- so many extents name whichever source is kept
@@ -57,7 +57,7 @@ pub record Attaches (addr : ℕ) (acct : Acct) (old new : Heap) : Type 0 where
 pub record Detaches (addr : ℕ) (acct : Acct) (old new : Heap) (gone : Bool) : Type 0 where
   pub told : (source : CountedSource) → KeepsSource (old.blocks addr) source → gone ≡ goes_next source
   pub does : (source : CountedSource) (bytes : List ℕ) → KeepsTied old.blocks addr source bytes →
-      MatchBool gone (Goes addr source bytes old new) (Becomes addr source (detached acct source) old new)
+      MatchBool gone (SourceGoes addr source bytes old new) (Becomes addr source (detached acct source) old new)
 
 -- the addresses of the blocks that go where an extent less names the source
 abbrev pub gone_next : ℕ → CountedSource → List ℕ

@@ -8,7 +8,7 @@ use Rattle.sdr_base.specs.declared.refusal.Refusal.TheVariants as refusals
 use Rattle.sdr_base.specs.declared.stop.Stop.{Stop}
 use Rattle.sdr_base.specs.declared.stop.Stop.TheVariants.{Refused}
 use Rattle.zco_ref.specs.Counting.{Becomes}
-use Rattle.zco_ref.specs.Going.{Goes, is_owner}
+use Rattle.zco_ref.specs.Going.{SourceGoes, is_owner}
 use Rattle.zco_ref.specs.Kept.{CountedSource, KeepsSource, KeepsTied, uses_of}
 
 -- the source with its flag set
@@ -36,7 +36,8 @@ pub record MayGo (found : Option Block) : Type 0 where
 pub record DestroysSource (addr : ℕ) (old new : Heap) : Type 0 where
   pub may : MayGo (old.blocks addr)
   pub does : (source : CountedSource) (bytes : List ℕ) → KeepsTied old.blocks addr source bytes →
-      MatchBool (uses_of source == 0) (Goes addr source bytes old new) (Becomes addr source (flagged source) old new)
+      MatchBool (uses_of source == 0) (SourceGoes addr source bytes old new)
+          (Becomes addr source (flagged source) old new)
 
 -- it is refused as of the wrong kind: the block is of another, or the source has taken over a raw object
 abbrev pub IsWrong : Option Block → ℕ → ℕ → ℕ → Type 0

@@ -45,19 +45,19 @@ blocks_with media.Heap = 2
 blocks_with medium = 1
 
 -- the blocks that a source leaves: that of a raw object which stays with its owner, and which no source names any more
-abbrev pub left_by : Medium → ℕ → List ℕ → Entries
-left_by media.Obj raw bytes = raw_entries raw 0 bytes
-left_by medium raw bytes = []
+abbrev pub blocks_left : Medium → ℕ → List ℕ → Entries
+blocks_left media.Obj raw bytes = raw_entries raw 0 bytes
+blocks_left medium raw bytes = []
 
 -- the source is gone, with the raw object that it had taken over, and all else stays
-pub record Goes (addr : ℕ) (source : CountedSource) (bytes : List ℕ) (old new : Heap) : Type 0 where
+pub record SourceGoes (addr : ℕ) (source : CountedSource) (bytes : List ℕ) (old new : Heap) : Type 0 where
   pub changes : Changes old.blocks new.blocks (tied_entries addr source bytes)
-      (left_by source.row.medium source.row.subject bytes)
+      (blocks_left source.row.medium source.row.subject bytes)
   pub made : Made (gave (gone_with source.row.medium source.row.subject addr)) old new
 
 -- so is whichever source is kept there
 pub record Vanishes (addr : ℕ) (old new : Heap) : Type 0 where
-  pub goes : (source : CountedSource) (bytes : List ℕ) → KeepsTied old.blocks addr source bytes → Goes addr source bytes old new
+  pub goes : (source : CountedSource) (bytes : List ℕ) → KeepsTied old.blocks addr source bytes → SourceGoes addr source bytes old new
 
 -- why a raw object and its source don't go: there is no log room, and no more than the raw object was given back; or a fault
 abbrev pub OnlyGave : ℕ → Heap → Heap → Stop → Type 0

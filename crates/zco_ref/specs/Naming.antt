@@ -26,14 +26,14 @@ pub record HasUnnamed (found : Option Block) (count : ℕ) : Type 0 where
   pub counts : (named_by : ℕ) (bytes : List ℕ) → KeepsRaw found named_by bytes → count ≡ length bytes
 
 -- a source is at this address, which so many extents name
-pub record IsUsed (blocks : Blocks) (source count : ℕ) : Type 0 where
+pub record HasUses (blocks : Blocks) (source count : ℕ) : Type 0 where
   pub some : source ≢ 0
   pub counts : (row : CountedSource) → KeepsSource (blocks source) row → count ≡ uses_of row
 
 -- a source names whichever raw object is kept, and so many extents name that source
 pub record IsNamed (blocks : Blocks) (raw count : ℕ) : Type 0 where
   pub kind : IsKind (blocks raw) kinds.Raw
-  pub used : (named_by : ℕ) (bytes : List ℕ) → KeepsRaw (blocks raw) named_by bytes → IsUsed blocks named_by count
+  pub used : (named_by : ℕ) (bytes : List ℕ) → KeepsRaw (blocks raw) named_by bytes → HasUses blocks named_by count
 
 -- why a raw object is refused that a source is to be made of: for its address, or since a source names it; or a fault
 abbrev pub RawStops : Blocks → ℕ → Stop → Type 0

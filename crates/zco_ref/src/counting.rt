@@ -2,7 +2,7 @@
 ghost use Rattle.std.specs.Prelude.{◌≡◌, ◌+◌, ◌*◌, ◌≤◌, IfOk, IfErr, OnOk};
 ghost use Rattle.sdr_base.specs.Moves.{KeepsSome};
 ghost use Rattle.sdr_base.specs.Objects.{Misses, OnlyFault, OnlyUnmoved};
-ghost use Rattle.sdr_base.specs.Works.{Looks, Works};
+ghost use Rattle.sdr_base.specs.Works.{Looks, Spends};
 ghost use Rattle.sdr_base.specs.declared.kind.Kind.TheVariants as kinds;
 ghost use Rattle.zco_ref.specs.Counting.{Attaches, CountsUses, Detaches, DetachStops, TellsUses, count_field};
 ghost use Rattle.zco_ref.specs.Going.{going};
@@ -44,7 +44,7 @@ pub fn attach<O: Objects>(o: &mut O, source: Addr, acct: Acct) -> Result<(), Sto
     requires source { SomeBelow acct ((O.heap o.old).blocks source) }
     ensures attached { OnOk result (Attaches source acct (O.heap o.old) (O.heap o.new)) }
     ensures refused { IfErr result (OnlyUnmoved (O.heap o.old) (O.heap o.new)) }
-    ensures works { Works O.HasHeap 2 o.old o.new result }
+    ensures works { Spends O.HasHeap 2 o.old o.new result }
 {
     let field = count_field(acct);
     let count = word(o, source, field)?;
@@ -59,7 +59,7 @@ pub fn detach<O: Objects>(o: &mut O, source: Addr, acct: Acct) -> Result<bool, S
     requires source { SomeAttached acct (O.heap o.old).blocks source }
     ensures detached { IfOk result (Detaches source acct (O.heap o.old) (O.heap o.new)) }
     ensures refused { IfErr result (DetachStops source (O.heap o.old) (O.heap o.new)) }
-    ensures works { Works O.HasHeap
+    ensures works { Spends O.HasHeap
         (4 + 24 * going ((O.heap o.old).blocks source)) o.old o.new result }
 {
     let seen = see(o, source)?;

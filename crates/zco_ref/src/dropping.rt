@@ -1,7 +1,7 @@
 // The end of a source.
 ghost use Rattle.std.specs.Prelude.{◌≡◌, ◌+◌, ◌*◌, ◌≤◌, IfErr, OnOk};
 ghost use Rattle.sdr_base.specs.Moves.{KeepsSome};
-ghost use Rattle.sdr_base.specs.Works.{Works};
+ghost use Rattle.sdr_base.specs.Works.{Spends};
 ghost use Rattle.zco_ref.specs.Dropping.{DestroysSource, DestroyStops};
 ghost use Rattle.zco_ref.specs.Going.{Vanishes, VanishStops, blocks_with};
 ghost use Rattle.zco_ref.specs.Kept.{IsTied, SomeTied};
@@ -20,7 +20,7 @@ pub fn destroy_ref<O: Objects>(o: &mut O, source: Addr) -> Result<(), Stop>
     requires source { IsTied (O.heap o.old).blocks source }
     ensures destroyed { OnOk result (DestroysSource source (O.heap o.old) (O.heap o.new)) }
     ensures refused { IfErr result (DestroyStops source (O.heap o.old) (O.heap o.new)) }
-    ensures works { Works O.HasHeap 28 o.old o.new result }
+    ensures works { Spends O.HasHeap 28 o.old o.new result }
 {
     expect_kind(o, source, Kind::Source)?;
     let seen = see(o, source)?;
@@ -49,7 +49,7 @@ pub fn vanish<O: Objects>(o: &mut O, source: Addr, seen: Seen) -> Result<(), Sto
     ensures gone { OnOk result (Vanishes source (O.heap o.old) (O.heap o.new)) }
     ensures refused { IfErr result
         (VanishStops seen.medium seen.subject (O.heap o.old) (O.heap o.new)) }
-    ensures works { Works O.HasHeap (4 + 24 * blocks_with seen.medium) o.old o.new result }
+    ensures works { Spends O.HasHeap (4 + 24 * blocks_with seen.medium) o.old o.new result }
 {
     match seen.medium {
         Medium::Heap => {

@@ -4,7 +4,7 @@ ghost use Rattle.sdr_base.specs.Moves.{KeepsSome};
 ghost use Rattle.sdr_base.specs.Objects.{OnlyShort};
 ghost use Rattle.sdr_base.specs.Sources.{medium_number};
 ghost use Rattle.sdr_base.specs.Words.{TakesBytes, layout};
-ghost use Rattle.sdr_base.specs.Works.{Works};
+ghost use Rattle.sdr_base.specs.Works.{Spends};
 ghost use Rattle.sdr_base.specs.declared.kind.Kind.TheVariants as kinds;
 ghost use Rattle.zco_ref.specs.Making.{BulkStops, FileStops, IsPathLength, MakesBulk, MakesFile};
 ghost use Rattle.zco_ref.specs.Making.{PathRefused, SourceRefused, TakesSource, file_row, plain_row};
@@ -30,7 +30,7 @@ pub fn file_ref<O: Objects>(o: &mut O, path: &[u8], bytes: u64) -> Result<Addr, 
     ensures made { IfOk result (λ source.
         MakesFile path.now bytes source (O.heap o.old) (O.heap o.new)) }
     ensures refused { IfErr result (FileStops path.now bytes (O.heap o.old) (O.heap o.new)) }
-    ensures works { Works O.HasHeap
+    ensures works { Spends O.HasHeap
         (26 + (PATH_FROM + length path.now) / 32) o.old o.new result }
 {
     check_failed(o)?;
@@ -46,7 +46,7 @@ pub fn bulk_ref<O: Objects>(o: &mut O, item: u64, bytes: u64) -> Result<Addr, St
     ensures made { IfOk result (λ source.
         MakesBulk item bytes source (O.heap o.old) (O.heap o.new)) }
     ensures refused { IfErr result (BulkStops bytes (O.heap o.old) (O.heap o.new)) }
-    ensures works { Works O.HasHeap 29 o.old o.new result }
+    ensures works { Spends O.HasHeap 29 o.old o.new result }
 {
     check_failed(o)?;
     check_bytes(bytes)?;
@@ -90,7 +90,7 @@ fn take_file<O: Objects>(o: &mut O, path: &[u8], bytes: u64) -> Result<Addr, Sto
         TakesSource (file_row path.now bytes) source (O.heap o.old) (O.heap o.new)) }
     ensures refused { IfErr result
         (OnlyShort (PATH_FROM + length path.now) (O.heap o.old) (O.heap o.new)) }
-    ensures works { Works O.HasHeap
+    ensures works { Spends O.HasHeap
         (26 + (PATH_FROM + length path.now) / 32) o.old o.new result }
 {
     let mut buffer = [0; PATH_FROM + LONGEST_PATH];
@@ -122,7 +122,7 @@ pub fn take_plain<O: Objects>(
     ensures taken { IfOk result (λ source.
         TakesSource (plain_row medium subject bytes) source (O.heap o.old) (O.heap o.new)) }
     ensures refused { IfErr result (OnlyShort 48 (O.heap o.old) (O.heap o.new)) }
-    ensures works { Works O.HasHeap 29 o.old o.new result }
+    ensures works { Spends O.HasHeap 29 o.old o.new result }
 {
     let head = [number_of(medium), 0, 0, 0, subject, bytes];
     take_words(o, Kind::Source, &head)

@@ -3,7 +3,7 @@ use Rattle.std.proofs.Common.{◌≡◌, ℕ, List, [], refl, ap}
 use Rattle.sdr_answers.proofs.ListLemmas.{IsSmall}
 use Rattle.sdr_answers.proofs.RowLemmas.{looked, misnamed_refused}
 use Rattle.sdr_answers.specs.Answering as answers
-use Rattle.sdr_answers.specs.Answering.{Answered, IsRefused, IsServed}
+use Rattle.sdr_answers.specs.Answering.{Answered, IsRefused, IsReady}
 use Rattle.sdr_audit.specs.Standing.{HeapStandsFor}
 use Rattle.sdr_base.specs.Objects.{Heap, Misses}
 use Rattle.sdr_base.specs.declared.kind.Kind.TheVariants as kinds
@@ -19,7 +19,7 @@ use Rattle.zco_ref.specs.Counting.{CountsUses}
 use Rattle.zco_served.proofs.SourceLemmas.{counted_in, no_source, source_is_at}
 
 -- a call on a heap that stands for a world in which it is served
-module _ (old new : Heap) (w : World) (unmoved : old.moves ≡ []) (s : HeapStandsFor old w) (served : IsServed w) (same : new ≡ old) where
+module _ (old new : Heap) (w : World) (unmoved : old.moves ≡ []) (s : HeapStandsFor old w) (served : IsReady w) (same : new ≡ old) where
   pub count_answered : (addr value : ℕ) → IsSmall old → CountsUses (old.blocks addr) value →
       Answered w (calls.Count addr) new [] (replies.Value value)
   count_answered addr value small c =

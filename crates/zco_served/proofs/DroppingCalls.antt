@@ -3,7 +3,7 @@ use Rattle.std.proofs.Common.{◌≡◌, ◌∙◌, ℕ, ◌==◌, List, [], ◌
 use Rattle.std.specs.Prelude.{MatchBool}
 use Rattle.sdr_answers.proofs.ListLemmas.{IsSmall}
 use Rattle.sdr_answers.proofs.RowLemmas.{full_refused, gave_back, misnamed_refused, moved_nothing, row_refused}
-use Rattle.sdr_answers.specs.Answering.{Answered, IsRefused, IsServed}
+use Rattle.sdr_answers.specs.Answering.{Answered, IsRefused, IsReady}
 use Rattle.sdr_audit.proofs.ChangeLemmas.{part_changed}
 use Rattle.sdr_audit.proofs.PartLemmas.{thing_changed, thing_gone}
 use Rattle.sdr_audit.specs.Standing.{HeapStandsFor}
@@ -30,14 +30,14 @@ use Rattle.sdr_model.specs.declared.zco.ZcoSource.{ZcoSource}
 use Rattle.zco_ref.specs.Counting.{Becomes}
 use Rattle.zco_ref.specs.Dropping as ref
 use Rattle.zco_ref.specs.Dropping.{DestroysSource, DestroyStops, IsFlagged, IsOwner, MayGo}
-use Rattle.zco_ref.specs.Going.{Goes}
+use Rattle.zco_ref.specs.Going.{SourceGoes}
 use Rattle.zco_ref.specs.Kept.{KeepsSource, counted_entries}
 use Rattle.zco_served.proofs.GoingCalls.{MayGoAt, aim, flagged_row, free, gone_row, obj_gone, owner_told}
 use Rattle.zco_served.proofs.SourceLemmas.{IsRawOf, counted_in, no_source, source_is_at, source_tied}
 use Rattle.zco_served.proofs.StepLemmas.{answered_later, roots_kept}
 
 -- a call on a heap that stands for a world in which it is served
-module _ (old new : Heap) (w : World) (unmoved : old.moves ≡ []) (s : HeapStandsFor old w) (served : IsServed w) where
+module _ (old new : Heap) (w : World) (unmoved : old.moves ≡ []) (s : HeapStandsFor old w) (served : IsReady w) where
   -- a source that names no raw object is gone
   plain_gone : (addr : ℕ) (source : ZcoSource) → MayGoAt w addr source → (uses_of w addr == 0) ≡ true →
       ((raw : ℕ) → is_of_raw raw source.subject ≡ false) →
@@ -74,7 +74,7 @@ module _ (old new : Heap) (w : World) (unmoved : old.moves ≡ []) (s : HeapStan
   -- whichever it is of, it is gone
   gone_of : (addr : ℕ) (bytes : List ℕ) (source : ZcoSource) (subject : Subject) →
       MayGoAt w addr (record source { subject = subject }) → (uses_of w addr == 0) ≡ true → IsRawOf w subject bytes →
-      Goes addr (counted_in w addr (record source { subject = subject })) bytes old new →
+      SourceGoes addr (counted_in w addr (record source { subject = subject })) bytes old new →
       Answered w (calls.DestroyRef addr) new [] replies.Done
   gone_of addr bytes source (subjects.File path) m unused there g =
       plain_gone addr (record source { subject = subjects.File path }) m unused (λ raw. refl) g.changes g.made
@@ -102,7 +102,7 @@ module _ (old new : Heap) (w : World) (unmoved : old.moves ≡ []) (s : HeapStan
     where
       by : (source : ZcoSource) → MayGoAt w addr source → (bytes : List ℕ) → IsRawOf w source.subject bytes →
           (b : Bool) → (uses_of w addr == 0) ≡ b →
-          MatchBool b (Goes addr (counted_in w addr source) bytes old new)
+          MatchBool b (SourceGoes addr (counted_in w addr source) bytes old new)
           (Becomes addr (counted_in w addr source) (ref.flagged (counted_in w addr source)) old new) →
           Answered w (calls.DestroyRef addr) new [] replies.Done
       by source m bytes there true is g = gone_of addr bytes source source.subject m is there g

@@ -4,13 +4,13 @@ use Rattle.std.specs.Prelude.{is_some}
 use Rattle.std.proofs.lemmas.Bool.{eq-eqb, ne_eqb}
 use Rattle.sdr_answers.proofs.EntryLemmas.{source_there}
 use Rattle.sdr_answers.proofs.RowLemmas.{HasMoves, gave_back, marks_none}
-use Rattle.sdr_answers.specs.Answering.{Aim, Answered, IsServed}
+use Rattle.sdr_answers.specs.Answering.{Aim, Answered, IsReady}
 use Rattle.sdr_audit.specs.Rows.{medium_of}
 use Rattle.sdr_audit.specs.Standing.{HeapStandsFor, entries_of, other_entries, thing_entries, with_taken_marked}
 use Rattle.sdr_audit.specs.Ties.{Ties, or_null, ties_of}
 use Rattle.sdr_base.proofs.SectionLemmas.{section-gone}
 use Rattle.sdr_base.proofs.StandingLemmas.{focused, swaps_before}
-use Rattle.sdr_base.specs.Entries.{Changes, Entries, Stands, Swaps}
+use Rattle.sdr_base.specs.Entries.{Changes, Entries, BlocksAre, Swaps}
 use Rattle.sdr_base.specs.Making.{Made}
 use Rattle.sdr_base.specs.Objects.{Heap}
 use Rattle.sdr_base.specs.Raws.{raw_entries}
@@ -25,7 +25,7 @@ use Rattle.sdr_model.specs.SourceSteps.{flagged}
 use Rattle.sdr_model.specs.Steps.{Outcome, with_thing, without_thing}
 use Rattle.sdr_model.specs.Valid.{FitTogether}
 use Rattle.sdr_model.specs.World.{World, as_raw, thing_at}
-use Rattle.sdr_model.specs.Zco.{as_object, as_source, is_of_raw, source_at, source_on, taken_over, uses_of}
+use Rattle.sdr_model.specs.Zco.{as_object, as_source, is_of_raw, source_at, source_naming, taken_over, uses_of}
 use Rattle.sdr_model.specs.declared.answer.Reply.TheVariants as replies
 use Rattle.sdr_model.specs.declared.call.Call.TheVariants as calls
 use Rattle.sdr_model.specs.declared.things.Thing.{Thing}
@@ -98,7 +98,7 @@ pub free : (w : World) (addr : ℕ) → IsFree w (calls.DestroyRef addr)
 free w addr = record { charge = λ acct space. omega arith; release = λ acct space. refl }
 
 -- a call on a heap that stands for a world in which it is served
-module _ (old new : Heap) (w : World) (unmoved : old.moves ≡ []) (s : HeapStandsFor old w) (served : IsServed w) where
+module _ (old new : Heap) (w : World) (unmoved : old.moves ≡ []) (s : HeapStandsFor old w) (served : IsReady w) where
   -- one of a raw object that stays with its owner is gone, and no source names that
   module _ (addr raw : ℕ) (bytes : List ℕ) (source : ZcoSource) (of : source.subject ≡ subjects.Obj raw) (m : MayGoAt w addr source)
       (unused : (uses_of w addr == 0) ≡ true) (there : thing_at w raw ≡ Some (things.Raw bytes))
@@ -120,7 +120,7 @@ module _ (old new : Heap) (w : World) (unmoved : old.moves ≡ []) (s : HeapStan
     fits : FitTogether after
     fits = fits_later w after.things (calls.DestroyRef addr) moves replies.Done served.whole has.fresh row refl
 
-    named : source_on w raw ≡ Some addr
+    named : source_naming w raw ≡ Some addr
     named =
         named_at w raw addr source served.whole.fits m.there
         (ap (is_of_raw raw) of ∙ eq-eqb raw raw refl)
@@ -130,10 +130,10 @@ module _ (old new : Heap) (w : World) (unmoved : old.moves ≡ []) (s : HeapStan
         let d : Some bytes ≡ None = sym (ap as_raw there) ∙ ap (λ (a : ℕ). as_raw (thing_at w a)) same ∙ ap as_raw m.there in cc
 
     -- no source of the raw object is left
-    none : source_on after raw ≡ None
-    none = by (source_on after raw) refl
+    none : source_naming after raw ≡ None
+    none = by (source_naming after raw) refl
       where
-        by : (o : Option ℕ) → source_on after raw ≡ o → source_on after raw ≡ None
+        by : (o : Option ℕ) → source_naming after raw ≡ o → source_naming after raw ≡ None
         by None is = is
         by (Some a) is =
             let n = source_there after raw a is in
@@ -185,20 +185,22 @@ module _ (old new : Heap) (w : World) (unmoved : old.moves ≡ []) (s : HeapStan
         (subst (λ (n : ℕ). Changes old.blocks new.blocks (f addr (things.Source source) ++ raw_entries raw addr bytes) (raw_entries raw n bytes))
         (sym (put_here (ties_of w).named_by raw 0)) changes)
 
-    becomes : (rest : Entries) → Stands old.blocks (entries_of w ++ rest) → Stands new.blocks (entries_of after ++ rest)
+    becomes : (rest : Entries) → BlocksAre old.blocks (entries_of w ++ rest) → BlocksAre new.blocks
+        (entries_of after ++ rest)
     becomes rest st =
         let others = other_entries w ++ rest in
-        let one : Stands old.blocks (section f w.things ++ others) =
-        subst (λ (es : Entries). Stands old.blocks es) (append_assoc (section f w.things) (other_entries w) rest) st in
+        let one : BlocksAre old.blocks (section f w.things ++ others) =
+        subst (λ (es : Entries). BlocksAre old.blocks es) (append_assoc (section f w.things) (other_entries w) rest)
+            st in
         let swap : Swaps (section f w.things ++ others) (section f after.things ++ others) (f addr (things.Source source)) [] =
         swaps_before others (section-gone f w.things addr (things.Source source) m.there) in
-        let two : Stands old.blocks (f addr (things.Source source) ++ (section f after.things ++ others)) =
-        subst (λ (es : Entries). Stands old.blocks (f addr (things.Source source) ++ es)) (sym swap.is) (focused swap one) in
-        let three : Stands new.blocks ([] ++ (section g after.things ++ others)) =
+        let two : BlocksAre old.blocks (f addr (things.Source source) ++ (section f after.things ++ others)) =
+        subst (λ (es : Entries). BlocksAre old.blocks (f addr (things.Source source) ++ es)) (sym swap.is) (focused swap one) in
+        let three : BlocksAre new.blocks ([] ++ (section g after.things ++ others)) =
         retied f g raw (alike_but w raw 0) after.things (things.Raw bytes) (f addr (things.Source source)) [] others
         (apart_at w.things addr None raw apart ∙ there) (get-removed after.things raw) part two in
-        subst (λ (t : Ties). Stands new.blocks ((section (thing_entries t) after.things ++ other_entries w) ++ rest)) (sym ties)
-        (subst (λ (es : Entries). Stands new.blocks es) (sym (append_assoc (section g after.things) (other_entries w) rest)) three)
+        subst (λ (t : Ties). BlocksAre new.blocks ((section (thing_entries t) after.things ++ other_entries w) ++ rest)) (sym ties)
+        (subst (λ (es : Entries). BlocksAre new.blocks es) (sym (append_assoc (section g after.things) (other_entries w) rest)) three)
 
     pub obj_gone : Answered w (calls.DestroyRef addr) new [] replies.Done
     obj_gone =

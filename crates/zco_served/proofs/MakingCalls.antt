@@ -2,7 +2,7 @@
 use Rattle.std.proofs.Common.{◌≡◌, ◌∙◌, ◌⊎◌, ◌≤◌, ◌<◌, ◌||◌, ℕ, List, [], ◌∷◌, Bool, true, false, inl, inr, nat_lt, length, refl, sym, ap, subst, arith}
 use Rattle.std.proofs.lemmas.Bool.Decides.{nat_tests}
 use Rattle.sdr_answers.proofs.RowLemmas.{row_refused, short_refused, took_one}
-use Rattle.sdr_answers.specs.Answering.{Answered, IsRefused, IsServed}
+use Rattle.sdr_answers.specs.Answering.{Answered, IsRefused, IsReady}
 use Rattle.sdr_audit.proofs.ChangeLemmas.{nothing_at, part_changed}
 use Rattle.sdr_audit.proofs.PartLemmas.{thing_new}
 use Rattle.sdr_audit.specs.Rows.{source_row}
@@ -80,7 +80,7 @@ too_long : (n : ℕ) → longest_source < n → nat_lt longest_source n ≡ true
 too_long n above = grind (arith, nat_tests, above)
 
 -- a call on a heap that stands for a world in which it is served
-module _ (old new : Heap) (w : World) (unmoved : old.moves ≡ []) (s : HeapStandsFor old w) (served : IsServed w) where
+module _ (old new : Heap) (w : World) (unmoved : old.moves ≡ []) (s : HeapStandsFor old w) (served : IsReady w) where
   -- a source that names no raw object was made
   made : (call : Call) (need addr : ℕ) (source : ZcoSource) → IsFree w call →
       ((raw : ℕ) → is_of_raw raw source.subject ≡ false) →

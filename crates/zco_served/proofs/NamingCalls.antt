@@ -5,7 +5,7 @@ use Rattle.sdr_answers.proofs.EntryLemmas.{source_there}
 use Rattle.sdr_answers.proofs.ListLemmas.{IsSmall}
 use Rattle.sdr_answers.proofs.RawLemmas.{no_raw}
 use Rattle.sdr_answers.proofs.RowLemmas.{HasMoves, misnamed_refused, row_refused, short_refused, took_one}
-use Rattle.sdr_answers.specs.Answering.{Answered, IsRefused, IsServed}
+use Rattle.sdr_answers.specs.Answering.{Answered, IsRefused, IsReady}
 use Rattle.sdr_audit.proofs.ChangeLemmas.{in_use, nothing_at}
 use Rattle.sdr_audit.specs.Rows.{source_row}
 use Rattle.sdr_audit.specs.Standing.{HeapStandsFor, entries_of, other_entries, thing_entries}
@@ -13,7 +13,7 @@ use Rattle.sdr_audit.specs.Ties.{Ties, or_null, ties_of}
 use Rattle.sdr_base.proofs.SectionLemmas.{section-new}
 use Rattle.sdr_base.proofs.StandingLemmas.{at-nowhere, swaps_before, unfocused}
 use Rattle.sdr_base.specs.Blocks.{with_at}
-use Rattle.sdr_base.specs.Entries.{Adds, Changes, Entries, Stands, Swaps}
+use Rattle.sdr_base.specs.Entries.{Adds, Changes, Entries, BlocksAre, Swaps}
 use Rattle.sdr_base.specs.Objects.{Heap}
 use Rattle.sdr_base.specs.Raws.{raw_entries}
 use Rattle.sdr_base.specs.Section.{section}
@@ -36,7 +36,7 @@ use Rattle.sdr_model.specs.Steps.{with_thing}
 use Rattle.sdr_model.specs.Things.{source_need}
 use Rattle.sdr_model.specs.Valid.{FitTogether}
 use Rattle.sdr_model.specs.World.{World, as_raw, thing_at}
-use Rattle.sdr_model.specs.Zco.{as_object, as_source, count_of, is_of_raw, source_on, uses_of}
+use Rattle.sdr_model.specs.Zco.{as_object, as_source, count_of, is_of_raw, source_naming, uses_of}
 use Rattle.sdr_model.specs.declared.answer.Reply.TheVariants as replies
 use Rattle.sdr_model.specs.declared.call.Call.TheVariants as calls
 use Rattle.sdr_model.specs.declared.things.Thing.{Thing}
@@ -45,7 +45,7 @@ use Rattle.sdr_model.specs.declared.zco.Subject.TheVariants as subjects
 use Rattle.sdr_model.specs.declared.zco.ZcoSource.{ZcoSource}
 use Rattle.zco_ref.specs.Kept.{KeepsRaw, counted_entries}
 use Rattle.zco_ref.specs.Making.{plain_row, unused}
-use Rattle.zco_ref.specs.Naming.{IsNamed, IsUsed, MakesRawSource, NamingStops}
+use Rattle.zco_ref.specs.Naming.{IsNamed, HasUses, MakesRawSource, NamingStops}
 use Rattle.zco_served.proofs.MakingCalls.{source_outcome}
 use Rattle.zco_served.proofs.NamedLemmas.{SameSources, naming_of, named_at, same_named, ties_but}
 use Rattle.zco_served.proofs.RetiedLemmas.{retied}
@@ -70,19 +70,19 @@ alike_but w raw named q (things.Raw bytes) apart =
 alike_but w raw named q thing apart = refl
 
 -- the row of a source of a raw object that no source names
-obj_row : (w : World) (raw addr : ℕ) (bytes : List ℕ) → thing_at w raw ≡ Some (things.Raw bytes) → source_on w raw ≡ None →
+obj_row : (w : World) (raw addr : ℕ) (bytes : List ℕ) → thing_at w raw ≡ Some (things.Raw bytes) → source_naming w raw ≡ None →
     ByRow w (source_outcome w (source_need 0) (new_source (subjects.Obj raw) (length bytes)) addr) (calls.ObjRef raw)
 obj_row w raw addr bytes there unnamed =
     on_some _ _ (as_raw (thing_at w raw)) bytes (ap as_raw there)
-    (on_none _ _ (source_on w raw) unnamed (refl, (refl, refl)))
+    (on_none _ _ (source_naming w raw) unnamed (refl, (refl, refl)))
 
 -- a call on a heap that stands for a world in which it is served
-module _ (old new : Heap) (w : World) (unmoved : old.moves ≡ []) (s : HeapStandsFor old w) (served : IsServed w) where
+module _ (old new : Heap) (w : World) (unmoved : old.moves ≡ []) (s : HeapStandsFor old w) (served : IsReady w) where
   -- nothing stands at 0, so where the word for the source of a raw object is 0, none names it
-  pub unnamed_at : (raw : ℕ) → or_null (source_on w raw) ≡ 0 → source_on w raw ≡ None
-  unnamed_at raw zero = by (source_on w raw) refl zero
+  pub unnamed_at : (raw : ℕ) → or_null (source_naming w raw) ≡ 0 → source_naming w raw ≡ None
+  unnamed_at raw zero = by (source_naming w raw) refl zero
     where
-      by : (o : Option ℕ) → source_on w raw ≡ o → or_null o ≡ 0 → source_on w raw ≡ None
+      by : (o : Option ℕ) → source_naming w raw ≡ o → or_null o ≡ 0 → source_naming w raw ≡ None
       by None is none = is
       by (Some a) is none =
           let n = source_there w raw a is in
@@ -95,8 +95,8 @@ module _ (old new : Heap) (w : World) (unmoved : old.moves ≡ []) (s : HeapStan
     r : IsNamedAt old w raw
     r = named_is_at old w raw s served m.unnamed.kind
 
-    unnamed : source_on w raw ≡ None
-    unnamed = unnamed_at raw (m.unnamed.none (or_null (source_on w raw)) r.bytes r.keeps)
+    unnamed : source_naming w raw ≡ None
+    unnamed = unnamed_at raw (m.unnamed.none (or_null (source_naming w raw)) r.bytes r.keeps)
 
     keeps : KeepsRaw (old.blocks raw) 0 r.bytes
     keeps = subst (λ (n : ℕ). KeepsRaw (old.blocks raw) n r.bytes) (ap or_null unnamed) r.keeps
@@ -171,25 +171,27 @@ module _ (old new : Heap) (w : World) (unmoved : old.moves ≡ []) (s : HeapStan
     zero : (acct : Acct) → count_of w addr acct ≡ 0
     zero acct = none_counted w addr acct served.whole.fits (ap as_source none)
 
-    becomes : (rest : Entries) → Stands old.blocks (entries_of w ++ rest) → Stands new.blocks (entries_of after ++ rest)
+    becomes : (rest : Entries) → BlocksAre old.blocks (entries_of w ++ rest) → BlocksAre new.blocks
+        (entries_of after ++ rest)
     becomes rest st =
         let others = other_entries w ++ rest in
-        let one : Stands old.blocks ([] ++ (section f w.things ++ others)) =
-        subst (λ (es : Entries). Stands old.blocks es) (append_assoc (section f w.things) (other_entries w) rest) st in
-        let two : Stands new.blocks (made ++ (section g w.things ++ others)) =
+        let one : BlocksAre old.blocks ([] ++ (section f w.things ++ others)) =
+        subst (λ (es : Entries). BlocksAre old.blocks es) (append_assoc (section f w.things) (other_entries w) rest)
+            st in
+        let two : BlocksAre new.blocks (made ++ (section g w.things ++ others)) =
         retied f g raw (alike_but w raw addr) w.things (things.Raw r.bytes) [] made others r.there (get-removed w.things raw) part one in
         let swap : Swaps (section g w.things ++ others) (section g after.things ++ others) [] (g addr (things.Source source)) =
         swaps_before others (section-new g w.things addr (things.Source source) none) in
-        let three : Stands new.blocks (g addr (things.Source source) ++ (section g w.things ++ others)) =
-        subst (λ (n : ℕ). Stands new.blocks
+        let three : BlocksAre new.blocks (g addr (things.Source source) ++ (section g w.things ++ others)) =
+        subst (λ (n : ℕ). BlocksAre new.blocks
         (source_entries addr n (count_of w addr accts.Outbound) (source_row source) ++ (section g w.things ++ others)))
         (sym (zero accts.Inbound))
-        (subst (λ (n : ℕ). Stands new.blocks (source_entries addr 0 n (source_row source) ++ (section g w.things ++ others)))
+        (subst (λ (n : ℕ). BlocksAre new.blocks (source_entries addr 0 n (source_row source) ++ (section g w.things ++ others)))
         (sym (zero accts.Outbound)) two) in
-        let four : Stands new.blocks (section g after.things ++ others) =
-        unfocused swap (subst (λ (es : Entries). Stands new.blocks (g addr (things.Source source) ++ es)) swap.was three) in
-        subst (λ (t : Ties). Stands new.blocks ((section (thing_entries t) after.things ++ other_entries w) ++ rest)) (sym ties)
-        (subst (λ (es : Entries). Stands new.blocks es) (sym (append_assoc (section g after.things) (other_entries w) rest)) four)
+        let four : BlocksAre new.blocks (section g after.things ++ others) =
+        unfocused swap (subst (λ (es : Entries). BlocksAre new.blocks (g addr (things.Source source) ++ es)) swap.was three) in
+        subst (λ (t : Ties). BlocksAre new.blocks ((section (thing_entries t) after.things ++ other_entries w) ++ rest)) (sym ties)
+        (subst (λ (es : Entries). BlocksAre new.blocks es) (sym (append_assoc (section g after.things) (other_entries w) rest)) four)
 
     pub obj_made : Answered w (calls.ObjRef raw) new [] (replies.At addr)
     obj_made =
@@ -199,13 +201,13 @@ module _ (old new : Heap) (w : World) (unmoved : old.moves ≡ []) (s : HeapStan
         (record { charge = λ acct space. omega arith; release = λ acct space. refl })) refl)
 
   -- the source that names a raw object, and how many extents name that
-  pub used_as : (raw count : ℕ) → IsSmall old → IsNamed old.blocks raw count → (addr : ℕ) × (source_on w raw ≡ Some addr) × (count ≡ uses_of w addr)
+  pub used_as : (raw count : ℕ) → IsSmall old → IsNamed old.blocks raw count → (addr : ℕ) × (source_naming w raw ≡ Some addr) × (count ≡ uses_of w addr)
   used_as raw count small n =
       let r = named_is_at old w raw s served n.kind in
-      by (source_on w raw) refl (n.used (or_null (source_on w raw)) r.bytes r.keeps)
+      by (source_naming w raw) refl (n.used (or_null (source_naming w raw)) r.bytes r.keeps)
     where
-      by : (o : Option ℕ) → source_on w raw ≡ o → IsUsed old.blocks (or_null o) count →
-          (addr : ℕ) × (source_on w raw ≡ Some addr) × (count ≡ uses_of w addr)
+      by : (o : Option ℕ) → source_naming w raw ≡ o → HasUses old.blocks (or_null o) count →
+          (addr : ℕ) × (source_naming w raw ≡ Some addr) × (count ≡ uses_of w addr)
       by None is u = absurd (u.some refl)
       by (Some a) is u =
           let t = source_there w raw a is in
@@ -226,13 +228,13 @@ module _ (old new : Heap) (w : World) (unmoved : old.moves ≡ []) (s : HeapStan
         step =
             inl (row_refused w (calls.ObjRef raw) new (refusals.InUse bad count) (ap (λ (h : Heap). h.moves) m.1 ∙ unmoved)
             (on_some _ _ (as_raw (thing_at w raw)) r.bytes (ap as_raw r.there)
-            (on_some _ _ (source_on w raw) u.0 u.1
+            (on_some _ _ (source_naming w raw) u.0 u.1
             (refl, refl, λ i. replies.Refused (refusals.InUse (m.0.0 i) (u.2 i))))));
         left = λ reads. m.1;
         gave = refl;
       }
   obj_unmade raw was refusal small m =
       let r = named_is_at old w raw s served m.0.kind in
-      let unnamed = unnamed_at raw (m.0.none (or_null (source_on w raw)) r.bytes r.keeps) in
+      let unnamed = unnamed_at raw (m.0.none (or_null (source_naming w raw)) r.bytes r.keeps) in
       short_refused w (calls.ObjRef raw) (source_need 0) old new was refusal refl
       (record { after = _; reply = _; row = obj_row w raw 0 r.bytes r.there unnamed; answered = refl }) unmoved m.1

@@ -8,38 +8,38 @@ use Rattle.std.specs.Cmp.{nat_cmp_total, tied_itself}
 use Rattle.std.specs.FinMap as finite
 use Rattle.std.specs.FinMap.{FinMap}
 use Rattle.sdr_base.specs.Blocks.{Blocks}
-use Rattle.sdr_base.specs.Entries.{Changes, Entries, Stands}
+use Rattle.sdr_base.specs.Entries.{Changes, Entries, BlocksAre}
 use Rattle.sdr_base.specs.Section.{section}
 use Rattle.sdr_base.proofs.SectionLemmas.{section-gone}
 use Rattle.sdr_base.proofs.StandingLemmas.{moved, moved_back}
 
 -- a part among others comes behind those in front, and goes back
-forth : {b : Blocks} (h before part behind rest : Entries) → Stands b (h ++ ((before ++ (part ++ behind)) ++ rest)) →
-    Stands b ((h ++ part) ++ ((before ++ behind) ++ rest))
+forth : {b : Blocks} (h before part behind rest : Entries) → BlocksAre b (h ++ ((before ++ (part ++ behind)) ++ rest)) →
+    BlocksAre b ((h ++ part) ++ ((before ++ behind) ++ rest))
 forth {b} h before part behind rest s =
     let one : h ++ ((before ++ (part ++ behind)) ++ rest) ≡ (h ++ before) ++ (part ++ (behind ++ rest)) =
     ap (λ (l : Entries). h ++ l) (append_assoc before (part ++ behind) rest ∙ ap (λ (l : Entries). before ++ l) (append_assoc part behind rest))
     ∙ sym (append_assoc h before (part ++ (behind ++ rest))) in
     let two : (h ++ before) ++ (behind ++ rest) ≡ h ++ ((before ++ behind) ++ rest) =
     append_assoc h before (behind ++ rest) ∙ ap (λ (l : Entries). h ++ l) (sym (append_assoc before behind rest)) in
-    subst (λ (es : Entries). Stands b es) (sym (append_assoc h part ((before ++ behind) ++ rest)))
+    subst (λ (es : Entries). BlocksAre b es) (sym (append_assoc h part ((before ++ behind) ++ rest)))
     (moved_back h part ((before ++ behind) ++ rest)
-    (subst (λ (es : Entries). Stands b (part ++ es)) two
-    (moved (h ++ before) part (behind ++ rest) (subst (λ (es : Entries). Stands b es) one s))))
+    (subst (λ (es : Entries). BlocksAre b (part ++ es)) two
+    (moved (h ++ before) part (behind ++ rest) (subst (λ (es : Entries). BlocksAre b es) one s))))
 
-back : {b : Blocks} (h before part behind rest : Entries) → Stands b ((h ++ part) ++ ((before ++ behind) ++ rest)) →
-    Stands b (h ++ ((before ++ (part ++ behind)) ++ rest))
+back : {b : Blocks} (h before part behind rest : Entries) → BlocksAre b ((h ++ part) ++ ((before ++ behind) ++ rest)) →
+    BlocksAre b (h ++ ((before ++ (part ++ behind)) ++ rest))
 back {b} h before part behind rest s =
     let one : h ++ ((before ++ (part ++ behind)) ++ rest) ≡ (h ++ before) ++ (part ++ (behind ++ rest)) =
     ap (λ (l : Entries). h ++ l) (append_assoc before (part ++ behind) rest ∙ ap (λ (l : Entries). before ++ l) (append_assoc part behind rest))
     ∙ sym (append_assoc h before (part ++ (behind ++ rest))) in
     let two : (h ++ before) ++ (behind ++ rest) ≡ h ++ ((before ++ behind) ++ rest) =
     append_assoc h before (behind ++ rest) ∙ ap (λ (l : Entries). h ++ l) (sym (append_assoc before behind rest)) in
-    subst (λ (es : Entries). Stands b es) (sym one)
+    subst (λ (es : Entries). BlocksAre b es) (sym one)
     (moved_back (h ++ before) part (behind ++ rest)
-    (subst (λ (es : Entries). Stands b (part ++ es)) (sym two)
+    (subst (λ (es : Entries). BlocksAre b (part ++ es)) (sym two)
     (moved h part ((before ++ behind) ++ rest)
-    (subst (λ (es : Entries). Stands b es) (append_assoc h part ((before ++ behind) ++ rest)) s))))
+    (subst (λ (es : Entries). BlocksAre b es) (append_assoc h part ((before ++ behind) ++ rest)) s))))
 
 -- two ways to write things that are alike but at one address
 module _ {X : Type 0} (f g : ℕ → X → Entries) (k : ℕ) (same : (q : ℕ) (x : X) → q ≢ k → f q x ≡ g q x) where
@@ -72,13 +72,13 @@ module _ {X : Type 0} (f g : ℕ → X → Entries) (k : ℕ) (same : (q : ℕ) 
   -- the one there is written otherwise, and others come or go in front
   pub retied : {b b' : Blocks} (m : FinMap nat_cmp X) (v : X) (h h' rest : Entries) → finite.get m k ≡ Some v →
       finite.get (finite.remove m k) k ≡ None → Changes b b' (h ++ f k v) (h' ++ g k v) →
-      Stands b (h ++ (section f m ++ rest)) → Stands b' (h' ++ (section g m ++ rest))
+      BlocksAre b (h ++ (section f m ++ rest)) → BlocksAre b' (h' ++ (section g m ++ rest))
   retied {b} {b'} m v h h' rest is gone c s =
       let p = section-gone f m k v is in
       let q = section-gone g m k v is in
       let left : p.before ++ p.behind ≡ q.before ++ q.behind = sym p.is ∙ section_same (finite.remove m k) gone ∙ q.is in
-      subst (λ (es : Entries). Stands b' (h' ++ (es ++ rest))) (sym q.was)
+      subst (λ (es : Entries). BlocksAre b' (h' ++ (es ++ rest))) (sym q.was)
       (back h' q.before (g k v) q.behind rest
-      (subst (λ (es : Entries). Stands b' ((h' ++ g k v) ++ (es ++ rest))) left
+      (subst (λ (es : Entries). BlocksAre b' ((h' ++ g k v) ++ (es ++ rest))) left
       (c.kept ((p.before ++ p.behind) ++ rest)
-      (forth h p.before (f k v) p.behind rest (subst (λ (es : Entries). Stands b (h ++ (es ++ rest))) p.was s)))))
+      (forth h p.before (f k v) p.behind rest (subst (λ (es : Entries). BlocksAre b (h ++ (es ++ rest))) p.was s)))))

@@ -2,7 +2,7 @@
 use Rattle.std.proofs.Common.{◌≡◌, ℕ, ◌<◌, ◌^◌, List, [], Option, Some, None, refl, ap, ◌∙◌, arith, subst}
 use Rattle.std.specs.Prelude.{IfSome}
 use Rattle.std.proofs.lemmas.Bool.{eq-eqb}
-use Rattle.sdr_answers.specs.Answering.{IsServed}
+use Rattle.sdr_answers.specs.Answering.{IsReady}
 use Rattle.sdr_answers.proofs.EntryLemmas.{source_there}
 use Rattle.sdr_answers.proofs.KindLemmas.{own_in_use, thing_is_at}
 use Rattle.sdr_answers.proofs.ListLemmas.{IsSmall}
@@ -21,7 +21,7 @@ use Rattle.sdr_model.specs.Fields.{FitsSubject, FitsThing, IsWord}
 use Rattle.sdr_model.specs.Things.{own_block}
 use Rattle.sdr_model.specs.Valid.{HasBytes, HasSubject, IsValid}
 use Rattle.sdr_model.specs.World.{World, as_raw, thing_at}
-use Rattle.sdr_model.specs.Zco.{as_source, count_of, source_at, source_on}
+use Rattle.sdr_model.specs.Zco.{as_source, count_of, source_at, source_naming}
 use Rattle.sdr_model.specs.declared.things.Thing.{Thing}
 use Rattle.sdr_model.specs.declared.things.Thing.TheVariants as things
 use Rattle.sdr_model.specs.declared.zco.Subject.{Subject}
@@ -49,7 +49,7 @@ subject_word s (subjects.Heap raw) fits = fits
 subject_word s (subjects.Obj raw) fits = fits
 
 -- the source's block stands at its address
-pub source_stands : (heap : Heap) (w : World) (addr : ℕ) (s : ZcoSource) → HeapStandsFor heap w → IsServed w → IsSmall heap →
+pub source_stands : (heap : Heap) (w : World) (addr : ℕ) (s : ZcoSource) → HeapStandsFor heap w → IsReady w → IsSmall heap →
     thing_at w addr ≡ Some (things.Source s) → KeepsSource (heap.blocks addr) (counted_in w addr s)
 source_stands heap w addr s stands served small there =
     let a = apart addr (things.Source s) stands there in
@@ -71,7 +71,7 @@ own_source addr (things.Source s) is = (s, refl)
 own_source addr thing is = absurd cc
 
 -- a block in use of the kind of sources is a source's
-pub source_is_at : (heap : Heap) (w : World) (addr : ℕ) → HeapStandsFor heap w → IsServed w → IsSmall heap →
+pub source_is_at : (heap : Heap) (w : World) (addr : ℕ) → HeapStandsFor heap w → IsReady w → IsSmall heap →
     IsKind (heap.blocks addr) kinds.Source → IsSourceAt heap w addr
 source_is_at heap w addr s served small kind =
     let t = thing_is_at heap w addr kinds.Source s served.whole.valid refl kind in
@@ -109,7 +109,7 @@ raw_there heap w raw bytes stands None is has = absurd has
 raw_there heap w raw bytes stands (Some thing) is has = absurd has
 
 -- a source is kept together with its raw object
-pub source_tied : (heap : Heap) (w : World) (addr : ℕ) (s : ZcoSource) → HeapStandsFor heap w → IsServed w → IsSmall heap →
+pub source_tied : (heap : Heap) (w : World) (addr : ℕ) (s : ZcoSource) → HeapStandsFor heap w → IsReady w → IsSmall heap →
     thing_at w addr ≡ Some (things.Source s) → HasRawAt heap w addr s
 source_tied heap w addr s stands served small there =
     by s.subject there
@@ -152,7 +152,7 @@ source_tied heap w addr s stands served small there =
         }
 
 -- the counts of a source that is there can be added
-pub source_few : (heap : Heap) (w : World) (addr : ℕ) (s : ZcoSource) → HeapStandsFor heap w → IsServed w → IsSmall heap →
+pub source_few : (heap : Heap) (w : World) (addr : ℕ) (s : ZcoSource) → HeapStandsFor heap w → IsReady w → IsSmall heap →
     thing_at w addr ≡ Some (things.Source s) → SomeFew (heap.blocks addr)
 source_few heap w addr s stands served small there = record {
   source = counted_in w addr s;
@@ -165,22 +165,22 @@ source_few heap w addr s stands served small there = record {
 pub record IsNamedAt (heap : Heap) (w : World) (raw : ℕ) : Type 0 where
   pub bytes : List ℕ
   pub there : thing_at w raw ≡ Some (things.Raw bytes)
-  pub keeps : KeepsRaw (heap.blocks raw) (or_null (source_on w raw)) bytes
+  pub keeps : KeepsRaw (heap.blocks raw) (or_null (source_naming w raw)) bytes
 
 -- an address that the world has fits a word
-address_word : (w : World) (addr : ℕ) (thing : Thing) → IsServed w → thing_at w addr ≡ Some thing → IsWord addr
+address_word : (w : World) (addr : ℕ) (thing : Thing) → IsReady w → thing_at w addr ≡ Some thing → IsWord addr
 address_word w addr thing served there =
     (subst (λ (o : Option Thing). IfSome o (λ thing. IsWord addr × FitsThing thing)) there (served.fits.things addr)).0
 
-named_word : (w : World) (raw : ℕ) → IsServed w → or_null (source_on w raw) < 2 ^ 64
-named_word w raw served = by (source_on w raw) refl
+named_word : (w : World) (raw : ℕ) → IsReady w → or_null (source_naming w raw) < 2 ^ 64
+named_word w raw served = by (source_naming w raw) refl
   where
-    by : (o : Option ℕ) → source_on w raw ≡ o → or_null o < 2 ^ 64
+    by : (o : Option ℕ) → source_naming w raw ≡ o → or_null o < 2 ^ 64
     by None is = omega arith
     by (Some a) is = let n = source_there w raw a is in address_word w a (things.Source n.source) served n.there
 
 -- a block in use of the kind of raw objects is a raw object's
-pub named_is_at : (heap : Heap) (w : World) (raw : ℕ) → HeapStandsFor heap w → IsServed w → IsKind (heap.blocks raw) kinds.Raw →
+pub named_is_at : (heap : Heap) (w : World) (raw : ℕ) → HeapStandsFor heap w → IsReady w → IsKind (heap.blocks raw) kinds.Raw →
     IsNamedAt heap w raw
 named_is_at heap w raw s served kind =
     let r = raw_is_at heap w raw s served.whole.valid kind in

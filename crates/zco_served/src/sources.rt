@@ -1,8 +1,8 @@
 // The calls on sources, as steps of the machine.
 ghost use Rattle.std.specs.Prelude.{[], length, true, ◌+◌, ◌/◌, ◌≡◌, ◌≤◌};
-ghost use Rattle.sdr_answers.specs.Answering.{Comes};
+ghost use Rattle.sdr_answers.specs.Answering.{ComesInEach};
 ghost use Rattle.sdr_base.specs.Moves.{KeepsSome};
-ghost use Rattle.sdr_base.specs.Works.{Works};
+ghost use Rattle.sdr_base.specs.Works.{Spends};
 ghost use Rattle.sdr_model.specs.Fields.{AreBytes, FitsCall, IsWord};
 ghost use Rattle.sdr_model.specs.declared.call.Call.TheVariants as calls;
 ghost use Rattle.zco_ref.specs.Kept.{IsFew, IsRaw, IsTied};
@@ -17,9 +17,9 @@ fn file_ref<O: Objects>(o: &mut O, path: &[u8], bytes: u64, page: &mut Page) -> 
     requires kept { KeepsSome (O.keeps o.old) }
     requires spare { 1 ≤ (O.heap o.old).spare }
     requires unmoved { (O.heap o.old).moves ≡ [] }
-    ensures comes { Comes (calls.FileRef path.now bytes)
+    ensures comes { ComesInEach (calls.FileRef path.now bytes)
         (O.heap o.old) (O.heap o.new) page.old page.new result }
-    ensures works { Works O.HasHeap (26 + (48 + length path.now) / 32) o.old o.new result }
+    ensures works { Spends O.HasHeap (26 + (48 + length path.now) / 32) o.old o.new result }
     ensures bytes { AreBytes path.now }
 {
     let addr = zco_ref::file_ref(o, path, bytes)?;
@@ -32,9 +32,9 @@ fn bulk_ref<O: Objects>(o: &mut O, item: u64, bytes: u64, page: &mut Page) -> Re
     requires kept { KeepsSome (O.keeps o.old) }
     requires spare { 1 ≤ (O.heap o.old).spare }
     requires unmoved { (O.heap o.old).moves ≡ [] }
-    ensures comes { Comes (calls.BulkRef item bytes)
+    ensures comes { ComesInEach (calls.BulkRef item bytes)
         (O.heap o.old) (O.heap o.new) page.old page.new result }
-    ensures works { Works O.HasHeap 29 o.old o.new result }
+    ensures works { Spends O.HasHeap 29 o.old o.new result }
     ensures word { IsWord item }
 {
     let addr = zco_ref::bulk_ref(o, item, bytes)?;
@@ -48,9 +48,9 @@ fn obj_ref<O: Objects>(o: &mut O, raw: Addr, page: &mut Page) -> Result<Reply, S
     requires spare { 1 ≤ (O.heap o.old).spare }
     requires raw { IsRaw (O.heap o.old).blocks raw }
     requires unmoved { (O.heap o.old).moves ≡ [] }
-    ensures comes { Comes (calls.ObjRef raw)
+    ensures comes { ComesInEach (calls.ObjRef raw)
         (O.heap o.old) (O.heap o.new) page.old page.new result }
-    ensures works { Works O.HasHeap 31 o.old o.new result }
+    ensures works { Spends O.HasHeap 31 o.old o.new result }
 {
     let addr = zco_ref::obj_ref(o, raw)?;
     page.clear();
@@ -63,9 +63,9 @@ fn destroy_ref<O: Objects>(o: &mut O, source: Addr, page: &mut Page) -> Result<R
     requires spare { 1 ≤ (O.heap o.old).spare }
     requires source { IsTied (O.heap o.old).blocks source }
     requires unmoved { (O.heap o.old).moves ≡ [] }
-    ensures comes { Comes (calls.DestroyRef source)
+    ensures comes { ComesInEach (calls.DestroyRef source)
         (O.heap o.old) (O.heap o.new) page.old page.new result }
-    ensures works { Works O.HasHeap 28 o.old o.new result }
+    ensures works { Spends O.HasHeap 28 o.old o.new result }
 {
     zco_ref::destroy_ref(o, source)?;
     page.clear();
@@ -77,9 +77,9 @@ fn count<O: Objects>(o: &mut O, source: Addr, page: &mut Page) -> Result<Reply, 
     requires kept { KeepsSome (O.keeps o.old) }
     requires source { IsFew ((O.heap o.old).blocks source) }
     requires unmoved { (O.heap o.old).moves ≡ [] }
-    ensures comes { Comes (calls.Count source)
+    ensures comes { ComesInEach (calls.Count source)
         (O.heap o.old) (O.heap o.new) page.old page.new result }
-    ensures works { Works O.HasHeap 0 o.old o.new result }
+    ensures works { Spends O.HasHeap 0 o.old o.new result }
 {
     let value = zco_ref::count(o, source)?;
     page.clear();
@@ -107,8 +107,8 @@ pub fn answer<O: Objects>(o: &mut O, call: &Call, page: &mut Page) -> Result<Rep
     requires good { IsGood (O.heap o.old) }
     requires unmoved { (O.heap o.old).moves ≡ [] }
     requires one { is_source_call call.now ≡ true }
-    ensures comes { Comes call.now (O.heap o.old) (O.heap o.new) page.old page.new result }
-    ensures works { Works O.HasHeap (call_lines call.now) o.old o.new result }
+    ensures comes { ComesInEach call.now (O.heap o.old) (O.heap o.new) page.old page.new result }
+    ensures works { Spends O.HasHeap (call_lines call.now) o.old o.new result }
     ensures fits { FitsCall call.now }
 {
     match call {

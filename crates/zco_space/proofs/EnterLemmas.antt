@@ -3,7 +3,7 @@ use Rattle.std.proofs.Common.{◌≡◌, ◌+◌, ◌≢◌, ◌<◌, ◌^◌, �
 use Rattle.std.specs.Prelude.{All}
 use Rattle.std.proofs.lemmas.List.Elements.{All-cons, All-head, All-tail}
 use Rattle.sdr_base.specs.Blocks.{Blocks, Reaches}
-use Rattle.sdr_base.specs.Entries.{Entries, Stands}
+use Rattle.sdr_base.specs.Entries.{Entries, BlocksAre}
 use Rattle.sdr_base.specs.Linked.{first_of, last_of, linked}
 use Rattle.sdr_base.specs.Making.{Made, besides, with_moves}
 use Rattle.sdr_base.specs.Objects.{Heap, with_root}
@@ -22,7 +22,7 @@ use Rattle.zco_acct.specs.Words.{first_word, last_word}
 use Rattle.zco_acct.proofs.GrantLemmas.{queue-around}
 use Rattle.zco_acct.proofs.QueueLemmas.{here, none_at_zero}
 use Rattle.zco_acct.proofs.TicketLemmas.{words}
-use Rattle.zco_space.specs.Links.{Chain, LinksLast, LinksNext, with_ends}
+use Rattle.zco_space.specs.Links.{QueueChain, LinksLast, LinksNext, with_ends}
 use Rattle.zco_space.specs.Places.{EntersQueue, FindsPlace, IsNew, IsPlace, TakesTicket, at_addr}
 use Rattle.zco_space.specs.declared.requesting.Place.{Place}
 use Rattle.zco_space.proofs.LinkLemmas.{any_previous, last_reaches}
@@ -77,21 +77,22 @@ module _ {acct : Acct} {new : Ticket} {place : Place} {addr : ℕ} {old mid : He
     (t : TakesTicket acct new place.next old mid addr) where
   -- the queue is opened at its place
   pub opened : {tickets : List Ticket} → KeepsQueue old acct tickets → (p : IsPlace new tickets place) → (rest : Entries) →
-      Stands old.blocks (queue_entries acct tickets ++ rest) →
-      Chain mid acct p.before (first_of block_of 0 p.behind) (from_it acct new place.next addr p.before p.behind rest)
+      BlocksAre old.blocks (queue_entries acct tickets ++ rest) →
+      QueueChain mid acct p.before (first_of block_of 0 p.behind)
+          (from_it acct new place.next addr p.before p.behind rest)
   opened {tickets} k p rest s =
       let xs = p.before in
       let ys = p.behind in
       let A = linked block_of (queued_block acct) 0 (first_of block_of 0 ys) xs in
       let B = linked block_of (queued_block acct) (last_of block_of 0 xs) 0 ys in
-      let cut : Stands old.blocks (A ++ (B ++ rest)) =
-      subst (λ (es : Entries). Stands old.blocks es)
+      let cut : BlocksAre old.blocks (A ++ (B ++ rest)) =
+      subst (λ (es : Entries). BlocksAre old.blocks es)
       (ap (λ (l : List Ticket). queue_entries acct l ++ rest) p.whole
       ∙ ap (λ (es : Entries). es ++ rest) (linked-append block_of (queued_block acct) 0 0 xs ys)
       ∙ append_assoc A B rest) s in
       record {
         stands =
-            subst (λ (b : Blocks). Stands b (A ++ ((addr, queued_block acct 0 place.next (at_addr new addr)) ∷ (B ++ rest))))
+            subst (λ (b : Blocks). BlocksAre b (A ++ ((addr, queued_block acct 0 place.next (at_addr new addr)) ∷ (B ++ rest))))
             (sym (ap (λ (h : Heap). h.blocks) t.takes.taken))
             (came old.blocks addr (queued_block acct 0 place.next (at_addr new addr)) A (B ++ rest) t.takes.nonzero t.takes.fresh cut);
         first = ap (λ (h : Heap). h.roots (first_word acct)) t.takes.taken ∙ k.first ∙ ap (first_of block_of 0) p.whole
@@ -107,7 +108,7 @@ module _ {acct : Acct} {new : Ticket} {place : Place} {addr : ℕ} {old mid : He
 
   module _ {lk now : Heap} (l : LinksNext acct place.previous addr mid lk) (e : LinksLast acct place.next addr lk now) where
     chain : {tickets : List Ticket} → KeepsQueue old acct tickets → (p : IsPlace new tickets place) → (rest : Entries) →
-        Stands old.blocks (queue_entries acct tickets ++ rest) → Chain lk acct p.before addr (from_it acct new place.next addr p.before p.behind rest)
+        BlocksAre old.blocks (queue_entries acct tickets ++ rest) → QueueChain lk acct p.before addr (from_it acct new place.next addr p.before p.behind rest)
     chain k p rest s =
         l.links p.before (first_of block_of 0 p.behind) (from_it acct new place.next addr p.before p.behind rest) p.at_previous (opened k p rest s)
 
@@ -171,12 +172,12 @@ module _ {acct : Acct} {new : Ticket} {place : Place} {addr : ℕ} {old mid : He
 
     -- the blocks
     stands_of : {tickets : List Ticket} → KeepsQueue old acct tickets → (p : IsPlace new tickets place) → (rest : Entries) →
-        Stands old.blocks (queue_entries acct tickets ++ rest) →
-        Stands now.blocks (queue_entries acct (p.before ++ (at_addr new addr ∷ p.behind)) ++ rest)
+        BlocksAre old.blocks (queue_entries acct tickets ++ rest) →
+        BlocksAre now.blocks (queue_entries acct (p.before ++ (at_addr new addr ∷ p.behind)) ++ rest)
     stands_of k p rest s =
-        subst (λ (b : Blocks). Stands b (queue_entries acct (p.before ++ (at_addr new addr ∷ p.behind)) ++ rest))
+        subst (λ (b : Blocks). BlocksAre b (queue_entries acct (p.before ++ (at_addr new addr ∷ p.behind)) ++ rest))
         (sym same_blocks)
-        (subst (λ (es : Entries). Stands lk.blocks es) (joined p rest) (chain k p rest s).stands)
+        (subst (λ (es : Entries). BlocksAre lk.blocks es) (joined p rest) (chain k p rest s).stands)
 
     -- the whole call
     pub enters : IsNew new → FindsPlace acct new old place → EntersQueue acct new old now addr
@@ -188,7 +189,7 @@ module _ {acct : Acct} {new : Ticket} {place : Place} {addr : ℕ} {old mid : He
         changes = record {
           kept = λ rest s.
               let p = f.finds tickets k in
-              subst (λ (q : List Ticket). Stands now.blocks (queue_entries acct q ++ rest)) (sym (p.enters addr))
+              subst (λ (q : List Ticket). BlocksAre now.blocks (queue_entries acct q ++ rest)) (sym (p.enters addr))
               (stands_of k p rest s);
         };
       };

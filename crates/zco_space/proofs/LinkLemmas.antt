@@ -2,7 +2,7 @@
 use Rattle.std.proofs.Common.{◌≡◌, ◌≢◌, ℕ, zero, suc, List, [], ◌∷◌, Some, refl, sym, ap, ◌∙◌, arith, subst}
 use Rattle.byteorder.specs.Endian.{big_bytes}
 use Rattle.sdr_base.specs.Blocks.{Blocks, Reaches, with_at}
-use Rattle.sdr_base.specs.Entries.{Entries, Stands}
+use Rattle.sdr_base.specs.Entries.{Entries, BlocksAre}
 use Rattle.sdr_base.specs.Linked.{last_of, linked}
 use Rattle.sdr_base.specs.Making.{besides}
 use Rattle.sdr_base.specs.Objects.{Heap, with_root}
@@ -17,23 +17,23 @@ use Rattle.sdr_model.specs.declared.accounts.Ticket.{Ticket}
 use Rattle.zco_acct.specs.Kept.{block_of, queued_block}
 use Rattle.zco_acct.specs.Words.{first_word, last_word}
 use Rattle.zco_acct.proofs.TicketLemmas.{words}
-use Rattle.zco_space.specs.Links.{Chain, LinksLast, LinksNext, last_if}
+use Rattle.zco_space.specs.Links.{QueueChain, LinksLast, LinksNext, last_if}
 use Rattle.zco_space.proofs.RootLemmas.{at-here, at-same}
 
 first_linked : {old new : Heap} {acct : Acct} {prev next : ℕ} → prev ≡ 0 → new ≡ with_root old (first_word acct) next →
-    (tickets : List Ticket) (was : ℕ) (rest : Entries) → prev ≡ last_of block_of 0 tickets → Chain old acct tickets was rest →
-    Chain new acct tickets next rest
+    (tickets : List Ticket) (was : ℕ) (rest : Entries) → prev ≡ last_of block_of 0 tickets → QueueChain old acct tickets was rest →
+    QueueChain new acct tickets next rest
 unfolding linked
 first_linked {old} {new} {acct} {prev} {next} z w [] was rest e c = record {
-  stands = subst (λ (b : Blocks). Stands b rest) (sym (heap_blocks w)) c.stands;
+  stands = subst (λ (b : Blocks). BlocksAre b rest) (sym (heap_blocks w)) c.stands;
   first = ap (λ (h : Heap). h.roots (first_word acct)) w ∙ at-here old.roots (first_word acct) next;
 }
 first_linked {old} {new} {acct} z w (x ∷ xs) was rest e c =
     absurd (last_nonzero block_of (queued_block acct) old.blocks [] rest 0 was x xs c.stands (sym e ∙ z))
 
 next_linked : {old new : Heap} {acct : Acct} {prev next : ℕ} → prev ≢ 0 → new ≡ with_word old prev 11 next →
-    (tickets : List Ticket) (was : ℕ) (rest : Entries) → prev ≡ last_of block_of 0 tickets → Chain old acct tickets was rest →
-    Chain new acct tickets next rest
+    (tickets : List Ticket) (was : ℕ) (rest : Entries) → prev ≡ last_of block_of 0 tickets → QueueChain old acct tickets was rest →
+    QueueChain new acct tickets next rest
 next_linked n w [] was rest e c = absurd (n e)
 next_linked {old} {new} {acct} {prev} {next} n w (x ∷ xs) was rest e c = record {
   stands =
@@ -78,7 +78,7 @@ links_on (suc next) prev n w = record { links = w }
 
 -- the last ticket of some first ones is there
 pub last_reaches : {heap : Heap} {acct : Acct} {prev was : ℕ} {rest : Entries} (tickets : List Ticket) →
-    Chain heap acct tickets was rest → prev ≡ last_of block_of 0 tickets → prev ≢ 0 → Reaches (heap.blocks prev) 96
+    QueueChain heap acct tickets was rest → prev ≡ last_of block_of 0 tickets → prev ≢ 0 → Reaches (heap.blocks prev) 96
 last_reaches [] c e n = absurd (n e)
 last_reaches {heap} {acct} {prev} {was} {rest} (x ∷ xs) c e n =
     subst (λ p. Reaches (heap.blocks p) 96) (sym e)

@@ -3,7 +3,7 @@ use Rattle.std.proofs.Common.{◌≡◌, ◌≢◌, ℕ, ◌-◌, Bool, true, fa
 use Rattle.std.specs.Prelude.{All, find}
 use Rattle.std.proofs.lemmas.List.Elements.{All-cons, All-head, All-tail}
 use Rattle.sdr_base.specs.Blocks.{Blocks, Reaches, with_block}
-use Rattle.sdr_base.specs.Entries.{Entries, Stands}
+use Rattle.sdr_base.specs.Entries.{Entries, BlocksAre}
 use Rattle.sdr_base.specs.Linked.{first_of, last_of, linked}
 use Rattle.sdr_base.specs.Making.{besides, with_moves}
 use Rattle.sdr_base.specs.Objects.{Heap, with_given, with_root}
@@ -22,7 +22,7 @@ use Rattle.zco_acct.specs.declared.queue.Found.{Found}
 use Rattle.zco_acct.proofs.GrantLemmas.{queue-around}
 use Rattle.zco_acct.proofs.QueueLemmas.{here, none_at_zero}
 use Rattle.zco_acct.proofs.TicketLemmas.{words}
-use Rattle.zco_space.specs.Links.{Chain, LinksLast, LinksNext, with_ends}
+use Rattle.zco_space.specs.Links.{QueueChain, LinksLast, LinksNext, with_ends}
 use Rattle.zco_space.specs.Shreds.{SomeFirst, TakesOut, without_number}
 use Rattle.zco_space.proofs.LinkLemmas.{any_previous, last_reaches}
 use Rattle.zco_space.proofs.RootLemmas.{ends_set, first_of_ends, last_blocks, last_of_ends}
@@ -64,15 +64,15 @@ from_it acct xs t ys rest =
 -- the queue is opened at it
 pub opened : {heap : Heap} {acct : Acct} {test : Ticket → Bool} {tickets : List Ticket} {found : Found} →
     KeepsQueue heap acct tickets → (f : IsFirst test tickets found) → (rest : Entries) →
-    Stands heap.blocks (queue_entries acct tickets ++ rest) →
-    Chain heap acct f.before found.ticket.block (from_it acct f.before found.ticket f.behind rest)
+    BlocksAre heap.blocks (queue_entries acct tickets ++ rest) →
+    QueueChain heap acct f.before found.ticket.block (from_it acct f.before found.ticket f.behind rest)
 opened {heap} {acct} {test} {tickets} {found} k f rest s =
     let xs = f.before in
     let t = found.ticket in
     let ys = f.behind in
     record {
       stands =
-          subst (λ (es : Entries). Stands heap.blocks es)
+          subst (λ (es : Entries). BlocksAre heap.blocks es)
           (ap (λ (l : List Ticket). queue_entries acct l ++ rest) f.whole
           ∙ queue-around acct xs t ys rest
           ∙ ap (λ (es : Entries). linked block_of (queued_block acct) 0 t.block xs
@@ -85,8 +85,9 @@ module _ {acct : Acct} (found_one : Found) {old mid last : Heap}
     (l : LinksNext acct found_one.previous found_one.next old mid)
     (e : LinksLast acct found_one.next found_one.previous mid last) where
   linked_past : {test : Ticket → Bool} {tickets : List Ticket} → KeepsQueue old acct tickets →
-      (f : IsFirst test tickets found_one) → (rest : Entries) → Stands old.blocks (queue_entries acct tickets ++ rest) →
-      Chain mid acct f.before found_one.next (from_it acct f.before found_one.ticket f.behind rest)
+      (f : IsFirst test tickets found_one) → (rest : Entries) → BlocksAre old.blocks
+          (queue_entries acct tickets ++ rest) →
+      QueueChain mid acct f.before found_one.next (from_it acct f.before found_one.ticket f.behind rest)
   linked_past k f rest s =
       l.links f.before found_one.ticket.block (from_it acct f.before found_one.ticket f.behind rest) f.at_previous
       (opened k f rest s)
@@ -154,8 +155,8 @@ module _ {acct : Acct} (found_one : Found) {old mid last : Heap}
 
     -- the blocks
     stands_of : {test : Ticket → Bool} {tickets : List Ticket} → KeepsQueue old acct tickets →
-        (f : IsFirst test tickets found_one) → (rest : Entries) → Stands old.blocks (queue_entries acct tickets ++ rest) →
-        Stands new.blocks (queue_entries acct (f.before ++ f.behind) ++ rest)
+        (f : IsFirst test tickets found_one) → (rest : Entries) → BlocksAre old.blocks (queue_entries acct tickets ++ rest) →
+        BlocksAre new.blocks (queue_entries acct (f.before ++ f.behind) ++ rest)
     stands_of k f rest s =
         let t = found_one.ticket in
         let c = linked_past k f rest s in
@@ -163,7 +164,7 @@ module _ {acct : Acct} (found_one : Found) {old mid last : Heap}
         given_blocks t.block last new w ∙ ap (λ (b : Blocks). with_block b t.block None) same_blocks in
         taken_out block_of (queued_block acct) mid.blocks new.blocks [] rest 0 0 f.before
         (queued_block acct 0 (first_of block_of 0 f.behind) t) t.block f.behind gone
-        (subst (λ n. Stands mid.blocks
+        (subst (λ n. BlocksAre mid.blocks
         (linked block_of (queued_block acct) 0 n f.before ++ from_it acct f.before t f.behind rest)) f.at_next c.stands)
 
     -- the whole call

@@ -5,7 +5,7 @@ use Rattle.std.specs.List.{prefix_len}
 use Rattle.std.specs.Option.{option_map, option_map_or, option_or}
 use Rattle.std.proofs.lemmas.Bool.{le-leb, lt-leb}
 use Rattle.sdr_base.specs.Blocks.{Blocks}
-use Rattle.sdr_base.specs.Entries.{Stands}
+use Rattle.sdr_base.specs.Entries.{BlocksAre}
 use Rattle.sdr_base.specs.Making.{besides, with_moves}
 use Rattle.sdr_base.specs.Objects.{Heap, OnlyShort, OnlyUnmoved, with_root}
 use Rattle.sdr_base.specs.declared.account.Acct.{Acct}
@@ -150,7 +150,7 @@ module _ {acct : Acct} (asked : Amounts) (coarse fine : ℕ) {number addr : ℕ}
         let m = e.keeps tickets k in
         subst (KeepsQueue back acct) enters_as (record {
           rest = m.rest;
-          stands = subst (λ (b : Blocks). Stands b
+          stands = subst (λ (b : Blocks). BlocksAre b
               (queue_entries acct (enqueued tickets (at_addr (asking number asked coarse fine) addr)) ++ m.rest))
               (sym (heap_blocks w)) m.stands;
           first = ap (λ (h : Heap). h.roots (first_word acct)) w ∙ first_of_next mid acct (number + 1) ∙ m.first;
@@ -194,10 +194,10 @@ module _ {acct : Acct} (asked : Amounts) (coarse fine : ℕ) {number addr : ℕ}
           fresh = a.fresh;
           changes = record {
             kept = λ rest z.
-                subst (λ (q : List Ticket). Stands new.blocks (queue_entries acct q ++ rest)) (served_back k queue)
+                subst (λ (q : List Ticket). BlocksAre new.blocks (queue_entries acct q ++ rest)) (served_back k queue)
                 ((v.changes queue (kept_back k)).kept rest
-                (subst (λ (q : List Ticket). Stands back.blocks (queue_entries acct q ++ rest)) (enters_as k)
-                (subst (λ (b : Blocks). Stands b
+                (subst (λ (q : List Ticket). BlocksAre back.blocks (queue_entries acct q ++ rest)) (enters_as k)
+                (subst (λ (b : Blocks). BlocksAre b
                 (queue_entries acct (enqueued tickets (at_addr (asking number asked coarse fine) addr)) ++ rest))
                 (sym (heap_blocks w)) (a.changes.kept rest z))));
           };

@@ -2,7 +2,7 @@
 use Rattle.std.proofs.Common.{◌≡◌, ◌≢◌, ◌≤◌, ◌+◌, ◌*◌, ℕ, List, ◌++◌, true, false, sym, ap, ◌∙◌, arith, subst}
 use Rattle.std.specs.Prelude.{IfSome}
 use Rattle.sdr_base.specs.Blocks.{Reaches}
-use Rattle.sdr_base.specs.Entries.{Few, Stands}
+use Rattle.sdr_base.specs.Entries.{Few, BlocksAre}
 use Rattle.sdr_base.specs.Making.{besides}
 use Rattle.sdr_base.specs.Objects.{Heap, OnlyUnmoved}
 use Rattle.sdr_base.specs.declared.account.Acct.{Acct}
@@ -86,7 +86,7 @@ module _ {old now : Heap} {acct : Acct} {taken : Amounts} {cursor count i : ℕ}
   serves ends = record {
     changes = λ tickets k. record {
       kept = λ rest t.
-          subst (λ (l : List Ticket). Stands now.blocks (queue_entries acct l ++ rest)) (sym (ends tickets k).comes)
+          subst (λ (l : List Ticket). BlocksAre now.blocks (queue_entries acct l ++ rest)) (sym (ends tickets k).comes)
           ((s.serving tickets k).stands rest t);
     };
     keeps = λ tickets k.
@@ -97,7 +97,7 @@ module _ {old now : Heap} {acct : Acct} {taken : Amounts} {cursor count i : ℕ}
         record {
           rest = k.rest;
           stands =
-              subst (λ (l : List Ticket). Stands now.blocks (queue_entries acct l ++ k.rest)) (sym (ends tickets k).comes)
+              subst (λ (l : List Ticket). BlocksAre now.blocks (queue_entries acct l ++ k.rest)) (sym (ends tickets k).comes)
               (w.stands k.rest k.stands);
           first = ap (λ (h : Heap). h.roots (first_word acct)) same ∙ first_of_occupied old acct taken ∙ k.first
               ∙ sym (first-served m o tickets);

@@ -1,7 +1,7 @@
 -- A queue is served, ticket by ticket.
 use Rattle.std.proofs.Common.{inl, inr, ◌≡◌, ◌≢◌, ◌≤◌, ◌+◌, ◌*◌, ℕ, List, [], ◌∷◌, ◌++◌, length, true, false, None, Some, refl, sym, ap, ◌∙◌, arith, subst, append_assoc, length-append}
 use Rattle.std.specs.Prelude.{All, ◌⊎◌}
-use Rattle.sdr_base.specs.Entries.{Entries, Few, Stands}
+use Rattle.sdr_base.specs.Entries.{Entries, Few, BlocksAre}
 use Rattle.sdr_base.specs.Linked.{first_of}
 use Rattle.sdr_base.specs.Making.{besides}
 use Rattle.sdr_base.specs.Objects.{Heap}
@@ -31,8 +31,8 @@ pub record Serving (old now : Heap) (acct : Acct) (m taken : Amounts) (cursor co
   pub whole : tickets ≡ passed ++ left
   pub counted_passed : length passed ≡ i
   pub at_cursor : cursor ≡ first_of block_of 0 left
-  pub stands : (rest : Entries) → Stands old.blocks (queue_entries acct tickets ++ rest) →
-      Stands now.blocks (queue_entries acct (done ++ left) ++ rest)
+  pub stands : (rest : Entries) → BlocksAre old.blocks (queue_entries acct tickets ++ rest) →
+      BlocksAre now.blocks (queue_entries acct (done ++ left) ++ rest)
   pub others : besides now ≡ besides (with_occupied old acct taken)
   pub comes : served m (occupied_in old acct) tickets ≡ done ++ served m taken left
   pub sum : sum_served m (occupied_in old acct) tickets ≡ sum_served m taken left
@@ -78,10 +78,11 @@ module _ {old now : Heap} {acct : Acct} {m taken : Amounts} {cursor count i : �
       fits_from w.passed e.ticket e.behind
       (subst (All TicketFits) (w.whole ∙ ap (λ (l : List Ticket). w.passed ++ l) e.is) k.fits)
 
-  stands_now : (e : HasFirst w.left) → (rest : Entries) → Stands old.blocks (queue_entries acct tickets ++ rest) →
-      Stands now.blocks (queue_entries acct (w.done ++ (e.ticket ∷ e.behind)) ++ rest)
+  stands_now : (e : HasFirst w.left) → (rest : Entries) → BlocksAre old.blocks (queue_entries acct tickets ++ rest) →
+      BlocksAre now.blocks (queue_entries acct (w.done ++ (e.ticket ∷ e.behind)) ++ rest)
   stands_now e rest s =
-      subst (λ (l : List Ticket). Stands now.blocks (queue_entries acct (w.done ++ l) ++ rest)) e.is (w.stands rest s)
+      subst (λ (l : List Ticket). BlocksAre now.blocks (queue_entries acct (w.done ++ l) ++ rest)) e.is
+          (w.stands rest s)
 
   pub cursor_is : (e : HasFirst w.left) → cursor ≡ e.ticket.block
   cursor_is e = w.at_cursor ∙ ap (first_of block_of 0) e.is
@@ -109,7 +110,7 @@ module _ {old now : Heap} {acct : Acct} {m taken : Amounts} {cursor count i : �
     counted_passed = let l = length-append w.passed (e.ticket ∷ []) in let c = w.counted_passed in omega (arith, l, c);
     at_cursor = ap (λ (v : Queued). v.next) r;
     stands = λ rest s.
-        subst (λ (l : List Ticket). Stands now.blocks (queue_entries acct l ++ rest))
+        subst (λ (l : List Ticket). BlocksAre now.blocks (queue_entries acct l ++ rest))
         (sym (append_assoc w.done (e.ticket ∷ []) e.behind)) (stands_now e rest s);
     others = w.others;
     comes = w.comes ∙ ap (λ (l : List Ticket). w.done ++ served m taken l) e.is
@@ -134,7 +135,7 @@ module _ {old now : Heap} {acct : Acct} {m taken : Amounts} {cursor count i : �
     counted_passed = let l = length-append w.passed (e.ticket ∷ []) in let c = w.counted_passed in omega (arith, l, c);
     at_cursor = ap (λ (v : Queued). v.next) r;
     stands = λ rest s.
-        subst (λ (l : List Ticket). Stands next.blocks (queue_entries acct l ++ rest))
+        subst (λ (l : List Ticket). BlocksAre next.blocks (queue_entries acct l ++ rest))
         (sym (append_assoc w.done (granted e.ticket ∷ []) e.behind))
         (regranted now.blocks next.blocks acct rest w.done e.ticket e.behind e.ticket.asked (heap_blocks is)
         (stands_now e rest s));

@@ -3,7 +3,7 @@ use Rattle.std.proofs.Common.{◌≡◌, ℕ, List, [], ◌∷◌, ◌++◌, ref
 use Rattle.std.specs.Option.{option_map_or}
 use Rattle.std.specs.Prelude.{Option}
 use Rattle.sdr_base.specs.Blocks.{Blocks}
-use Rattle.sdr_base.specs.Entries.{Stands}
+use Rattle.sdr_base.specs.Entries.{BlocksAre}
 use Rattle.sdr_base.specs.Making.{besides, with_moves}
 use Rattle.sdr_base.specs.Objects.{Heap, OnlyUnmoved}
 use Rattle.sdr_base.specs.declared.account.Acct.{Acct}
@@ -40,7 +40,7 @@ module _ {number : ℕ} {acct : Acct} {found : Found} {old mid back : Heap} (s :
         let amounts = minus (occupied_in mid acct) found.ticket.left in
         subst (KeepsQueue back acct) (sym (without_is number (s.first.searched tickets k))) (record {
           rest = m.rest;
-          stands = subst (λ (b : Blocks). Stands b (queue_entries acct ((s.first.searched tickets k).before
+          stands = subst (λ (b : Blocks). BlocksAre b (queue_entries acct ((s.first.searched tickets k).before
               ++ (s.first.searched tickets k).behind) ++ m.rest)) (sym (heap_blocks w)) m.stands;
           first = ap (λ (h : Heap). h.roots (first_word acct)) w ∙ first_of_occupied mid acct amounts ∙ m.first;
           last = ap (λ (h : Heap). h.roots (last_word acct)) w ∙ last_of_occupied mid acct amounts ∙ m.last;
@@ -79,10 +79,10 @@ module _ {number : ℕ} {acct : Acct} {found : Found} {old mid back : Heap} (s :
     changes = λ tickets k. record {
       kept = λ rest z.
           let f = s.first.searched tickets k in
-          subst (λ (q : List Ticket). Stands new.blocks (queue_entries acct q ++ rest)) (served_back k)
+          subst (λ (q : List Ticket). BlocksAre new.blocks (queue_entries acct q ++ rest)) (served_back k)
           ((v.changes (without_number number tickets) (kept_back k)).kept rest
-          (subst (λ (q : List Ticket). Stands back.blocks (queue_entries acct q ++ rest)) (sym (without_is number f))
-          (subst (λ (b : Blocks). Stands b (queue_entries acct (f.before ++ f.behind) ++ rest)) (sym (heap_blocks w))
+          (subst (λ (q : List Ticket). BlocksAre back.blocks (queue_entries acct q ++ rest)) (sym (without_is number f))
+          (subst (λ (b : Blocks). BlocksAre b (queue_entries acct (f.before ++ f.behind) ++ rest)) (sym (heap_blocks w))
           ((t.changes (has_number number) tickets k f).kept rest z))));
     };
     others = λ tickets k.

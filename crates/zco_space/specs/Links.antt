@@ -1,6 +1,6 @@
 -- The queue of an account while its links are set.
 use Rattle.std.specs.Prelude.{◌≡◌, ℕ, zero, suc, List, ◌++◌}
-use Rattle.sdr_base.specs.Entries.{Entries, Stands}
+use Rattle.sdr_base.specs.Entries.{Entries, BlocksAre}
 use Rattle.sdr_base.specs.Linked.{first_of, last_of, linked}
 use Rattle.sdr_base.specs.Making.{besides}
 use Rattle.sdr_base.specs.Objects.{Heap, with_root}
@@ -10,14 +10,14 @@ use Rattle.zco_acct.specs.Kept.{block_of, queued_block}
 use Rattle.zco_acct.specs.Words.{first_word, last_word}
 
 -- these tickets are the first ones of a queue, and this follows the last of them
-pub record Chain (heap : Heap) (acct : Acct) (tickets : List Ticket) (next : ℕ) (rest : Entries) : Type 0 where
-  pub stands : Stands heap.blocks (linked block_of (queued_block acct) 0 next tickets ++ rest)
+pub record QueueChain (heap : Heap) (acct : Acct) (tickets : List Ticket) (next : ℕ) (rest : Entries) : Type 0 where
+  pub stands : BlocksAre heap.blocks (linked block_of (queued_block acct) 0 next tickets ++ rest)
   pub first : heap.roots (first_word acct) ≡ first_of block_of next tickets
 
 -- wherever `prev` is the last of some first ones, another follows them now
 pub record LinksNext (acct : Acct) (prev next : ℕ) (old new : Heap) : Type 0 where
   pub links : (tickets : List Ticket) (was : ℕ) (rest : Entries) → prev ≡ last_of block_of 0 tickets →
-      Chain old acct tickets was rest → Chain new acct tickets next rest
+      QueueChain old acct tickets was rest → QueueChain new acct tickets next rest
   pub same : besides new ≡ besides (with_root old (first_word acct) (new.roots (first_word acct)))
 
 -- where nothing follows, this is the last one

@@ -2,7 +2,7 @@
 ghost use Rattle.std.specs.Prelude.{◌≡◌, ◌≤◌, ◌+◌, ◌*◌, List, IfErr, IfOk, OnOk};
 ghost use Rattle.sdr_base.specs.Moves.{KeepsSome};
 ghost use Rattle.sdr_base.specs.Objects.{OnlyFault, OnlyShort};
-ghost use Rattle.sdr_base.specs.Works.{Looks, Works};
+ghost use Rattle.sdr_base.specs.Works.{Looks, Spends};
 ghost use Rattle.sdr_base.specs.ZcoObjects.{account_number};
 ghost use Rattle.sdr_model.specs.declared.accounts.Ticket.{Ticket as GhostTicket};
 ghost use Rattle.zco_acct.specs.Kept.{KeepsQueue, SomeQueue};
@@ -35,7 +35,7 @@ pub fn request<O: Objects, F: Notify>(
         (RequestsTicket acct asked.now coarse fine (O.heap o.old) (O.heap o.new)) }
     ensures refused { IfErr result (RequestStops acct asked.now (O.heap o.old) (O.heap o.new)) }
     ensures works { (tickets : List GhostTicket) → KeepsQueue (O.heap o.old) acct tickets →
-        Works O.HasHeap
+        Spends O.HasHeap
         (33 + 32 * requests_granted (O.heap o.old) acct asked.now coarse fine tickets)
         o.old o.new result }
 {
@@ -140,7 +140,7 @@ fn enqueue<O: Objects>(o: &mut O, acct: Acct, new: &Ticket) -> Result<Addr, Stop
     requires new { IsNew new.now }
     ensures entered { IfOk result (EntersQueue acct new.now (O.heap o.old) (O.heap o.new)) }
     ensures refused { IfErr result (OnlyShort 96 (O.heap o.old) (O.heap o.new)) }
-    ensures works { Works O.HasHeap 32 o.old o.new result }
+    ensures works { Spends O.HasHeap 32 o.old o.new result }
 {
     let place = place_for(o, acct, new)?;
     let added = take_ticket(o, acct, new, place.next)?;
@@ -156,7 +156,7 @@ fn take_ticket<O: Objects>(o: &mut O, acct: Acct, new: &Ticket, next: Addr) -> R
     requires new { IsNew new.now }
     ensures taken { IfOk result (TakesTicket acct new.now next (O.heap o.old) (O.heap o.new)) }
     ensures refused { IfErr result (OnlyShort 96 (O.heap o.old) (O.heap o.new)) }
-    ensures works { Works O.HasHeap 29 o.old o.new result }
+    ensures works { Spends O.HasHeap 29 o.old o.new result }
 {
     let asked = &new.asked;
     let number = account_number(acct);

@@ -3,7 +3,7 @@ ghost use Rattle.std.specs.Prelude.{◌≡◌, ◌+◌, ◌*◌, ◌<◌, ◌^�
 ghost use Rattle.sdr_base.specs.Blocks.{UsesRange};
 ghost use Rattle.sdr_base.specs.Moves.{KeepsSome};
 ghost use Rattle.sdr_base.specs.Objects.{OnlyUnmoved};
-ghost use Rattle.sdr_base.specs.Works.{Works};
+ghost use Rattle.sdr_base.specs.Works.{Spends};
 ghost use Rattle.sdr_model.specs.Amounts.{plus};
 ghost use Rattle.sdr_model.specs.declared.accounts.Ticket.{Ticket as GhostTicket};
 ghost use Rattle.zco_acct.specs.Kept.{AmountsFit, KeepsQueue, SomeQueue};
@@ -27,7 +27,7 @@ pub fn serve<O: Objects, F: Notify>(o: &mut O, acct: Acct, notice: &Notice<F>) -
     ensures served { IfOk result (ServesQueue acct (O.heap o.old) (O.heap o.new)) }
     ensures refused { IfErr result (OnlyUnmoved (O.heap o.old) (O.heap o.new)) }
     ensures works { (tickets : List GhostTicket) → KeepsQueue (O.heap o.old) acct tickets →
-        Works O.HasHeap (32 * newly_granted tickets (queue_served (O.heap o.old) acct tickets))
+        Spends O.HasHeap (32 * newly_granted tickets (queue_served (O.heap o.old) acct tickets))
         o.old o.new result }
 {
     let most = maxima(o, acct)?;
@@ -66,7 +66,7 @@ fn grant<O: Objects>(
     ensures granted { IfOk result
         (GrantsTicket acct ticket.now taken.now (O.heap o.old) (O.heap o.new)) }
     ensures refused { IfErr result (OnlyUnmoved (O.heap o.old) (O.heap o.new)) }
-    ensures works { Works O.HasHeap 5 o.old o.new result }
+    ensures works { Spends O.HasHeap 5 o.old o.new result }
 {
     put_grant(o, ticket.block, &ticket.asked)?;
     let after = plus(taken, &ticket.asked);

@@ -2,7 +2,7 @@
 ghost use Rattle.std.specs.Prelude.{◌≡◌, ◌≤◌, ◌+◌, ◌*◌, List, IfErr, OnOk};
 ghost use Rattle.sdr_base.specs.Moves.{KeepsSome};
 ghost use Rattle.sdr_base.specs.Objects.{OnlyUnmoved};
-ghost use Rattle.sdr_base.specs.Works.{Works};
+ghost use Rattle.sdr_base.specs.Works.{Spends};
 ghost use Rattle.sdr_base.specs.declared.account.Acct.TheVariants as accts;
 ghost use Rattle.sdr_model.specs.declared.accounts.Ticket.{Ticket as GhostTicket};
 ghost use Rattle.zco_acct.specs.Kept.{KeepsQueue, SomeQueue};
@@ -26,7 +26,7 @@ pub fn shred<O: Objects, F: Notify>(o: &mut O, ticket: u64, notice: &Notice<F>) 
     ensures works { (inbound outbound : List GhostTicket) →
         KeepsQueue (O.heap o.old) accts.Inbound inbound →
         KeepsQueue (O.heap o.old) accts.Outbound outbound →
-        Works O.HasHeap (30 + 32 * shreds_granted (O.heap o.old) ticket inbound outbound)
+        Spends O.HasHeap (30 + 32 * shreds_granted (O.heap o.old) ticket inbound outbound)
         o.old o.new result }
 {
     let Some(standing) = find_ticket(o, ticket)? else {
@@ -45,7 +45,7 @@ fn take_out<O: Objects>(o: &mut O, acct: Acct, found: &Found) -> Result<(), Stop
     requires first { SomeFirst acct found.now (O.heap o.old) }
     ensures taken { OnOk result (TakesOut acct found.now (O.heap o.old) (O.heap o.new)) }
     ensures refused { IfErr result (OnlyUnmoved (O.heap o.old) (O.heap o.new)) }
-    ensures works { Works O.HasHeap 27 o.old o.new result }
+    ensures works { Spends O.HasHeap 27 o.old o.new result }
 {
     link_next(o, acct, found.previous, found.next)?;
     link_last(o, acct, found.next, found.previous)?;

@@ -8,7 +8,7 @@ use Rattle.sdr_gather.specs.Gathering.{AreGathered, Gathering, GivesPiece}
 use Rattle.sdr_gather.proofs.GatheringLemmas.{gathering-end, gathering-next, gathering-start, gathering-trans}
 use Rattle.sdr_model.specs.Pieces.{cut_pieces, piece_length, piece_part}
 use Rattle.sdr_model.specs.declared.piece.Piece.{Piece}
-use Rattle.zco_wire.specs.Going.{Goes, ahead}
+use Rattle.zco_wire.specs.Going.{GoesOverPieces, ahead}
 use Rattle.zco_wire.specs.declared.cursor.Cursor.{Cursor}
 
 -- no byte is cut
@@ -30,7 +30,7 @@ cut_first p skip room count others many nz =
     (piece_part skip count p ∷ cut_pieces (skip - piece_length p) (room - count) others)) (ne_eqb count 0 nz)
 
 -- nothing is gone over
-pub goes_none : (told : Option Told) (at : Cursor) (into : List ℕ) → at.given ≤ length into → Goes told [] at at into into
+pub goes_none : (told : Option Told) (at : Cursor) (into : List ℕ) → at.given ≤ length into → GoesOverPieces told [] at at into into
 goes_none told at into room = record {
   bytes = [];
   given = omega arith;
@@ -41,7 +41,7 @@ goes_none told at into room = record {
 
 -- where the buffer is full, all others are gone over
 pub goes_full : (told : Option Told) (over : List Piece) (at : Cursor) (into : List ℕ) → at.given ≡ length into →
-    Goes told over at at into into
+    GoesOverPieces told over at at into into
 goes_full told over at into full = record {
   bytes = [];
   given = omega arith;
@@ -56,8 +56,8 @@ goes_full told over at into full = record {
 }
 
 -- some, and then others
-pub goes_trans : {told : Option Told} {ps qs : List Piece} {a b c : Cursor} {x y z : List ℕ} → Goes told ps a b x y → Goes told qs b c y z →
-    length y ≡ length x → Goes told (ps ++ qs) a c x z
+pub goes_trans : {told : Option Told} {ps qs : List Piece} {a b c : Cursor} {x y z : List ℕ} → GoesOverPieces told ps a b x y → GoesOverPieces told qs b c y z →
+    length y ≡ length x → GoesOverPieces told (ps ++ qs) a c x z
 goes_trans {told} {ps} {qs} {a} {b} {c} {x} {y} {z} g h same =
     let e = g.given in let f = h.given in let r = h.room in let l = length-append g.bytes h.bytes in
     record {
@@ -75,7 +75,7 @@ goes_trans {told} {ps} {qs} {a} {b} {c} {x} {y} {z} g h same =
 
 -- all pieces were gone over from the begin of the buffer on
 pub goes_all : {told : Option Told} {ps : List Piece} {at : Cursor} {into into' : List ℕ} (place : ℕ) →
-    Goes told ps (record { skip = place; given = 0 }) at into into' →
+    GoesOverPieces told ps (record { skip = place; given = 0 }) at into into' →
     AreGathered told (cut_pieces place (length into) ps) (take at.given into')
 goes_all {told} {ps} {at} {into} {into'} place g =
     subst (AreGathered told (cut_pieces place (length into) ps)) (sym g.stand)
@@ -118,7 +118,7 @@ module _ (told : Option Told) (p : Piece) (at new : Cursor) (into into' bytes : 
       (record { bytes = bytes; gives = gives refl; added = refl }))
 
   pub goes_one : length bytes ≡ count → take new.given into' ≡ take at.given into ++ bytes →
-      (count ≢ 0 → GivesPiece told (piece_part at.skip count p) bytes) → Goes told (p ∷ []) at new into into'
+      (count ≢ 0 → GivesPiece told (piece_part at.skip count p) bytes) → GoesOverPieces told (p ∷ []) at new into into'
   goes_one long stand gives = record {
     bytes = bytes;
     given = omega (arith, given, long);

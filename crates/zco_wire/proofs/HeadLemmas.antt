@@ -15,7 +15,7 @@ use Rattle.sdr_model.specs.declared.piece.Piece.{Piece}
 use Rattle.sdr_model.specs.declared.piece.Piece.TheVariants as pieces
 use Rattle.sdr_model.specs.declared.zco.Part.{Part}
 use Rattle.zco_obj.specs.Walks.{SeesCapsule}
-use Rattle.zco_obj.specs.declared.extent.Piece.{Piece as Range}
+use Rattle.zco_obj.specs.declared.extent.ExtentPiece.{ExtentPiece as Range}
 use Rattle.zco_obj.specs.declared.seeing.SeenCapsule.{SeenCapsule}
 use Rattle.zco_wire.specs.Going.{GoesOverHead, GoesOverRange, ahead}
 use Rattle.zco_wire.specs.Naming.{SomeNamed}

@@ -12,7 +12,7 @@ use Rattle.sdr_base.proofs.PartsLemmas.{length-part}
 use Rattle.sdr_model.specs.Pieces.{piece_length, piece_part}
 use Rattle.sdr_model.specs.declared.piece.Piece.{Piece}
 use Rattle.sdr_model.specs.declared.piece.Piece.TheVariants as pieces
-use Rattle.zco_obj.specs.declared.extent.Piece.{Piece as Range}
+use Rattle.zco_obj.specs.declared.extent.ExtentPiece.{ExtentPiece as Range}
 use Rattle.zco_wire.specs.Naming.{AreNamed, HasUntil, IsNamed, medium_piece, range_of}
 
 -- bytes within a part of bytes

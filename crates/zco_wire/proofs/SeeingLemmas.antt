@@ -11,7 +11,7 @@ use Rattle.sdr_base.specs.declared.medium.Medium.{Medium}
 use Rattle.sdr_base.proofs.LayoutLemmas.{layout-append, length-layout}
 use Rattle.sdr_base.proofs.WritingLemmas.{word_is}
 use Rattle.zco_obj.specs.Walks.{KeepsCapsule, KeepsExtent, SeesCapsule, SeesExtent, SomeCapsule, SomeExtent}
-use Rattle.zco_obj.specs.declared.extent.Piece.{Piece as Range}
+use Rattle.zco_obj.specs.declared.extent.ExtentPiece.{ExtentPiece as Range}
 use Rattle.zco_obj.specs.declared.seeing.SeenCapsule.{SeenCapsule}
 use Rattle.zco_obj.specs.declared.seeing.SeenExtent.{SeenExtent}
 use Rattle.zco_ref.specs.Kept.{CountedSource, KeepsSource}

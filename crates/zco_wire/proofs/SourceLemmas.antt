@@ -21,7 +21,7 @@ use Rattle.sdr_lock.specs.Ground.{lies_with_media}
 use Rattle.sdr_model.specs.Pieces.{media_bytes, piece_length}
 use Rattle.sdr_model.specs.declared.piece.Piece.{Piece}
 use Rattle.sdr_model.specs.declared.piece.Piece.TheVariants as pieces
-use Rattle.zco_obj.specs.declared.extent.Piece.{Piece as Range}
+use Rattle.zco_obj.specs.declared.extent.ExtentPiece.{ExtentPiece as Range}
 use Rattle.zco_ref.specs.Kept.{IsTiedRaw}
 use Rattle.zco_ref.proofs.KeptLemmas.{subject_is}
 use Rattle.zco_wire.specs.Naming.{HasUntil, IsNamed, medium_piece}

@@ -18,8 +18,8 @@ use Rattle.zco_obj.specs.Walks.{CapsulesAt, ChainAt, ExtentsAt, KeepsCapsule, Ke
 use Rattle.zco_obj.specs.declared.seeing.SeenCapsule.{SeenCapsule}
 use Rattle.zco_obj.proofs.KeptLemmas.{first_capsule, first_extent}
 use Rattle.zco_obj.proofs.WalkLemmas.{fits_left, has_first, none_at_zero, one_found}
-use Rattle.zco_obj.specs.declared.extent.Piece.{Piece as Range}
-use Rattle.zco_wire.specs.Going.{Goes, GoesOverHead, GoesOverHeads, GoesOverNamed, GoesOverRange, WalksHeads, WalksNamed, ahead}
+use Rattle.zco_obj.specs.declared.extent.ExtentPiece.{ExtentPiece as Range}
+use Rattle.zco_wire.specs.Going.{GoesOverPieces, GoesOverHead, GoesOverHeads, GoesOverNamed, GoesOverRange, WalksHeads, WalksNamed, ahead}
 use Rattle.zco_wire.specs.Naming.{AreNamed, IsNamed, NamesAt, SomeNamed, head_pieces}
 use Rattle.zco_wire.specs.Seeing.{SeesLink}
 use Rattle.zco_wire.specs.Stopping.{KeepsTold, StopsAtNamed, StopsAtRange, StopsPieces}
@@ -124,7 +124,7 @@ module _ {blocks : Blocks} {first : ℕ} where
           record {
             walk = walk_on CapsuleFits capsule_addr capsule_block (λ p n x. refl) c v.walk n seen.next (s.next next n.one keeps);
             goes =
-                subst (λ (ps : List Piece). Goes told ps at after into into'') (sym (map-append (λ (x : CapsuleRow). pieces.Known x.text) v.walk.passed (n.one ∷ [])))
+                subst (λ (ps : List Piece). GoesOverPieces told ps at after into into'') (sym (map-append (λ (x : CapsuleRow). pieces.Known x.text) v.walk.passed (n.one ∷ [])))
                 (goes_trans v.goes (g.goes told next n.one keeps) same);
           };
     }
@@ -137,7 +137,7 @@ module _ {blocks : Blocks} {first : ℕ} where
           let v = w.walks told rows c in
           let all : rows ≡ v.walk.passed =
           v.walk.whole ∙ ap (λ (l : List CapsuleRow). v.walk.passed ++ l) (none rows told c) ∙ append-nil v.walk.passed in
-          subst (λ (l : List CapsuleRow). Goes told (head_pieces l) at now into into') (sym all) v.goes;
+          subst (λ (l : List CapsuleRow). GoesOverPieces told (head_pieces l) at now into into') (sym all) v.goes;
     }
 
     pub heads_at_zero : head ≡ 0 → GoesOverHeads blocks first at now into into'
@@ -154,7 +154,7 @@ module _ {blocks : Blocks} {first : ℕ} where
           let v = w.walks told rows c in
           let split : head_pieces rows ≡ head_pieces v.walk.passed ++ head_pieces v.walk.left =
           ap head_pieces v.walk.whole ∙ map-append (λ (x : CapsuleRow). pieces.Known x.text) v.walk.passed v.walk.left in
-          subst (λ (ps : List Piece). Goes told ps at now into into') (sym split)
+          subst (λ (ps : List Piece). GoesOverPieces told ps at now into into') (sym split)
           (goes_trans v.goes (goes_full told (head_pieces v.walk.left) now into' full) same);
     }
 
@@ -263,7 +263,7 @@ module _ {told : Option Told} {blocks : Blocks} {first : ℕ} where
           let left : v.left ≡ [] =
           named_none blocks v.left (subst (λ (l : List ExtentRow). AreNamed blocks l v.left) (none extents named c) v.are) in
           let all : named ≡ v.done = v.whole ∙ ap (λ (l : List Piece). v.done ++ l) left ∙ append-nil v.done in
-          subst (λ (l : List Piece). Goes told l at now into into') (sym all) v.goes;
+          subst (λ (l : List Piece). GoesOverPieces told l at now into into') (sym all) v.goes;
     }
 
     pub named_at_zero : extent ≡ 0 → GoesOverNamed told blocks first at now into into'
@@ -278,7 +278,7 @@ module _ {told : Option Told} {blocks : Blocks} {first : ℕ} where
     named_at_full full same = record {
       goes = λ extents named c.
           let v = w.walks extents named c in
-          subst (λ (ps : List Piece). Goes told ps at now into into') (sym v.whole)
+          subst (λ (ps : List Piece). GoesOverPieces told ps at now into into') (sym v.whole)
           (goes_trans v.goes (goes_full told v.left now into' full) same);
     }
 

@@ -8,7 +8,7 @@ use Rattle.sdr_model.specs.Pieces.{cut_pieces}
 use Rattle.sdr_model.specs.declared.piece.Piece.{Piece}
 use Rattle.sdr_model.specs.declared.piece.Piece.TheVariants as pieces
 use Rattle.zco_obj.specs.Walks.{CapsulesAt, KeepsCapsule, Passed}
-use Rattle.zco_obj.specs.declared.extent.Piece.{Piece as Range}
+use Rattle.zco_obj.specs.declared.extent.ExtentPiece.{ExtentPiece as Range}
 use Rattle.zco_wire.specs.Naming.{AreNamed, IsNamed, NamesAt, head_pieces}
 use Rattle.zco_wire.specs.declared.cursor.Cursor.{Cursor}
 
@@ -18,7 +18,8 @@ ahead at room = cut_pieces at.skip (room - at.given)
 
 -- These pieces were gone over: behind the bytes given before stand those of these pieces, and what is to be given of others behind
 -- them is the rest of what was to be given of all.
-pub record Goes (told : Option Told) (over : List Piece) (old new : Cursor) (into into' : List ℕ) : Type 0 where
+pub record GoesOverPieces (told : Option Told) (over : List Piece) (old new : Cursor) (into into' : List ℕ) : Type 0
+    where
   pub bytes : List ℕ
   pub given : new.given ≡ old.given + length bytes
   pub room : new.given ≤ length into
@@ -28,25 +29,25 @@ pub record Goes (told : Option Told) (over : List Piece) (old new : Cursor) (int
 -- whichever header or trailer stands there, it was gone over
 pub record GoesOverHead (found : Option Block) (old new : Cursor) (into into' : List ℕ) : Type 0 where
   pub goes : (told : Option Told) (next : ℕ) (c : CapsuleRow) → KeepsCapsule found next c
-      → Goes told (pieces.Known c.text ∷ []) old new into into'
+      → GoesOverPieces told (pieces.Known c.text ∷ []) old new into into'
 
 -- whichever chain of headers or trailers stands there, it was gone over
 pub record GoesOverHeads (blocks : Blocks) (first : ℕ) (old new : Cursor) (into into' : List ℕ) : Type 0 where
   pub goes : (told : Option Told) (rows : List CapsuleRow) → CapsulesAt blocks first rows
-      → Goes told (head_pieces rows) old new into into'
+      → GoesOverPieces told (head_pieces rows) old new into into'
 
 -- whichever piece the range of a source is, it was gone over
 pub record GoesOverRange (told : Option Told) (blocks : Blocks) (range : Range) (old new : Cursor) (into into' : List ℕ) : Type 0 where
-  pub goes : (p : Piece) → IsNamed blocks range p → Goes told (p ∷ []) old new into into'
+  pub goes : (p : Piece) → IsNamed blocks range p → GoesOverPieces told (p ∷ []) old new into into'
 
 -- whichever pieces a chain of extents names, they were gone over
 pub record GoesOverNamed (told : Option Told) (blocks : Blocks) (first : ℕ) (old new : Cursor) (into into' : List ℕ) : Type 0 where
-  pub goes : (extents : List ExtentRow) (named : List Piece) → NamesAt blocks first extents named → Goes told named old new into into'
+  pub goes : (extents : List ExtentRow) (named : List Piece) → NamesAt blocks first extents named → GoesOverPieces told named old new into into'
 
 -- Some first headers or trailers of a chain were gone over, so many, and the address is that of the next one.
 pub record WalkedHeads (told : Option Told) (rows : List CapsuleRow) (head i : ℕ) (old new : Cursor) (into into' : List ℕ) : Type 0 where
   pub walk : Passed capsule_addr rows head i
-  pub goes : Goes told (head_pieces walk.passed) old new into into'
+  pub goes : GoesOverPieces told (head_pieces walk.passed) old new into into'
 
 -- so it is of whichever chain stands there
 pub record WalksHeads (blocks : Blocks) (first head i : ℕ) (old new : Cursor) (into into' : List ℕ) : Type 0 where
@@ -61,7 +62,7 @@ pub record WalkedNamed (told : Option Told) (blocks : Blocks) (extents : List Ex
   pub left : List Piece
   pub whole : named ≡ done ++ left
   pub are : AreNamed blocks walk.left left
-  pub goes : Goes told done old new into into'
+  pub goes : GoesOverPieces told done old new into into'
 
 -- so it is of whichever chain stands there
 pub record WalksNamed (told : Option Told) (blocks : Blocks) (first extent i : ℕ) (old new : Cursor) (into into' : List ℕ) : Type 0 where

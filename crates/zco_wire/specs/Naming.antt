@@ -12,7 +12,7 @@ use Rattle.sdr_model.specs.declared.piece.Piece.{Piece}
 use Rattle.sdr_model.specs.declared.piece.Piece.TheVariants as pieces
 use Rattle.zco_obj.specs.Kept.{KeepsObject}
 use Rattle.zco_obj.specs.Walks.{ExtentsAt}
-use Rattle.zco_obj.specs.declared.extent.Piece.{Piece as Range}
+use Rattle.zco_obj.specs.declared.extent.ExtentPiece.{ExtentPiece as Range}
 use Rattle.zco_ref.specs.Kept.{CountedSource, KeepsTied}
 
 -- so many bytes of a source of this medium from a place on, whose raw object has these bytes where it has one

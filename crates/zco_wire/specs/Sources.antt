@@ -8,7 +8,7 @@ use Rattle.sdr_base.specs.declared.stop.Stop.TheVariants as stops
 use Rattle.sdr_gather.specs.Gathering.{GivesPiece}
 use Rattle.sdr_model.specs.Limits.{longest_path}
 use Rattle.sdr_model.specs.declared.piece.Piece.{Piece}
-use Rattle.zco_obj.specs.declared.extent.Piece.{Piece as Range}
+use Rattle.zco_obj.specs.declared.extent.ExtentPiece.{ExtentPiece as Range}
 use Rattle.zco_ref.specs.Kept.{CountedSource, KeepsSource}
 use Rattle.zco_wire.specs.Naming.{IsNamed}
 

@@ -15,7 +15,7 @@ use Rattle.sdr_gather.specs.declared.gathering.Gap.TheVariants as gaps
 use Rattle.sdr_lock.specs.Ground.{lies_with_media}
 use Rattle.sdr_model.specs.Limits.{longest_read}
 use Rattle.sdr_model.specs.declared.piece.Piece.{Piece}
-use Rattle.zco_obj.specs.declared.extent.Piece.{Piece as Range}
+use Rattle.zco_obj.specs.declared.extent.ExtentPiece.{ExtentPiece as Range}
 use Rattle.zco_wire.specs.Going.{ahead}
 use Rattle.zco_wire.specs.Naming.{IsNamed, KeepsWire, NamesAt}
 use Rattle.zco_wire.specs.declared.cursor.Cursor.{Cursor}

@@ -10,14 +10,14 @@ use crate::cursor::{Cursor, behind, window};
 use crate::link::see_link;
 use crate::source::read_range;
 use sdr_base::{Addr, Media, Objects, Stop, check_failed};
-use zco_obj::{Piece, TOO_MANY_PARTS};
+use zco_obj::{ExtentPiece, TOO_MANY_PARTS};
 
 // Gives of the bytes of a range of a source what the cursor asks, and answers the cursor behind it.
 // Media are asked once, for all of that.
 fn read_asked<O: Objects, M: Media>(
     o: &mut O,
     media: &mut M,
-    range: Piece,
+    range: ExtentPiece,
     at: Cursor,
     into: &mut [u8],
 ) -> Result<Cursor, Stop>
@@ -39,7 +39,7 @@ fn read_asked<O: Objects, M: Media>(
         check_failed(o)?;
         return Ok(behind(at, part));
     }
-    let asked = Piece {
+    let asked = ExtentPiece {
         of: range.of,
         offset: range.offset + part.offset,
         bytes: part.length,

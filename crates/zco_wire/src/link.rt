@@ -9,12 +9,12 @@ ghost use Rattle.zco_wire.specs.Seeing.{SeesLink};
 
 use sdr_base::layout::extent as words;
 use sdr_base::{Addr, Objects, Stop, word};
-use zco_obj::{Piece, see_extent};
+use zco_obj::{ExtentPiece, see_extent};
 
 // The range of a source that an extent names, and the address of the next extent, 0 for none.
 #[derive(Clone, Copy)]
 pub struct Link {
-    pub range: Piece,
+    pub range: ExtentPiece,
     pub next: Addr,
 }
 
@@ -30,7 +30,7 @@ pub fn see_link<O: Objects>(o: &mut O, extent: Addr) -> Result<Link, Stop>
     let seen = see_extent(o, extent)?;
     let offset = word(o, extent, words::OFFSET)?;
     Ok(Link {
-        range: Piece {
+        range: ExtentPiece {
             of: seen.source,
             offset,
             bytes: seen.length,

@@ -13,7 +13,7 @@ ghost use Rattle.zco_wire.specs.Stopping.{KeepsTold, StopsRange, past_media};
 
 use sdr_base::layout::{raw, source as words};
 use sdr_base::{Addr, Media, MediaFault, Medium, Objects, Refusal, Stop, word};
-use zco_obj::Piece;
+use zco_obj::ExtentPiece;
 use zco_ref::LONGEST_PATH;
 
 // Where the path of a file begins in its source's block, in bytes.
@@ -86,7 +86,7 @@ fn check_whole(have: u64, want: u64) -> Result<(), Stop>
 fn read_file<O: Objects, M: Media>(
     o: &mut O,
     media: &mut M,
-    range: Piece,
+    range: ExtentPiece,
     into: &mut [u8],
 ) -> Result<(), Stop>
     requires kept { KeepsSome (O.keeps o.old) }
@@ -113,7 +113,7 @@ fn read_file<O: Objects, M: Media>(
 fn read_item<O: Objects, M: Media>(
     o: &mut O,
     media: &mut M,
-    range: Piece,
+    range: ExtentPiece,
     into: &mut [u8],
 ) -> Result<(), Stop>
     requires kept { KeepsSome (O.keeps o.old) }
@@ -136,7 +136,7 @@ fn read_item<O: Objects, M: Media>(
 }
 
 // Reads a range of a raw object into a buffer of its length.
-fn read_raw<O: Objects>(o: &mut O, range: Piece, into: &mut [u8]) -> Result<(), Stop>
+fn read_raw<O: Objects>(o: &mut O, range: ExtentPiece, into: &mut [u8]) -> Result<(), Stop>
     requires kept { KeepsSome (O.keeps o.old) }
     requires named { SomeNamed (O.heap o.old).blocks range }
     requires raw { SeesRaw (O.heap o.old).blocks range.of }
@@ -155,7 +155,7 @@ fn read_raw<O: Objects>(o: &mut O, range: Piece, into: &mut [u8]) -> Result<(), 
 pub fn read_range<O: Objects, M: Media>(
     o: &mut O,
     media: &mut M,
-    range: Piece,
+    range: ExtentPiece,
     into: &mut [u8],
 ) -> Result<(), Stop>
     requires kept { KeepsSome (O.keeps o.old) }

@@ -2,7 +2,7 @@
 ghost use Rattle.std.specs.FinMap as map;
 ghost use Rattle.std.specs.Prelude.{◌≡◌, ◌≤◌, ◌<◌, ◌+◌, ◌^◌, ◌++◌, ◌∷◌, [], ℕ, length, take, Contains, Some, OnErr, OnOk};
 ghost use Rattle.sdr_model.specs.Dry.{addr_after, next_addr, next_addrs};
-ghost use Rattle.sdr_draft.specs.Keeps.{Keeps, StayTouched};
+ghost use Rattle.sdr_draft.specs.Keeps.{SameBegin, StayTouched};
 
 use crate::Undoable;
 use sdr_base::{Addr, Bytes, NoMemory};
@@ -17,7 +17,7 @@ impl Undoable {
             Contains self.new.touched (addr_after self.old.now.taken k)) }
         ensures owners { self.new.owners ≡ self.old.owners }
         ensures others { StayTouched self.old self.new }
-        ensures keeps { Keeps self.old self.new }
+        ensures keeps { SameBegin self.old self.new }
     {
         let first = 8 * (self.taken + 1);
         for k in 0..count {
@@ -35,7 +35,7 @@ impl Undoable {
         ensures others { (other of : ℕ) → other < addr → map.get self.old.owners other ≡ Some of
             → map.get self.new.owners other ≡ Some of }
         ensures touched { StayTouched self.old self.new }
-        ensures keeps { Keeps self.old self.new }
+        ensures keeps { SameBegin self.old self.new }
         ensures same { OnErr result (self.new.now ≡ self.old.now) }
     {
         self.owners.insert(addr, owner)?;
@@ -55,7 +55,7 @@ impl Undoable {
         ensures others { (other of : ℕ) → other < next_addr self.old.now.taken
             → map.get self.old.owners other ≡ Some of → map.get self.new.owners other ≡ Some of }
         ensures touched { StayTouched self.old self.new }
-        ensures keeps { Keeps self.old self.new }
+        ensures keeps { SameBegin self.old self.new }
         ensures some { OnErr result (self.new.now ≡ record self.old.now { marks = self.new.now.marks }) }
         ensures front { take (length self.old.now.marks) self.new.now.marks ≡ self.old.now.marks }
     {
@@ -78,7 +78,7 @@ impl Undoable {
         ensures others { (other of : ℕ) → other < next_addr self.old.now.taken
             → map.get self.old.owners other ≡ Some of → map.get self.new.owners other ≡ Some of }
         ensures touched { StayTouched self.old self.new }
-        ensures keeps { Keeps self.old self.new }
+        ensures keeps { SameBegin self.old self.new }
         ensures same { OnErr result (self.new.now ≡ self.old.now) }
     {
         let marks = self.marks.len();
@@ -97,7 +97,7 @@ impl Undoable {
         ensures counted { self.new.now
             ≡ record self.old.now { shown = []; taken = self.old.now.taken + count } }
         ensures others { StayTouched self.old self.new }
-        ensures keeps { Keeps self.old self.new }
+        ensures keeps { SameBegin self.old self.new }
         ensures owners { self.new.owners ≡ self.old.owners }
     {
         self.shown = Bytes::new(self.alloc);

@@ -2,7 +2,7 @@
 ghost use Rattle.std.specs.Prelude.{◌≡◌, ◌<◌, ◌+◌, IfErr, IfOk, IfSome, OnErr, OnOk, length, remove, true};
 ghost use Rattle.sdr_base.specs.declared.account.Amounts.{Amounts as GhostAmounts};
 ghost use Rattle.sdr_model.specs.Accounts.{IsInPlace, account_of, most_amount, tickets_of, with_account, with_tickets};
-ghost use Rattle.sdr_model.specs.Charging.{with_used};
+ghost use Rattle.sdr_model.specs.Charging.{with_covered};
 ghost use Rattle.sdr_model.specs.Queue.{enqueued, with_served};
 ghost use Rattle.sdr_draft.specs.Allowed.{IsGrantOf, RefusesCharge, refusal_of, with_back};
 ghost use Rattle.sdr_draft.specs.Calling.{IsBound};
@@ -70,7 +70,7 @@ impl Undoable {
     pub fn use_grant(&mut self, granted: Option<Pending>, amounts: &Amounts)
         requires saved { self.old.saved ≡ true }
         requires stands { IfSome granted (IsInPlace self.old.now.accounts) }
-        ensures { self.new ≡ record self.old { now = with_used self.old.now granted amounts.now } }
+        ensures { self.new ≡ record self.old { now = with_covered self.old.now granted amounts.now } }
     {
         if let Some(pending) = granted {
             let left = minus(&pending.ticket.left, amounts);

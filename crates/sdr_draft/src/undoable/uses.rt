@@ -5,7 +5,7 @@ ghost use Rattle.std.specs.Ordering.{nat_cmp};
 ghost use Rattle.std.specs.Prelude.{◌≡◌, ◌==◌, ◌≤◌, ◌<◌, ◌+◌, ◌^◌, ℕ, if◌then◌else◌, length, unwrap_or};
 ghost use Rattle.sdr_draft.specs.Calling.{IsBound};
 ghost use Rattle.sdr_draft.specs.Uses.{extents_in, names_at};
-ghost use Rattle.sdr_model.specs.Zco.{naming, source_on, uses_of};
+ghost use Rattle.sdr_model.specs.Zco.{naming, source_naming, uses_of};
 
 use crate::Undoable;
 use sdr_base::Addr;
@@ -36,7 +36,7 @@ fn names_raw(raw: Addr, thing: Option<&Thing>) -> bool
 impl Undoable {
     /// The source that names the raw object at an address. It goes over all things.
     pub fn source_on(&self, raw: Addr) -> Option<Addr>
-        ensures { result ≡ source_on self.now.now raw }
+        ensures { result ≡ source_naming self.now.now raw }
     {
         for (addr, place) in self.things.places() {
             if names_raw(raw, place.current()) {

@@ -2,7 +2,7 @@ use Rattle.std.proofs.Common.{rules, Err}
 use Rattle.sdr_answers.proofs.CallLemmas.{comes_answered, comes_stopped}
 use Rattle.sdr_answers.proofs.ListLemmas.{IsSmall}
 use Rattle.sdr_answers.proofs.ListReading.{datum_answered, element_missed}
-use Rattle.sdr_answers.specs.Answering.{Comes}
+use Rattle.sdr_answers.specs.Answering.{ComesInEach}
 use Rattle.sdr_base.specs.Objects.{Misses}
 use Rattle.sdr_base.specs.declared.kind.Kind.TheVariants as kinds
 use Rattle.sdr_model.specs.declared.answer.Reply.TheVariants as replies
@@ -16,7 +16,7 @@ returns-in_err-value-clause-comes g c =
     let small : IsSmall old = record
     { few = g.met.O.Objects.few c.args.o.now c.requires.kept; small = g.met.O.Objects.small c.args.o.now c.requires.kept } in
     let page = c.args.page.now in
-    let fact : Comes (calls.Datum c.args.element) old new page page (Err c.in_err-value.field-0.0) =
+    let fact : ComesInEach (calls.Datum c.args.element) old new page page (Err c.in_err-value.field-0.0) =
     comes_stopped (calls.Datum c.args.element) old new page c.in_err-value.field-0.0
     (Misses (old.blocks c.args.element) c.args.element kinds.Element) c.in_err-value.ensures.refused
     (λ w refusal stands served m. element_missed old new w c.requires.unmoved stands served small (calls.Datum c.args.element)

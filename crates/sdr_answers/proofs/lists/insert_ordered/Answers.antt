@@ -2,7 +2,7 @@ use Rattle.std.proofs.Common.{refl, rules, Err}
 use Rattle.sdr_answers.proofs.CallLemmas.{comes_answered, comes_stopped}
 use Rattle.sdr_answers.proofs.ListChanging.{insert_refused_in, ordered_answered}
 use Rattle.sdr_answers.proofs.ListLemmas.{IsSmall}
-use Rattle.sdr_answers.specs.Answering.{Comes}
+use Rattle.sdr_answers.specs.Answering.{ComesInEach}
 use Rattle.sdr_list.specs.Calls.{InsertStops}
 use Rattle.sdr_model.specs.ListSteps.{compare_keys, ordered_place}
 use Rattle.sdr_base.specs.declared.kind.Kind.TheVariants as kinds
@@ -17,7 +17,7 @@ returns-in_err-addr-clause-comes g c =
     let small : IsSmall old = record
     { few = g.met.O.Objects.few c.args.o.now c.requires.kept; small = g.met.O.Objects.small c.args.o.now c.requires.kept } in
     let page = c.args.page.now in
-    let fact : Comes (calls.InsertOrdered c.args.list c.args.datum c.args.keys) old new page page (Err c.in_err-addr.field-0.0)
+    let fact : ComesInEach (calls.InsertOrdered c.args.list c.args.datum c.args.keys) old new page page (Err c.in_err-addr.field-0.0)
     =
     comes_stopped (calls.InsertOrdered c.args.list c.args.datum c.args.keys) old new page c.in_err-addr.field-0.0
     (InsertStops kinds.List c.args.list old new) c.in_err-addr.ensures.refused

@@ -2,7 +2,7 @@ use Rattle.std.proofs.Common.{rules, Err}
 use Rattle.sdr_answers.proofs.CallLemmas.{comes_answered, comes_stopped}
 use Rattle.sdr_answers.proofs.ListChanging.{list_made, list_unmade}
 use Rattle.sdr_answers.proofs.ListLemmas.{IsSmall}
-use Rattle.sdr_answers.specs.Answering.{Comes}
+use Rattle.sdr_answers.specs.Answering.{ComesInEach}
 use Rattle.sdr_base.specs.Objects.{OnlyShort}
 use Rattle.sdr_model.specs.declared.answer.Reply.TheVariants as replies
 use Rattle.sdr_model.specs.declared.call.Call.TheVariants as calls
@@ -15,7 +15,7 @@ returns-in_err-addr-clause-comes g c =
     let small : IsSmall old = record
     { few = g.met.O.Objects.few c.args.o.now c.requires.kept; small = g.met.O.Objects.small c.args.o.now c.requires.kept } in
     let page = c.args.page.now in
-    let fact : Comes (calls.List c.args.user) old new page page (Err c.in_err-addr.field-0.0) =
+    let fact : ComesInEach (calls.List c.args.user) old new page page (Err c.in_err-addr.field-0.0) =
     comes_stopped (calls.List c.args.user) old new page c.in_err-addr.field-0.0 (OnlyShort 32 old new)
     c.in_err-addr.ensures.refused
     (λ w refusal stands served m. list_unmade old new w c.requires.unmoved stands served small c.args.user page refusal m) in

@@ -2,7 +2,7 @@ use Rattle.std.proofs.Common.{arith, rules, Err}
 use Rattle.sdr_answers.proofs.CallLemmas.{comes_answered, comes_stopped}
 use Rattle.sdr_answers.proofs.ListChanging.{destroy_refused, destroyed}
 use Rattle.sdr_answers.proofs.ListLemmas.{IsSmall, room_for_list}
-use Rattle.sdr_answers.specs.Answering.{Comes}
+use Rattle.sdr_answers.specs.Answering.{ComesInEach}
 use Rattle.sdr_list.specs.Destroying.{DestroyStops}
 use Rattle.sdr_model.specs.declared.answer.Reply.TheVariants as replies
 use Rattle.sdr_model.specs.declared.call.Call.TheVariants as calls
@@ -21,7 +21,7 @@ returns-in_err-destroy-clause-comes g c =
     let small : IsSmall old = record
     { few = g.met.O.Objects.few c.args.o.now c.requires.kept; small = g.met.O.Objects.small c.args.o.now c.requires.kept } in
     let page = c.args.page.now in
-    let fact : Comes (calls.ListDestroy c.args.list) old new page page (Err c.in_err-destroy.field-0.0) =
+    let fact : ComesInEach (calls.ListDestroy c.args.list) old new page page (Err c.in_err-destroy.field-0.0) =
     comes_stopped (calls.ListDestroy c.args.list) old new page c.in_err-destroy.field-0.0 (DestroyStops c.args.list old new)
     c.in_err-destroy.ensures.refused
     (λ w refusal stands served m. destroy_refused old new w c.requires.unmoved stands served small c.args.list page refusal m)

@@ -2,7 +2,7 @@ use Rattle.std.proofs.Common.{rules, Err}
 use Rattle.sdr_answers.proofs.CallLemmas.{comes_answered, comes_stopped}
 use Rattle.sdr_answers.proofs.ListChanging.{user_refused, user_set}
 use Rattle.sdr_answers.proofs.ListLemmas.{IsSmall}
-use Rattle.sdr_answers.specs.Answering.{Comes}
+use Rattle.sdr_answers.specs.Answering.{ComesInEach}
 use Rattle.sdr_list.specs.Calls.{ChangeStops}
 use Rattle.sdr_base.specs.declared.kind.Kind.TheVariants as kinds
 use Rattle.sdr_model.specs.declared.answer.Reply.TheVariants as replies
@@ -16,7 +16,7 @@ returns-in_err-set_user_data-clause-comes g c =
     let small : IsSmall old = record
     { few = g.met.O.Objects.few c.args.o.now c.requires.kept; small = g.met.O.Objects.small c.args.o.now c.requires.kept } in
     let page = c.args.page.now in
-    let fact : Comes (calls.SetListUser c.args.list c.args.user) old new page page (Err c.in_err-set_user_data.field-0.0) =
+    let fact : ComesInEach (calls.SetListUser c.args.list c.args.user) old new page page (Err c.in_err-set_user_data.field-0.0) =
     comes_stopped (calls.SetListUser c.args.list c.args.user) old new page c.in_err-set_user_data.field-0.0
     (ChangeStops kinds.List c.args.list old new) c.in_err-set_user_data.ensures.refused
     (λ w refusal stands served m. user_refused old new w c.requires.unmoved stands served small c.args.list c.args.user page

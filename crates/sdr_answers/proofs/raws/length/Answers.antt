@@ -1,7 +1,7 @@
 use Rattle.std.proofs.Common.{rules, Err}
 use Rattle.sdr_answers.proofs.CallLemmas.{comes_answered, comes_stopped}
 use Rattle.sdr_answers.proofs.ReadingLemmas.{length_answered, length_refused}
-use Rattle.sdr_answers.specs.Answering.{Comes}
+use Rattle.sdr_answers.specs.Answering.{ComesInEach}
 use Rattle.sdr_heap.specs.Raw.{IsMissing}
 use Rattle.sdr_model.specs.declared.answer.Reply.TheVariants as replies
 use Rattle.sdr_model.specs.declared.call.Call.TheVariants as calls
@@ -12,7 +12,7 @@ returns-in_err-value-clause-comes g c =
     let old = g.O.HasHeap.heap c.args.o.now in
     let new = g.O.HasHeap.heap c.length.new.o in
     let page = c.args.page.now in
-    let fact : Comes (calls.Length c.args.addr) old new page page (Err c.in_err-value.field-0.0) =
+    let fact : ComesInEach (calls.Length c.args.addr) old new page page (Err c.in_err-value.field-0.0) =
     comes_stopped (calls.Length c.args.addr) old new page c.in_err-value.field-0.0
     (IsMissing (old.blocks c.args.addr) c.args.addr) c.in_err-value.ensures.refused
     (λ w refusal stands served m. length_refused c.args.addr old new w page refusal c.requires.unmoved

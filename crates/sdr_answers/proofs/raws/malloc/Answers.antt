@@ -1,7 +1,7 @@
 use Rattle.std.proofs.Common.{rules, Err}
 use Rattle.sdr_answers.proofs.CallLemmas.{comes_answered, comes_stopped}
 use Rattle.sdr_answers.proofs.MallocLemmas.{malloc_answered, malloc_refused}
-use Rattle.sdr_answers.specs.Answering.{Comes}
+use Rattle.sdr_answers.specs.Answering.{ComesInEach}
 use Rattle.sdr_heap.specs.Raw.{MallocStops}
 use Rattle.sdr_model.specs.declared.answer.Reply.TheVariants as replies
 use Rattle.sdr_model.specs.declared.call.Call.TheVariants as calls
@@ -12,7 +12,7 @@ returns-in_err-addr-clause-comes g c =
     let old = g.O.HasHeap.heap c.args.o.now in
     let new = g.O.HasHeap.heap c.malloc.new.o in
     let page = c.args.page.now in
-    let fact : Comes (calls.Malloc c.args.bytes) old new page page (Err c.in_err-addr.field-0.0) =
+    let fact : ComesInEach (calls.Malloc c.args.bytes) old new page page (Err c.in_err-addr.field-0.0) =
     comes_stopped (calls.Malloc c.args.bytes) old new page c.in_err-addr.field-0.0 (MallocStops c.args.bytes old new)
     c.in_err-addr.ensures.refused
     (λ w refusal stands served m. malloc_refused c.args.bytes old new w page refusal c.requires.unmoved m) in

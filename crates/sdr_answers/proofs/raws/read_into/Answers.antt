@@ -1,7 +1,7 @@
 use Rattle.std.proofs.Common.{rules, subst, Err, ℕ}
 use Rattle.sdr_answers.proofs.CallLemmas.{comes_showing, comes_stopped}
 use Rattle.sdr_answers.proofs.ReadingLemmas.{read_answered, read_refused}
-use Rattle.sdr_answers.specs.Answering.{Comes}
+use Rattle.sdr_answers.specs.Answering.{ComesInEach}
 use Rattle.sdr_heap.specs.Raw.{ReadStops, ReadsRaw}
 use Rattle.sdr_model.specs.declared.answer.Reply.TheVariants as replies
 use Rattle.sdr_model.specs.declared.call.Call.TheVariants as calls
@@ -12,7 +12,7 @@ returns-in_err-read-clause-comes g c =
     let old = g.O.HasHeap.heap c.args.o.now in
     let new = g.O.HasHeap.heap c.read.new.o in
     let page = c.args.page.now in
-    let fact : Comes (calls.Read c.args.addr c.args.place c.args.count) old new page page (Err c.in_err-read.field-0.0) =
+    let fact : ComesInEach (calls.Read c.args.addr c.args.place c.args.count) old new page page (Err c.in_err-read.field-0.0) =
     comes_stopped (calls.Read c.args.addr c.args.place c.args.count) old new page c.in_err-read.field-0.0
     (ReadStops (old.blocks c.args.addr) c.args.addr c.args.place c.args.count)
     (subst (λ (n : ℕ). ReadStops (old.blocks c.args.addr) c.args.addr c.args.place n c.in_err-read.field-0.0) c.requires.count

@@ -1,7 +1,7 @@
 use Rattle.std.proofs.Common.{rules, subst, Err, ℕ}
 use Rattle.sdr_answers.proofs.CallLemmas.{comes_showing, comes_stopped}
 use Rattle.sdr_answers.proofs.ReadingLemmas.{stage_answered, stage_refused}
-use Rattle.sdr_answers.specs.Answering.{Comes}
+use Rattle.sdr_answers.specs.Answering.{ComesInEach}
 use Rattle.sdr_heap.specs.Raw.{ReadStops, ReadsRaw}
 use Rattle.sdr_model.specs.declared.answer.Reply.TheVariants as replies
 use Rattle.sdr_model.specs.declared.call.Call.TheVariants as calls
@@ -12,7 +12,7 @@ returns-in_err-stage-clause-comes g c =
     let old = g.O.HasHeap.heap c.args.o.now in
     let new = g.O.HasHeap.heap c.stage.new.o in
     let page = c.args.page.now in
-    let fact : Comes (calls.Stage c.args.addr c.args.count) old new page page (Err c.in_err-stage.field-0.0) =
+    let fact : ComesInEach (calls.Stage c.args.addr c.args.count) old new page page (Err c.in_err-stage.field-0.0) =
     comes_stopped (calls.Stage c.args.addr c.args.count) old new page c.in_err-stage.field-0.0
     (ReadStops (old.blocks c.args.addr) c.args.addr 0 c.args.count)
     (subst (λ (n : ℕ). ReadStops (old.blocks c.args.addr) c.args.addr 0 n c.in_err-stage.field-0.0) c.requires.count

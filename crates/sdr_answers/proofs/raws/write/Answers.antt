@@ -1,7 +1,7 @@
 use Rattle.std.proofs.Common.{rules, length, Err}
 use Rattle.sdr_answers.proofs.CallLemmas.{comes_answered, comes_stopped}
 use Rattle.sdr_answers.proofs.WriteLemmas.{write_answered, write_refused}
-use Rattle.sdr_answers.specs.Answering.{Comes}
+use Rattle.sdr_answers.specs.Answering.{ComesInEach}
 use Rattle.sdr_heap.specs.Raw.{WriteStops}
 use Rattle.sdr_model.specs.declared.answer.Reply.TheVariants as replies
 use Rattle.sdr_model.specs.declared.call.Call.TheVariants as calls
@@ -12,7 +12,7 @@ returns-in_err-write-clause-comes g c =
     let old = g.O.HasHeap.heap c.args.o.now in
     let new = g.O.HasHeap.heap c.write.new.o in
     let page = c.args.page.now in
-    let fact : Comes (calls.Write c.args.addr c.args.place c.args.from.now) old new page page (Err c.in_err-write.field-0.0) =
+    let fact : ComesInEach (calls.Write c.args.addr c.args.place c.args.from.now) old new page page (Err c.in_err-write.field-0.0) =
     comes_stopped (calls.Write c.args.addr c.args.place c.args.from.now) old new page c.in_err-write.field-0.0
     (WriteStops (old.blocks c.args.addr) c.args.addr c.args.place (length c.args.from.now) old new)
     c.in_err-write.ensures.refused

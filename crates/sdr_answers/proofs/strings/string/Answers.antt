@@ -1,7 +1,7 @@
 use Rattle.std.proofs.Common.{rules, Err}
 use Rattle.sdr_answers.proofs.CallLemmas.{comes_answered, comes_stopped}
 use Rattle.sdr_answers.proofs.StringLemmas.{string_answered, string_refused}
-use Rattle.sdr_answers.specs.Answering.{Comes}
+use Rattle.sdr_answers.specs.Answering.{ComesInEach}
 use Rattle.sdr_string.specs.Calls.{StringStops}
 use Rattle.sdr_model.specs.declared.answer.Reply.TheVariants as replies
 use Rattle.sdr_model.specs.declared.call.Call.TheVariants as calls
@@ -12,7 +12,7 @@ returns-in_err-addr-clause-comes g c =
     let old = g.O.HasHeap.heap c.args.o.now in
     let new = g.O.HasHeap.heap c.create.new.o in
     let page = c.args.page.now in
-    let fact : Comes (calls.String c.args.text.now) old new page page (Err c.in_err-addr.field-0.0) =
+    let fact : ComesInEach (calls.String c.args.text.now) old new page page (Err c.in_err-addr.field-0.0) =
     comes_stopped (calls.String c.args.text.now) old new page c.in_err-addr.field-0.0 (StringStops c.args.text.now old new)
     c.in_err-addr.ensures.refused
     (λ w refusal stands served m. string_refused c.args.text.now old new w page refusal c.requires.unmoved m) in

@@ -1,7 +1,7 @@
 use Rattle.std.proofs.Common.{rules, Err}
 use Rattle.sdr_answers.proofs.CallLemmas.{comes_answered, comes_stopped}
 use Rattle.sdr_answers.proofs.StringLemmas.{string_dup_answered, string_dup_refused}
-use Rattle.sdr_answers.specs.Answering.{Comes}
+use Rattle.sdr_answers.specs.Answering.{ComesInEach}
 use Rattle.sdr_string.specs.Calls.{DupStops}
 use Rattle.sdr_model.specs.declared.answer.Reply.TheVariants as replies
 use Rattle.sdr_model.specs.declared.call.Call.TheVariants as calls
@@ -12,7 +12,7 @@ returns-in_err-copy-clause-comes g c =
     let old = g.O.HasHeap.heap c.args.o.now in
     let new = g.O.HasHeap.heap c.dup.new.o in
     let page = c.args.page.now in
-    let fact : Comes (calls.StringDup c.args.addr) old new page page (Err c.in_err-copy.field-0.0) =
+    let fact : ComesInEach (calls.StringDup c.args.addr) old new page page (Err c.in_err-copy.field-0.0) =
     comes_stopped (calls.StringDup c.args.addr) old new page c.in_err-copy.field-0.0
     (DupStops (old.blocks c.args.addr) c.args.addr old new) c.in_err-copy.ensures.refused
     (λ w refusal stands served m. string_dup_refused c.args.addr old new w page refusal c.requires.unmoved stands served m) in

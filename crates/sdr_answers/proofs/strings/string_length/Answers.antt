@@ -1,7 +1,7 @@
 use Rattle.std.proofs.Common.{rules, Err}
 use Rattle.sdr_answers.proofs.CallLemmas.{comes_answered, comes_stopped}
 use Rattle.sdr_answers.proofs.StringLemmas.{string_length_answered, string_length_refused}
-use Rattle.sdr_answers.specs.Answering.{Comes}
+use Rattle.sdr_answers.specs.Answering.{ComesInEach}
 use Rattle.sdr_base.specs.Objects.{Misses}
 use Rattle.sdr_base.specs.declared.kind.Kind.TheVariants as kinds
 use Rattle.sdr_model.specs.declared.answer.Reply.TheVariants as replies
@@ -13,7 +13,7 @@ returns-in_err-value-clause-comes g c =
     let old = g.O.HasHeap.heap c.args.o.now in
     let new = g.O.HasHeap.heap c.length.new.o in
     let page = c.args.page.now in
-    let fact : Comes (calls.StringLength c.args.addr) old new page page (Err c.in_err-value.field-0.0) =
+    let fact : ComesInEach (calls.StringLength c.args.addr) old new page page (Err c.in_err-value.field-0.0) =
     comes_stopped (calls.StringLength c.args.addr) old new page c.in_err-value.field-0.0
     (Misses (old.blocks c.args.addr) c.args.addr kinds.Text) c.in_err-value.ensures.refused
     (λ w refusal stands served m. string_length_refused c.args.addr old new w page refusal c.requires.unmoved

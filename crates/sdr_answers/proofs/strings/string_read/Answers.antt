@@ -1,7 +1,7 @@
 use Rattle.std.proofs.Common.{rules, take, Err}
 use Rattle.sdr_answers.proofs.CallLemmas.{comes_showing, comes_stopped}
 use Rattle.sdr_answers.proofs.StringLemmas.{string_read_answered, string_read_refused}
-use Rattle.sdr_answers.specs.Answering.{Comes}
+use Rattle.sdr_answers.specs.Answering.{ComesInEach}
 use Rattle.sdr_base.specs.Objects.{Misses}
 use Rattle.sdr_base.specs.declared.kind.Kind.TheVariants as kinds
 use Rattle.sdr_model.specs.declared.answer.Reply.TheVariants as replies
@@ -13,7 +13,7 @@ returns-in_err-count-clause-comes g c =
     let old = g.O.HasHeap.heap c.args.o.now in
     let new = g.O.HasHeap.heap c.read.new.o in
     let page = c.args.page.now in
-    let fact : Comes (calls.StringRead c.args.addr) old new page page (Err c.in_err-count.field-0.0) =
+    let fact : ComesInEach (calls.StringRead c.args.addr) old new page page (Err c.in_err-count.field-0.0) =
     comes_stopped (calls.StringRead c.args.addr) old new page c.in_err-count.field-0.0
     (Misses (old.blocks c.args.addr) c.args.addr kinds.Text) c.in_err-count.ensures.refused
     (λ w refusal stands served m. string_read_refused c.args.addr old new w page refusal c.requires.unmoved

@@ -1,7 +1,7 @@
 use Rattle.std.proofs.Common.{◌≡◌, ◌≤◌, ◌<◌, ◌+◌, ◌*◌, ℕ, length}
 use Rattle.std.specs.Prelude.{Contains}
 use Rattle.std.specs.Vec.Iter.{into_iter_items, into_iter_len}
-use Rattle.sdr_draft.specs.Keeps.{Keeps, StayTouched}
+use Rattle.sdr_draft.specs.Keeps.{SameBegin, StayTouched}
 use Rattle.sdr_model.specs.BondSteps.{with_bonded}
 use Rattle.sdr_model.specs.Dry.{next_addr}
 use Rattle.sdr_changes.proofs.bonding.put_texts.Given as goal
@@ -16,5 +16,5 @@ invariant-loop-capsule l = record {
       ≡ with_bonded l.initial.world.now (λ k. l.fn.first + 8 * k) 0 l.fn.capsules.items;
   owners : l.world.owners ≡ l.initial.world.owners;
   others : StayTouched l.initial.world l.world;
-  keeps : Keeps l.initial.world l.world;
+  keeps : SameBegin l.initial.world l.world;
 }

@@ -1,7 +1,7 @@
 use Rattle.std.proofs.Common.{ap, sym, ◌∙◌}
 use Rattle.sdr_draft.specs.Allowed.{refusal_of, with_back}
 use Rattle.sdr_model.specs.Amounts.{minus}
-use Rattle.sdr_model.specs.Charging.{with_used}
+use Rattle.sdr_model.specs.Charging.{with_covered}
 use Rattle.sdr_undo.specs.Draft.{Draft}
 use Rattle.sdr_draft.proofs.ChargeLemmas.{charge_refused_by, with_back-used}
 use Rattle.sdr_changes.proofs.charging.charge_account.Goals as goal
@@ -16,6 +16,6 @@ returns-in-Some-clause-refused c =
 pub returns-in_ok-save_accounts-in-None-clause-back : goal.returns-in_ok-save_accounts-in-None-clause-back
 returns-in_ok-save_accounts-in-None-clause-back c =
     let now = ap (λ (d : Draft). d.now) c.use_grant.ensures
-    ∙ ap (λ (d : Draft). with_used d.now c.in-Ok.granted c.args.amounts.now) c.in_ok-save_accounts-in-None.ensures.saved in
+    ∙ ap (λ (d : Draft). with_covered d.now c.in-Ok.granted c.args.amounts.now) c.in_ok-save_accounts-in-None.ensures.saved in
     ap (λ w. with_back w c.in-Ok.granted) now
     ∙ with_back-used c.args.world.now.now c.in-Ok.granted c.args.amounts.now c.in-Ok.ensures.stands

@@ -1,7 +1,7 @@
 use Rattle.std.proofs.Common.{◌≡◌, take}
 use Rattle.std.specs.List.{All}
 use Rattle.std.specs.Prelude.{Contains}
-use Rattle.sdr_draft.specs.Keeps.{Keeps, StayTouched}
+use Rattle.sdr_draft.specs.Keeps.{SameBegin, StayTouched}
 use Rattle.sdr_changes.proofs.dropping.touch_all.Given as goal
 
 abbrev pub invariant-loop-addr : goal.invariant-loop-addr
@@ -10,5 +10,5 @@ invariant-loop-addr l = record {
   owners : l.world.owners ≡ l.initial.world.owners;
   touched : All (Contains l.world.touched) (take l.addr-index l.addrs);
   others : StayTouched l.initial.world l.world;
-  keeps : Keeps l.initial.world l.world;
+  keeps : SameBegin l.initial.world l.world;
 }

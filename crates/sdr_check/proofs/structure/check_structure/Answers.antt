@@ -13,7 +13,7 @@ use Rattle.sdr_region.specs.Region.{TellsFirst}
 use Rattle.sdr_region.specs.Walk.{AreBlocks}
 use Rattle.sdr_region.specs.Walked.{AllFound}
 use Rattle.sdr_region.specs.declared.control.Edges.{Edges}
-use Rattle.sdr_region.specs.declared.error.Why.TheVariants as whys
+use Rattle.sdr_region.specs.declared.error.StructureCheck.TheVariants as whys
 use Rattle.sdr_check.proofs.structure.check_structure.Goals as goal
 
 pub returns-in_err-check_free-clause-damaged : goal.returns-in_err-check_free-clause-damaged

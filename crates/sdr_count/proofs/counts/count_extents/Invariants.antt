@@ -1,6 +1,6 @@
 -- The sources that the extents so far name are counted.
 use Rattle.std.proofs.Common.{◌+◌, ℕ, count_by, take}
-use Rattle.sdr_count.specs.Counts.{names}
+use Rattle.sdr_count.specs.Counts.{extent_names}
 use Rattle.sdr_count.specs.Numbers.{AreTold}
 use Rattle.sdr_owner.specs.View.{view_in}
 use Rattle.sdr_count.proofs.counts.count_extents.Given as goal
@@ -8,4 +8,4 @@ use Rattle.sdr_count.proofs.counts.count_extents.Given as goal
 abbrev pub invariant-loop-addr : goal.invariant-loop-addr
 invariant-loop-addr l =
     (number : ℕ → ℕ) → AreTold number l.fn.counts →
-    AreTold (λ from. number from + count_by (names (view_in l.heap) from) (take l.addr-index l.extents)) l.counts
+    AreTold (λ from. number from + count_by (extent_names (view_in l.heap) from) (take l.addr-index l.extents)) l.counts

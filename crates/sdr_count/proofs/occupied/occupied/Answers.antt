@@ -2,7 +2,7 @@ use Rattle.std.proofs.Common.{◌≡◌, ◌+◌, ◌*◌, ◌∙◌, ◌/◌, �
 use Rattle.sdr_base.specs.declared.kind.Space.{Space}
 use Rattle.sdr_count.proofs.ChargesLemmas.{charge_more, charges_same}
 use Rattle.sdr_keys.specs.Places.{places}
-use Rattle.sdr_count.specs.Occupied.{charge_at, left_at, occupancy}
+use Rattle.sdr_count.specs.Occupied.{charge_at, left_at, occupancy_in}
 use Rattle.sdr_owner.specs.View.{view_in}
 use Rattle.sdr_count.proofs.occupied.occupied.Goals as goal
 
@@ -25,7 +25,7 @@ returns c =
     let tickets = c.deref.ensures.value ∙ c.in_ok-tickets.ensures in
     let all : c.loop-number.number ≡ words = omega arith in
     c.with_left.ensures before c.loop-number.invariant
-    ∙ charges_same (λ space. before space + sum_by (left_at heap space) c.deref.result.now) (occupancy heap words c.args.account) (λ space.
+    ∙ charges_same (λ space. before space + sum_by (left_at heap space) c.deref.result.now) (occupancy_in heap words c.args.account) (λ space.
     let t = ap (sum_by (left_at heap space)) tickets in
     let n = ap (λ (n : ℕ). sum_by (charge_at heap words c.args.account space) (places n)) all in
     omega (arith, t, n))

@@ -1,7 +1,7 @@
 use Rattle.std.proofs.Common.{◌+◌, ◌∙◌, ℕ, sum_by, take}
 use Rattle.sdr_base.specs.declared.kind.Space.{Space}
 use Rattle.sdr_count.proofs.ChargesLemmas.{charges_same, extent_more}
-use Rattle.sdr_count.specs.Occupied.{extent_charge}
+use Rattle.sdr_count.specs.Occupied.{extent_charge_at}
 use Rattle.sdr_model.specs.Amounts.{in_space}
 use Rattle.sdr_owner.specs.View.{view_in}
 use Rattle.sdr_count.proofs.occupied.with_extents.Goals as goal
@@ -10,7 +10,7 @@ pub loop-addr-preserved : goal.loop-addr-preserved
 loop-addr-preserved c of is =
     let heap = view_in c.args.heap.now in
     let i = c.loop-addr.addr-index in
-    let before : Space → ℕ = λ space. of space + sum_by (extent_charge heap space) (take i c.args.extents.now) in
+    let before : Space → ℕ = λ space. of space + sum_by (extent_charge_at heap space) (take i c.args.extents.now) in
     let space = c.space_of-space.result in
     let bytes = c.word-bytes.result in
     c.with-charges.ensures (λ other. before other + in_space space bytes other) (c.with.ensures before (c.loop-addr.invariant of is))

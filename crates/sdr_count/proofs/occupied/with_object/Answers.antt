@@ -2,7 +2,7 @@ use Rattle.std.proofs.Common.{◌+◌, ◌∙◌, ◌/◌, ℕ, Bool, cond, leng
 use Rattle.sdr_base.specs.declared.kind.Space.{Space}
 use Rattle.sdr_base.specs.declared.kind.Space.TheVariants as spaces
 use Rattle.sdr_count.proofs.ChargesLemmas.{charges_same}
-use Rattle.sdr_count.specs.Occupied.{capsule_charge, charge_at, extent_charge, object_charge}
+use Rattle.sdr_count.specs.Occupied.{capsule_charge_at, charge_at, extent_charge_at, object_charge_at}
 use Rattle.sdr_model.specs.Amounts.{in_space}
 use Rattle.sdr_owner.specs.View.{view_in}
 use Rattle.sdr_count.proofs.occupied.with_object.Goals as goal
@@ -14,7 +14,7 @@ returns-then-not-is_object_of c of is =
     is
     ∙ charges_same of (λ space. of space + charge_at heap words c.args.account space c.args.addr) (λ space.
     let e =
-    ap (λ (t : Bool). cond t (object_charge heap words space c.args.addr) 0) (sym c.is_object_of.ensures ∙ c.if-not-is_object_of.true) in
+    ap (λ (t : Bool). cond t (object_charge_at heap words space c.args.addr) 0) (sym c.is_object_of.ensures ∙ c.if-not-is_object_of.true) in
     omega (arith, e))
 
 pub returns : goal.returns
@@ -22,17 +22,17 @@ returns c of is =
     let heap = view_in c.args.heap.now in
     let words : ℕ = length c.args.heap.now / 8 in
     let own : Space → ℕ = λ space. of space + in_space spaces.Heap 72 space in
-    let extents : Space → ℕ = λ space. own space + sum_by (extent_charge heap space) c.deref.result.now in
-    let headers : Space → ℕ = λ space. extents space + sum_by (capsule_charge heap space) c.deref-2.result.now in
-    let trailers : Space → ℕ = λ space. headers space + sum_by (capsule_charge heap space) c.deref-3.result.now in
+    let extents : Space → ℕ = λ space. own space + sum_by (extent_charge_at heap space) c.deref.result.now in
+    let headers : Space → ℕ = λ space. extents space + sum_by (capsule_charge_at heap space) c.deref-2.result.now in
+    let trailers : Space → ℕ = λ space. headers space + sum_by (capsule_charge_at heap space) c.deref-3.result.now in
     let e = c.deref.ensures.value ∙ c.in_ok-extents.ensures in
     let h = c.deref-2.ensures.value ∙ c.in_ok-headers.ensures in
     let t = c.deref-3.ensures.value ∙ c.in_ok-trailers.ensures in
     c.with_capsules.ensures headers (c.with_capsules-charges.ensures extents (c.with_extents-charges.ensures own (c.with-charges.ensures of is)))
     ∙ charges_same trailers (λ space. of space + charge_at heap words c.args.account space c.args.addr) (λ space.
-    let e' = ap (sum_by (extent_charge heap space)) e in
-    let h' = ap (sum_by (capsule_charge heap space)) h in
-    let t' = ap (sum_by (capsule_charge heap space)) t in
+    let e' = ap (sum_by (extent_charge_at heap space)) e in
+    let h' = ap (sum_by (capsule_charge_at heap space)) h in
+    let t' = ap (sum_by (capsule_charge_at heap space)) t in
     let there =
-    ap (λ (b : Bool). cond b (object_charge heap words space c.args.addr) 0) (sym c.is_object_of.ensures ∙ c.if-not-is_object_of.false) in
+    ap (λ (b : Bool). cond b (object_charge_at heap words space c.args.addr) 0) (sym c.is_object_of.ensures ∙ c.if-not-is_object_of.false) in
     omega (arith, e', h', t', there))

@@ -2,7 +2,7 @@ use Rattle.std.proofs.Common.{◌<◌, ℕ, arith, refl, subst, sym}
 use Rattle.std.specs.List.{All}
 use Rattle.std.proofs.lemmas.Bool.{false≢true}
 use Rattle.sdr_count.proofs.QueuesLemmas.{all_of, numbers_at, one_of}
-use Rattle.sdr_count.specs.Queues.{ticket_at}
+use Rattle.sdr_count.specs.Queues.{ticket_in}
 use Rattle.sdr_owner.specs.View.{view_in}
 use Rattle.sdr_count.proofs.queues.are_below.Goals as goal
 
@@ -13,7 +13,7 @@ returns-then-word-next c =
     let xs = c.args.tickets.now in (
       λ e. absurd (false≢true e),
       λ all.
-          let here = one_of (λ addr. (ticket_at heap addr).number) P xs c.loop-addr.addr-index c.loop-addr-test.true (subst (All P) (numbers_at heap xs) all) in
+          let here = one_of (λ addr. (ticket_in heap addr).number) P xs c.loop-addr.addr-index c.loop-addr-test.true (subst (All P) (numbers_at heap xs) all) in
           let number = c.word.ensures in
           let next = c.root-next.ensures in
           let not_below = c.if-word-next.true in
@@ -26,6 +26,6 @@ returns c =
     let P : ℕ → Type 0 = λ n. n < heap.roots 108 in
     let xs = c.args.tickets.now in (
       λ e. subst (All P) (sym (numbers_at heap xs))
-          (all_of (λ addr. (ticket_at heap addr).number) P xs c.loop-addr.addr-index (omega arith) c.loop-addr.invariant),
+          (all_of (λ addr. (ticket_in heap addr).number) P xs c.loop-addr.addr-index (omega arith) c.loop-addr.invariant),
       λ all. refl,
     )

@@ -1,7 +1,7 @@
 use Rattle.std.proofs.Common.{◌≡◌, ◌+◌, ◌-◌, ◌∙◌, ℕ, true, get_or, arith, inl, inr, refl, subst, sym}
 use Rattle.std.proofs.lemmas.Bool.{both_ways, cases_lt, false≢true}
 use Rattle.sdr_count.proofs.QueuesLemmas.{in_order, neighbours}
-use Rattle.sdr_count.specs.Queues.{ticket_at}
+use Rattle.sdr_count.specs.Queues.{ticket_in}
 use Rattle.sdr_model.specs.Valid.{may_precede}
 use Rattle.sdr_owner.specs.View.{view_in}
 use Rattle.sdr_count.proofs.queues.are_in_order.Goals as goal
@@ -16,9 +16,9 @@ returns-then-not-may_precede c =
     let back : place - 1 + 1 ≡ place = omega (arith, least) in (
       λ e. absurd (false≢true e),
       λ all.
-          absurd (both_ways (may_precede (ticket_at heap (get_or xs (place - 1) 0)) (ticket_at heap (get_or xs place 0)))
+          absurd (both_ways (may_precede (ticket_in heap (get_or xs (place - 1) 0)) (ticket_in heap (get_or xs place 0)))
           (sym c.may_precede.ensures ∙ c.if-not-may_precede.true)
-          (subst (λ (n : ℕ). may_precede (ticket_at heap (get_or xs (place - 1) 0)) (ticket_at heap (get_or xs n 0)) ≡ true) back
+          (subst (λ (n : ℕ). may_precede (ticket_in heap (get_or xs (place - 1) 0)) (ticket_in heap (get_or xs n 0)) ≡ true) back
           (neighbours heap xs all (place - 1) (omega (arith, back, inside))))),
     )
 
@@ -32,8 +32,8 @@ loop-place-preserved c k less =
       | inr above ↦
           let here : place ≡ k + 1 = omega (arith, less, above) in
           let before : place - 1 ≡ k = omega (arith, here) in
-          subst (λ (n : ℕ). may_precede (ticket_at heap (get_or xs n 0)) (ticket_at heap (get_or xs (k + 1) 0)) ≡ true) before
-          (subst (λ (n : ℕ). may_precede (ticket_at heap (get_or xs (place - 1) 0)) (ticket_at heap (get_or xs n 0)) ≡ true) here
+          subst (λ (n : ℕ). may_precede (ticket_in heap (get_or xs n 0)) (ticket_in heap (get_or xs (k + 1) 0)) ≡ true) before
+          (subst (λ (n : ℕ). may_precede (ticket_in heap (get_or xs (place - 1) 0)) (ticket_in heap (get_or xs n 0)) ≡ true) here
           (sym c.may_precede.ensures ∙ c.if-not-may_precede.false))
     ]
 

@@ -1,6 +1,6 @@
 -- Each ticket so far may stand before the next.
 use Rattle.std.proofs.Common.{◌≡◌, ◌<◌, ◌+◌, ℕ, get_or, true}
-use Rattle.sdr_count.specs.Queues.{ticket_at}
+use Rattle.sdr_count.specs.Queues.{ticket_in}
 use Rattle.sdr_model.specs.Valid.{may_precede}
 use Rattle.sdr_owner.specs.View.{view_in}
 use Rattle.sdr_count.proofs.queues.are_in_order.Given as goal
@@ -8,4 +8,4 @@ use Rattle.sdr_count.proofs.queues.are_in_order.Given as goal
 abbrev pub invariant-loop-place : goal.invariant-loop-place
 invariant-loop-place l =
     (k : ℕ) → k + 1 < l.place →
-    may_precede (ticket_at (view_in l.heap) (get_or l.tickets k 0)) (ticket_at (view_in l.heap) (get_or l.tickets (k + 1) 0)) ≡ true
+    may_precede (ticket_in (view_in l.heap) (get_or l.tickets k 0)) (ticket_in (view_in l.heap) (get_or l.tickets (k + 1) 0)) ≡ true

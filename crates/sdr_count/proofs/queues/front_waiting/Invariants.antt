@@ -1,10 +1,10 @@
 -- No ticket so far waits.
 use Rattle.std.proofs.Common.{◌≡◌, map, take}
 use Rattle.std.specs.Prelude.{None}
-use Rattle.sdr_count.specs.Queues.{ticket_at}
+use Rattle.sdr_count.specs.Queues.{ticket_in}
 use Rattle.sdr_model.specs.Queue.{front_waiting}
 use Rattle.sdr_owner.specs.View.{view_in}
 use Rattle.sdr_count.proofs.queues.front_waiting.Given as goal
 
 abbrev pub invariant-loop-addr : goal.invariant-loop-addr
-invariant-loop-addr l = front_waiting (map (ticket_at (view_in l.heap)) (take l.addr-index l.tickets)) ≡ None
+invariant-loop-addr l = front_waiting (map (ticket_in (view_in l.heap)) (take l.addr-index l.tickets)) ≡ None

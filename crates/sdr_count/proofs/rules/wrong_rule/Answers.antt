@@ -1,22 +1,22 @@
 use Rattle.std.proofs.Common.{◌/◌, ◌∙◌, ℕ, List, length, sym}
 use Rattle.std.specs.Prelude.{Option}
 use Rattle.sdr_count.proofs.RulesLemmas.{none_more, some_here}
-use Rattle.sdr_count.specs.Rules.{all_rules, keeps}
-use Rattle.sdr_count.specs.declared.rules.Rule.{Rule}
+use Rattle.sdr_count.specs.Rules.{count_rules, keeps_count_rule}
+use Rattle.sdr_count.specs.declared.rules.CountRule.{CountRule}
 use Rattle.sdr_keys.specs.Places.{first_failing}
 use Rattle.sdr_owner.specs.View.{view_in}
 use Rattle.sdr_count.proofs.rules.wrong_rule.Goals as goal
 
 -- the first block of a region that doesn't keep a rule
-abbrev broken : List ℕ → Rule → Option ℕ
-broken bytes rule = first_failing (keeps (view_in bytes) (length bytes / 8) rule) (length bytes / 8)
+abbrev broken : List ℕ → CountRule → Option ℕ
+broken bytes rule = first_failing (keeps_count_rule (view_in bytes) (length bytes / 8) rule) (length bytes / 8)
 
 pub returns-in-Some : goal.returns-in-Some
 returns-in-Some c =
-    sym (some_here (broken c.args.heap.now) all_rules c.loop-rule.rule-index _ c.in-Some.addr c.loop-rule-test.true c.loop-rule.invariant
+    sym (some_here (broken c.args.heap.now) count_rules c.loop-rule.rule-index _ c.in-Some.addr c.loop-rule-test.true c.loop-rule.invariant
     (sym c.in_ok-addr.ensures ∙ c.in-Some.is))
 
 pub loop-rule-preserved : goal.loop-rule-preserved
 loop-rule-preserved c =
-    none_more (broken c.args.heap.now) all_rules c.loop-rule.rule-index _ c.loop-rule-test.true c.loop-rule.invariant
+    none_more (broken c.args.heap.now) count_rules c.loop-rule.rule-index _ c.loop-rule-test.true c.loop-rule.invariant
     (sym c.in_ok-addr.ensures ∙ c.in_default.is)

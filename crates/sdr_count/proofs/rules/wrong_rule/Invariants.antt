@@ -2,9 +2,9 @@
 use Rattle.std.proofs.Common.{◌≡◌, ◌/◌, length, take}
 use Rattle.std.specs.Prelude.{None}
 use Rattle.sdr_base.specs.declared.line.TheConstants.{WORD}
-use Rattle.sdr_count.specs.Rules.{all_rules, first_broken}
+use Rattle.sdr_count.specs.Rules.{count_rules, first_broken}
 use Rattle.sdr_owner.specs.View.{view_in}
 use Rattle.sdr_count.proofs.rules.wrong_rule.Given as goal
 
 abbrev pub invariant-loop-rule : goal.invariant-loop-rule
-invariant-loop-rule l = first_broken (view_in l.heap) (length l.heap / WORD) (take l.rule-index all_rules) ≡ None
+invariant-loop-rule l = first_broken (view_in l.heap) (length l.heap / WORD) (take l.rule-index count_rules) ≡ None

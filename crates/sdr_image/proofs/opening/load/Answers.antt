@@ -5,22 +5,22 @@ use Rattle.sdr_image.proofs.opening.load.Goals as goal
 
 pub returns-in_err-frame-clause-any_moment : goal.returns-in_err-frame-clause-any_moment
 returns-in_err-frame-clause-any_moment g c x is may =
-    at_reads g.D.Disk.bytes g.D.Disk.moment g.D.Disk.may_leave _ _ c.read_frame.ensures.reads x may
+    at_reads g.D.Disk.bytes g.D.Disk.moment g.D.Disk.may_hold_after _ _ c.read_frame.ensures.reads x may
 
 pub returns-in_default-clause-any_moment : goal.returns-in_default-clause-any_moment
 returns-in_default-clause-any_moment g c x is may =
-    at_reads g.D.Disk.bytes g.D.Disk.moment g.D.Disk.may_leave _ _ c.read_frame.ensures.reads x may
+    at_reads g.D.Disk.bytes g.D.Disk.moment g.D.Disk.may_hold_after _ _ c.read_frame.ensures.reads x may
 
 pub returns-in_err-memory-clause-any_moment : goal.returns-in_err-memory-clause-any_moment
 returns-in_err-memory-clause-any_moment g c x is may =
-    at_reads g.D.Disk.bytes g.D.Disk.moment g.D.Disk.may_leave _ _ c.read_frame.ensures.reads x may
+    at_reads g.D.Disk.bytes g.D.Disk.moment g.D.Disk.may_hold_after _ _ c.read_frame.ensures.reads x may
 
 pub returns-in_err-restored-clause-any_moment : goal.returns-in_err-restored-clause-any_moment
 returns-in_err-restored-clause-any_moment g c x is may =
     let reads = c.read_frame.ensures.reads in
     at_between _ _ _ _ _ _ _ x reads may
     (c.restore.ensures.any_moment x (reads.same ∙ is) (reads_may _ _ _ _ _ reads x may))
-    (Reads-refl g.D.Disk.bytes g.D.Disk.moment g.D.Disk.may_leave _)
+    (Reads-refl g.D.Disk.bytes g.D.Disk.moment g.D.Disk.may_hold_after _)
 
 pub returns-in_err-bytes-clause-any_moment : goal.returns-in_err-bytes-clause-any_moment
 returns-in_err-bytes-clause-any_moment g c x is may =
@@ -30,7 +30,7 @@ returns-in_err-bytes-clause-any_moment g c x is may =
 
 pub returns-clause-bytes : goal.returns-clause-bytes
 returns-clause-bytes g c y now =
-    loaded g.D.Disk.bytes g.D.Disk.moment g.D.Disk.may_leave _ _ _ y _ _ _ c.restore.ensures.disk.tells
+    loaded g.D.Disk.bytes g.D.Disk.moment g.D.Disk.may_hold_after _ _ _ y _ _ _ c.restore.ensures.disk.tells
     c.in_ok-restored.ensures.back c.read_heap.ensures.reads c.in_ok-bytes.ensures.given now
 
 pub returns-clause-synced : goal.returns-clause-synced

@@ -1,6 +1,6 @@
 -- The steps one after another.
 use Rattle.std.proofs.lemmas.Result.{on_ok_weaker}
-use Rattle.sdr_large.proofs.GivenLemmas.{holds_first, holds_second, holds_third, gives, Gives-kept, Gives-others}
+use Rattle.sdr_large.proofs.GivenLemmas.{holds_first, holds_second, holds_third, gives, GivesLarge-kept, GivesLarge-others}
 use Rattle.sdr_large.proofs.giving.give.Goals as goal
 
 pub join_below-requires : goal.join_below-requires
@@ -16,8 +16,8 @@ join_above-requires-clause-loose g c =
     (g.C.Cells.bytes c.args.c.now) (g.C.Cells.bytes c.args.c.now) c.requires.used.pools c.requires.used.keeps
     c.requires.used.used c.in_ok-own.ensures.loose c.in_ok-upper.ensures.joined
 
-pub put_back-requires : goal.put_back-requires
-put_back-requires g c = record {
+pub set_free-requires : goal.set_free-requires
+set_free-requires g c = record {
   loose = holds_third c.args.addr c.in_ok-own.own c.in_ok-upper.upper c.in_ok-whole.whole _ _ _ _
       (g.C.Cells.bytes c.args.c.now) c.requires.used.pools c.requires.used.keeps c.requires.used.used
       c.in_ok-own.ensures.loose c.in_ok-upper.ensures.joined c.in_ok-whole.ensures.joined;
@@ -25,23 +25,23 @@ put_back-requires g c = record {
 
 pub returns-clause-given : goal.returns-clause-given
 returns-clause-given g c =
-    on_ok_weaker c.put_back.result
+    on_ok_weaker c.set_free.result
     (λ puts. gives c.args.addr c.in_ok-own.own c.in_ok-upper.upper c.in_ok-whole.whole _ _ _ _ _
     c.in_ok-own.ensures.loose c.in_ok-upper.ensures.joined c.in_ok-whole.ensures.joined puts)
-    c.put_back.ensures.put
+    c.set_free.ensures.put
 
 pub returns-clause-kept : goal.returns-clause-kept
 returns-clause-kept g c =
-    on_ok_weaker c.put_back.result
-    (λ puts. Gives-kept _ _ c.args.addr c.requires.used
+    on_ok_weaker c.set_free.result
+    (λ puts. GivesLarge-kept _ _ c.args.addr c.requires.used
     (gives c.args.addr c.in_ok-own.own c.in_ok-upper.upper c.in_ok-whole.whole _ _ _ _ _
     c.in_ok-own.ensures.loose c.in_ok-upper.ensures.joined c.in_ok-whole.ensures.joined puts))
-    c.put_back.ensures.put
+    c.set_free.ensures.put
 
 pub returns-clause-others : goal.returns-clause-others
 returns-clause-others g c =
-    on_ok_weaker c.put_back.result
-    (λ puts. Gives-others _ _ c.args.addr c.requires.used
+    on_ok_weaker c.set_free.result
+    (λ puts. GivesLarge-others _ _ c.args.addr c.requires.used
     (gives c.args.addr c.in_ok-own.own c.in_ok-upper.upper c.in_ok-whole.whole _ _ _ _ _
     c.in_ok-own.ensures.loose c.in_ok-upper.ensures.joined c.in_ok-whole.ensures.joined puts))
-    c.put_back.ensures.put
+    c.set_free.ensures.put

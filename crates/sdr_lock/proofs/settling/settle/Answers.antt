@@ -9,12 +9,12 @@ returns-in-Ended-clause-left g c =
 
 pub returns-in-Exited-clause-left : goal.returns-in-Exited-clause-left
 returns-in-Exited-clause-left g c =
-    subst (λ (k : Close). OnOk c.put_back.result (Brings g.T.HasGround.stands c.args.base.now c.put_back.new.base (Settles k))) (sym c.in-Exited.is) c.put_back.ensures.put_back
+    subst (λ (k : Close). OnOk c.roll_back.result (Brings g.T.HasGround.stands c.args.base.now c.roll_back.new.base (Settles k))) (sym c.in-Exited.is) c.roll_back.ensures.put_back
 
 pub returns-in-Cancelled-clause-left : goal.returns-in-Cancelled-clause-left
 returns-in-Cancelled-clause-left g c =
-    subst (λ (k : Close). OnOk c.put_back-in-Cancelled.result (Brings g.T.HasGround.stands c.args.base.now c.put_back-in-Cancelled.new.base (Settles k))) (sym c.in-Cancelled.is) c.put_back-in-Cancelled.ensures.put_back
+    subst (λ (k : Close). OnOk c.roll_back-in-Cancelled.result (Brings g.T.HasGround.stands c.args.base.now c.roll_back-in-Cancelled.new.base (Settles k))) (sym c.in-Cancelled.is) c.roll_back-in-Cancelled.ensures.put_back
 
 pub returns-in-Faulted-clause-left : goal.returns-in-Faulted-clause-left
 returns-in-Faulted-clause-left g c =
-    subst (λ (k : Close). OnOk c.put_back-in-Faulted.result (Brings g.T.HasGround.stands c.args.base.now c.put_back-in-Faulted.new.base (Settles k))) (sym c.in-Faulted.is) c.put_back-in-Faulted.ensures.put_back
+    subst (λ (k : Close). OnOk c.roll_back-in-Faulted.result (Brings g.T.HasGround.stands c.args.base.now c.roll_back-in-Faulted.new.base (Settles k))) (sym c.in-Faulted.is) c.roll_back-in-Faulted.ensures.put_back

@@ -13,7 +13,7 @@ invariant-loop-line g l = record {
   later : g.D.Disk.faults l.fn.disk ≤ g.D.Disk.faults l.disk;
   calls : g.D.Disk.moment l.disk + 2 * length l.rest ≤ g.D.Disk.moment l.fn.disk + 2 * length l.fn.lines;
   told : IfTold (g.D.Disk.bytes l.fn.disk) (λ x.
-      Putting g.D.Disk.moment g.D.Disk.may_leave g.D.Disk.bytes l.frame l.fn.lines l.rest l.fn.disk l.disk x);
+      Putting g.D.Disk.moment g.D.Disk.may_hold_after g.D.Disk.bytes l.frame l.fn.lines l.rest l.fn.disk l.disk x);
 }
 
 abbrev pub decreases-loop-line : goal.decreases-loop-line

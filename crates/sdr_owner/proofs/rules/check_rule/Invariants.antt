@@ -2,11 +2,11 @@
 use Rattle.std.proofs.Common.{◌≡◌, ◌<◌, ◌*◌, ℕ, List, true}
 use Rattle.sdr_base.specs.declared.line.TheConstants.{WORD}
 use Rattle.sdr_owner.specs.Marks.{AreMarked}
-use Rattle.sdr_owner.specs.Rules.{keeps}
+use Rattle.sdr_owner.specs.Rules.{keeps_owner_rule}
 use Rattle.sdr_owner.specs.View.{view_in}
 use Rattle.sdr_owner.proofs.rules.check_rule.Given as goal
 
 abbrev pub invariant-loop-number : goal.invariant-loop-number
 invariant-loop-number l =
     (reached : List ℕ) → AreMarked reached l.marks → (other : ℕ) → other < WORD * l.number →
-    keeps (view_in l.heap) reached l.rule other ≡ true
+    keeps_owner_rule (view_in l.heap) reached l.rule other ≡ true

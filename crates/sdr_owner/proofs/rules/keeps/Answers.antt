@@ -1,9 +1,9 @@
 use Rattle.std.proofs.Common.{◌≡◌, ◌∙◌, ◌/◌, ◌||◌, Bool, not, true, false, get_or, ap, sym}
 use Rattle.sdr_base.specs.KeptHeap.{block_in}
 use Rattle.sdr_owner.proofs.RulesLemmas.{reached_told}
-use Rattle.sdr_owner.specs.Rules.{is_chained, keeps}
+use Rattle.sdr_owner.specs.Rules.{is_chained, keeps_owner_rule}
 use Rattle.sdr_owner.specs.View.{view_in}
-use Rattle.sdr_owner.specs.declared.rules.Rule.{Rule}
+use Rattle.sdr_owner.specs.declared.rules.OwnerRule.{OwnerRule}
 use Rattle.sdr_owner.proofs.rules.keeps.Goals as goal
 
 pub returns-else-not-is_chained : goal.returns-else-not-is_chained
@@ -12,4 +12,5 @@ returns-else-not-is_chained c reached marked =
     c.is_marked.ensures
     ∙ ap (λ (t : Bool). not t || get_or c.args.marks.now (c.args.addr / 8) false) (sym chained)
     ∙ reached_told c.args.heap.now reached c.args.marks.now c.args.addr marked
-    ∙ ap (λ (rule : Rule). keeps (view_in c.args.heap.now) reached rule c.args.addr) (sym c.in-IsReached.is)
+    ∙ ap (λ (rule : OwnerRule). keeps_owner_rule (view_in c.args.heap.now) reached rule c.args.addr)
+        (sym c.in-IsReached.is)

@@ -3,13 +3,13 @@ use Rattle.sdr_disk.specs.MemoryDisk.{bytes_now}
 use Rattle.sdr_disk.specs.Told.{IfTold}
 use Rattle.sdr_log.specs.Calls.{GivesNone, IsFramed}
 use Rattle.sdr_log.specs.Log.{heap_of, put_back_of}
-use Rattle.sdr_log.specs.Logged.{Gives}
+use Rattle.sdr_log.specs.Logged.{GivesHeap}
 use Rattle.sdr_peek.proofs.PeekLemmas.{heap_closed, heap_copied, if_given, if_none, none_copied}
 use Rattle.sdr_peek.proofs.peeking.peek.Goals as goal
 
 pub returns-clause-heap : goal.returns-clause-heap
 returns-clause-heap g c =
-    if_given c.put_back_copy.result (λ s. IfTold (bytes_now c.in_ok-copy.copy) (Gives s))
+    if_given c.put_back_copy.result (λ s. IfTold (bytes_now c.in_ok-copy.copy) (GivesHeap s))
     (λ s. IfTold (g.D.Disk.bytes c.args.disk.now) (λ x. put_back_of x ≡ Some s))
     (λ s gives x is. heap_copied c.in-Some.frame x _ s (c.in_ok-copy.ensures.copy x (c.is_closed.ensures.reads.same ∙ c.read_frame.ensures.reads.same ∙ is) _ refl) (gives _ refl))
     c.put_back_copy.ensures.heap

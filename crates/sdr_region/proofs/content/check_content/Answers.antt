@@ -5,7 +5,7 @@ use Rattle.sdr_region.proofs.ContentLemmas.{content_right, large_begin}
 use Rattle.sdr_region.specs.Auditing.{DamagedBy}
 use Rattle.sdr_region.specs.Content.{IsWrongContent}
 use Rattle.sdr_region.specs.Walk.{AreBlocks}
-use Rattle.sdr_region.specs.declared.error.Why.TheVariants as whys
+use Rattle.sdr_region.specs.declared.error.StructureCheck.TheVariants as whys
 use Rattle.sdr_region.proofs.content.check_content.Goals as goal
 
 pub loop-place-init : goal.loop-place-init

@@ -1,5 +1,5 @@
 use Rattle.std.proofs.Common.{subst}
-use Rattle.sdr_core.specs.CoreKept.{Makes}
+use Rattle.sdr_core.specs.CoreKept.{MakesCoreStep}
 use Rattle.sdr_model.specs.declared.event.Event.{Event}
 use Rattle.sdr_replay.proofs.playing.make.Goals as goal
 
@@ -11,7 +11,7 @@ returns-clause-makes g c =
     record {
       answers = record {
         came = c.in_ok-came.came;
-        makes = subst (λ (event : Event). Makes g.T.HasGround step.daemon step.line event c.in_ok-came.came old.lock old.log new.lock new.log)
+        makes = subst (λ (event : Event). MakesCoreStep g.T.HasGround step.daemon step.line event c.in_ok-came.came old.lock old.log new.lock new.log)
             c.in_ok-event.ensures c.in_ok-came.ensures.makes;
         prints = c.in_ok-came.ensures.prints;
       };

@@ -1,5 +1,5 @@
 use Rattle.std.proofs.Common.{◌∙◌, ap, not, subst}
-use Rattle.sdr_core.specs.CoreKept.{Kept}
+use Rattle.sdr_core.specs.CoreKept.{LoggedLock}
 use Rattle.sdr_core.specs.Leaving.{RunLeads}
 use Rattle.sdr_lock.specs.Crash.{is_sound}
 use Rattle.sdr_lock.specs.Leaving.{AllLeave}
@@ -20,7 +20,8 @@ returns-clause-ran g c =
     plays_out g.T.HasGround g.J.Origin.begins c.args.base c.in-Ok-new.core.lock.base c.finish-journal.result.1 c.args.script.now
     c.play_on-starved.new.core c.leave_all.new.core c.play_on-starved.result c.play_on-starved.new.printing (not c.is_sound-failed.result)
     (output g.K.Sink.taken g.K.Sink.faults c.args.out.now) (output g.K.Sink.taken g.K.Sink.faults c.play_on-starved.new.out) c.finish-journal.result.0
-    (ap (λ (k : Kept T). k.lock.base) c.in-Ok-new.ensures.made) c.requires.begins.told c.play_on-starved.ensures.ran
+    (ap (λ (k : LoggedLock T). k.lock.base) c.in-Ok-new.ensures.made) c.requires.begins.told
+        c.play_on-starved.ensures.ran
     (subst (λ (leave : Leave). RunLeads g.T.HasGround (AllLeave told leave) c.play_on-starved.new.core c.leave_all.new.core) c.leave_of.ensures
     c.leave_all.ensures.left)
     c.finish-journal.ensures.journal c.finish-journal.ensures.base c.finish-journal.ensures.run (ap not (c.is_sound-failed.ensures ∙ ap is_sound c.as_slice.ensures))

@@ -1,6 +1,6 @@
 use Rattle.std.proofs.Common.{◌≡◌, ◌∷◌, suc, List, true, false, true≢false, ap, sym, subst, arith, length, inl, inr}
 use Rattle.std.proofs.lemmas.List.{nil_from_length}
-use Rattle.sdr_model.specs.declared.script.Step.{Step}
+use Rattle.sdr_model.specs.declared.script.ScriptStep.{ScriptStep}
 use Rattle.sdr_replay.proofs.PlayingLemmas.{has_run, made_next, made_still, running_next}
 use Rattle.sdr_replay.specs.Playing.{IsPrinted, Output, output}
 use Rattle.sdr_replay.specs.Running.{Running}
@@ -26,7 +26,7 @@ returns-in_default-make-clause-ran g c =
     let old = c.loop-step in
     let new = c.make.new in
     let r : Running g.T.HasGround b before c.args.script.now (c.in-Some.step.now ∷ c.in-Some.after.now) old.bindings old.core (IsPrinted old.printing first (seen old.out)) =
-    subst (λ (rest : List Step). Running g.T.HasGround b before c.args.script.now rest old.bindings old.core (IsPrinted old.printing first (seen old.out))) e
+    subst (λ (rest : List ScriptStep). Running g.T.HasGround b before c.args.script.now rest old.bindings old.core (IsPrinted old.printing first (seen old.out))) e
     old.invariant.running in
     elim c.in_default-make.ensures.err [
       | inl same ↦ has_run g.T.HasGround b before c.args.script.now (c.in-Some.step.now ∷ c.in-Some.after.now) new.core true (IsPrinted new.printing first (seen new.out))
@@ -53,7 +53,7 @@ loop-step-preserved g c =
       running =
           running_next g.T.HasGround b before c.args.script.now c.in-Some.step.now c.in-Some.after.now old.bindings old.core new.core old.printing new.printing first
           (seen old.out) (seen new.out)
-          (subst (λ (rest : List Step). Running g.T.HasGround b before c.args.script.now rest old.bindings old.core (IsPrinted old.printing first (seen old.out))) e
+          (subst (λ (rest : List ScriptStep). Running g.T.HasGround b before c.args.script.now rest old.bindings old.core (IsPrinted old.printing first (seen old.out))) e
           old.invariant.running) old.invariant.later made.answers new.bindings made.names;
       lasts = λ n. made.answers.makes.asks.kept.lasts n (old.invariant.lasts (suc n));
       drawn = omega (arith, old.invariant.drawn, made.answers.makes.drawn, ap length e);

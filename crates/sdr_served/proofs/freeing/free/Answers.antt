@@ -2,7 +2,7 @@
 use Rattle.std.proofs.Common.{rules, Err}
 use Rattle.sdr_answers.proofs.CallLemmas.{comes_answered, comes_stopped}
 use Rattle.sdr_answers.proofs.ListLemmas.{IsSmall}
-use Rattle.sdr_answers.specs.Answering.{Comes}
+use Rattle.sdr_answers.specs.Answering.{ComesInEach}
 use Rattle.sdr_heap.specs.Raw.{FreeStops}
 use Rattle.sdr_model.specs.declared.answer.Reply.TheVariants as replies
 use Rattle.sdr_model.specs.declared.call.Call.TheVariants as calls
@@ -19,7 +19,7 @@ returns-in_err-expect_free-clause-comes g c =
       few = g.met.O.Objects.few c.args.o.now c.requires.kept;
       small = g.met.O.Objects.small c.args.o.now c.requires.kept;
     } in
-    let fact : Comes (calls.Free c.args.addr) old new page page (Err c.in_err-expect_free.field-0.0) =
+    let fact : ComesInEach (calls.Free c.args.addr) old new page page (Err c.in_err-expect_free.field-0.0) =
     comes_stopped (calls.Free c.args.addr) old new page c.in_err-expect_free.field-0.0
     (NamedStops old.blocks c.args.addr) c.in_err-expect_free.ensures.refused
     (λ w refusal stands served m. free_named c.args.addr old new w page refusal c.requires.unmoved c.expect_free.ensures.looks.same
@@ -38,7 +38,7 @@ returns-in_err-free-clause-comes g c =
     let page = c.args.page.now in
     let stops : FreeStops (old.blocks c.args.addr) c.args.addr old new c.in_err-free.field-0.0 =
     rw c.expect_free.ensures.looks.same at c.in_err-free.ensures.refused in
-    let fact : Comes (calls.Free c.args.addr) old new page page (Err c.in_err-free.field-0.0) =
+    let fact : ComesInEach (calls.Free c.args.addr) old new page page (Err c.in_err-free.field-0.0) =
     comes_stopped (calls.Free c.args.addr) old new page c.in_err-free.field-0.0
     (FreeStops (old.blocks c.args.addr) c.args.addr old new) stops
     (λ w refusal stands served m. free_refused c.args.addr old new w page refusal c.requires.unmoved

@@ -1,7 +1,7 @@
 use Rattle.std.proofs.Common.{rules, Err}
 use Rattle.sdr_answers.proofs.CallLemmas.{comes_answered, comes_stopped}
 use Rattle.sdr_served.proofs.HashMaking.{hash_made, hash_unmade}
-use Rattle.sdr_answers.specs.Answering.{Comes}
+use Rattle.sdr_answers.specs.Answering.{ComesInEach}
 use Rattle.sdr_hash.specs.Calls.{CreateStops}
 use Rattle.sdr_model.specs.declared.answer.Reply.TheVariants as replies
 use Rattle.sdr_model.specs.declared.call.Call.TheVariants as calls
@@ -12,7 +12,8 @@ returns-in_err-addr-clause-comes g c =
     let old = g.O.HasHeap.heap c.args.o.now in
     let new = g.O.HasHeap.heap c.create.new.o in
     let page = c.args.page.now in
-    let fact : Comes (calls.Hash c.args.key_length c.args.buckets) old new page page (Err c.in_err-addr.field-0.0) =
+    let fact : ComesInEach (calls.Hash c.args.key_length c.args.buckets) old new page page
+        (Err c.in_err-addr.field-0.0) =
     comes_stopped (calls.Hash c.args.key_length c.args.buckets) old new page c.in_err-addr.field-0.0
     (CreateStops c.args.key_length c.args.buckets old new) c.in_err-addr.ensures.refused
     (λ w refusal stands served m. hash_unmade old new w c.requires.unmoved stands served c.args.key_length c.args.buckets page refusal m) in

@@ -3,7 +3,7 @@ use Rattle.sdr_answers.proofs.CallLemmas.{comes_answered, comes_stopped}
 use Rattle.sdr_served.proofs.HashChanging.{destroyed, undestroyed}
 use Rattle.sdr_served.proofs.HashLemmas.{room_for_hash}
 use Rattle.sdr_answers.proofs.ListLemmas.{IsSmall}
-use Rattle.sdr_answers.specs.Answering.{Comes}
+use Rattle.sdr_answers.specs.Answering.{ComesInEach}
 use Rattle.sdr_hash.specs.Destroying.{DestroyStops}
 use Rattle.sdr_model.specs.declared.answer.Reply.TheVariants as replies
 use Rattle.sdr_model.specs.declared.call.Call.TheVariants as calls
@@ -22,7 +22,7 @@ returns-in_err-destroy-clause-comes g c =
     let old = g.O.HasHeap.heap c.args.o.now in
     let new = g.O.HasHeap.heap c.destroy.new.o in
     let page = c.args.page.now in
-    let fact : Comes (calls.HashDestroy c.args.hash) old new page page (Err c.in_err-destroy.field-0.0) =
+    let fact : ComesInEach (calls.HashDestroy c.args.hash) old new page page (Err c.in_err-destroy.field-0.0) =
     comes_stopped (calls.HashDestroy c.args.hash) old new page c.in_err-destroy.field-0.0
     (DestroyStops c.args.hash old new) c.in_err-destroy.ensures.refused
     (λ w refusal stands served m. undestroyed old new w c.requires.unmoved stands served c.args.hash page refusal m) in

@@ -1,7 +1,7 @@
 use Rattle.std.proofs.Common.{rules, Err}
 use Rattle.sdr_answers.proofs.CallLemmas.{comes_answered, comes_stopped}
 use Rattle.sdr_served.proofs.HashChanging.{inserted, uninserted}
-use Rattle.sdr_answers.specs.Answering.{Comes}
+use Rattle.sdr_answers.specs.Answering.{ComesInEach}
 use Rattle.sdr_hash.specs.Calls.{InsertStops}
 use Rattle.sdr_model.specs.declared.answer.Reply.TheVariants as replies
 use Rattle.sdr_model.specs.declared.call.Call.TheVariants as calls
@@ -12,7 +12,7 @@ returns-in_err-insert-clause-comes g c =
     let old = g.O.HasHeap.heap c.args.o.now in
     let new = g.O.HasHeap.heap c.insert.new.o in
     let page = c.args.page.now in
-    let fact : Comes (calls.HashInsert c.args.hash c.args.key.now c.args.value) old new page page (Err c.in_err-insert.field-0.0) =
+    let fact : ComesInEach (calls.HashInsert c.args.hash c.args.key.now c.args.value) old new page page (Err c.in_err-insert.field-0.0) =
     comes_stopped (calls.HashInsert c.args.hash c.args.key.now c.args.value) old new page c.in_err-insert.field-0.0
     (InsertStops c.args.hash c.args.key.now old new) c.in_err-insert.ensures.refused
     (λ w refusal stands served m. uninserted old new w c.requires.unmoved stands served c.args.hash c.args.key.now c.args.value page refusal m) in

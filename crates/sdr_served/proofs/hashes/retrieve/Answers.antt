@@ -1,7 +1,7 @@
 use Rattle.std.proofs.Common.{rules, Err}
 use Rattle.sdr_answers.proofs.CallLemmas.{comes_answered, comes_stopped}
 use Rattle.sdr_served.proofs.HashReading.{retrieved, unretrieved}
-use Rattle.sdr_answers.specs.Answering.{Comes}
+use Rattle.sdr_answers.specs.Answering.{ComesInEach}
 use Rattle.sdr_hash.specs.Calls.{FindStops}
 use Rattle.sdr_model.specs.declared.answer.Reply.TheVariants as replies
 use Rattle.sdr_model.specs.declared.call.Call.TheVariants as calls
@@ -12,7 +12,8 @@ returns-in_err-value-clause-comes g c =
     let old = g.O.HasHeap.heap c.args.o.now in
     let new = g.O.HasHeap.heap c.retrieve.new.o in
     let page = c.args.page.now in
-    let fact : Comes (calls.HashRetrieve c.args.hash c.args.key.now) old new page page (Err c.in_err-value.field-0.0) =
+    let fact : ComesInEach (calls.HashRetrieve c.args.hash c.args.key.now) old new page page
+        (Err c.in_err-value.field-0.0) =
     comes_stopped (calls.HashRetrieve c.args.hash c.args.key.now) old new page c.in_err-value.field-0.0
     (FindStops old.blocks c.args.hash c.args.key.now) c.in_err-value.ensures.refused
     (λ w refusal stands served m. unretrieved old new w c.requires.unmoved stands served c.args.hash c.args.key.now page refusal c.in_err-value.ensures.looks.same m) in

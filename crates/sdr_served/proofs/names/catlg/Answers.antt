@@ -1,7 +1,7 @@
 use Rattle.std.proofs.Common.{rules, Err}
 use Rattle.sdr_answers.proofs.CallLemmas.{comes_answered, comes_stopped}
 use Rattle.sdr_served.proofs.NameCalls.{catlg_answered, catlg_refused}
-use Rattle.sdr_answers.specs.Answering.{Comes}
+use Rattle.sdr_answers.specs.Answering.{ComesInEach}
 use Rattle.sdr_cat.specs.Changes.{CatlgStops}
 use Rattle.sdr_model.specs.declared.answer.Reply.TheVariants as replies
 use Rattle.sdr_model.specs.declared.call.Call.TheVariants as calls
@@ -12,7 +12,7 @@ returns-in_err-catlg-clause-comes g c =
     let old = g.O.HasHeap.heap c.args.o.now in
     let new = g.O.HasHeap.heap c.catlg.new.o in
     let page = c.args.page.now in
-    let fact : Comes (calls.Catlg c.args.name.now c.args.kind c.args.object) old new page page (Err c.in_err-catlg.field-0.0) =
+    let fact : ComesInEach (calls.Catlg c.args.name.now c.args.kind c.args.object) old new page page (Err c.in_err-catlg.field-0.0) =
     comes_stopped (calls.Catlg c.args.name.now c.args.kind c.args.object) old new page c.in_err-catlg.field-0.0
     (CatlgStops c.args.name.now old new) c.in_err-catlg.ensures.refused
     (λ w refusal stands served m. catlg_refused old new w c.requires.unmoved stands served c.args.name.now c.args.kind

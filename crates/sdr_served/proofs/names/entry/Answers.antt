@@ -2,7 +2,7 @@ use Rattle.std.proofs.Common.{arith, rules, take, Err}
 use Rattle.std.proofs.lemmas.List.{length-take}
 use Rattle.sdr_answers.proofs.CallLemmas.{comes_showing, comes_stopped}
 use Rattle.sdr_served.proofs.NameCalls.{entry_answered, entry_refused, entry_short}
-use Rattle.sdr_answers.specs.Answering.{Comes}
+use Rattle.sdr_answers.specs.Answering.{ComesInEach}
 use Rattle.sdr_cat.specs.Calls.{EntryStops}
 use Rattle.sdr_model.specs.declared.answer.Reply.TheVariants as replies
 use Rattle.sdr_model.specs.declared.call.Call.TheVariants as calls
@@ -25,7 +25,7 @@ returns-in_err-count-clause-comes g c =
     let old = g.O.HasHeap.heap c.args.o.now in
     let new = g.O.HasHeap.heap c.entry.new.o in
     let page = c.args.page.now in
-    let fact : Comes (calls.Entry c.args.place) old new page page (Err c.in_err-count.field-0.0) =
+    let fact : ComesInEach (calls.Entry c.args.place) old new page page (Err c.in_err-count.field-0.0) =
     comes_stopped (calls.Entry c.args.place) old new page c.in_err-count.field-0.0 (EntryStops c.args.place old)
     c.in_err-count.ensures.refused
     (λ w refusal stands served m. entry_refused old new w c.requires.unmoved stands served c.args.place page refusal

@@ -1,7 +1,7 @@
 use Rattle.std.proofs.Common.{rules, Err}
 use Rattle.sdr_answers.proofs.CallLemmas.{comes_answered, comes_stopped}
 use Rattle.sdr_served.proofs.NameCalls.{uncatlg_answered, uncatlg_refused}
-use Rattle.sdr_answers.specs.Answering.{Comes}
+use Rattle.sdr_answers.specs.Answering.{ComesInEach}
 use Rattle.sdr_cat.specs.Changes.{UncatlgStops}
 use Rattle.sdr_model.specs.declared.answer.Reply.TheVariants as replies
 use Rattle.sdr_model.specs.declared.call.Call.TheVariants as calls
@@ -12,7 +12,7 @@ returns-in_err-uncatlg-clause-comes g c =
     let old = g.O.HasHeap.heap c.args.o.now in
     let new = g.O.HasHeap.heap c.uncatlg.new.o in
     let page = c.args.page.now in
-    let fact : Comes (calls.Uncatlg c.args.name.now) old new page page (Err c.in_err-uncatlg.field-0.0) =
+    let fact : ComesInEach (calls.Uncatlg c.args.name.now) old new page page (Err c.in_err-uncatlg.field-0.0) =
     comes_stopped (calls.Uncatlg c.args.name.now) old new page c.in_err-uncatlg.field-0.0
     (UncatlgStops c.args.name.now old new) c.in_err-uncatlg.ensures.refused
     (λ w refusal stands served m. uncatlg_refused old new w c.requires.unmoved stands served c.args.name.now page refusal m) in

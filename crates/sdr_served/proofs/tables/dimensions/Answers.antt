@@ -1,7 +1,7 @@
 use Rattle.std.proofs.Common.{rules, Err}
 use Rattle.sdr_answers.proofs.CallLemmas.{comes_answered, comes_stopped}
 use Rattle.sdr_served.proofs.TableCalls.{dimensions_answered, table_missed}
-use Rattle.sdr_answers.specs.Answering.{Comes}
+use Rattle.sdr_answers.specs.Answering.{ComesInEach}
 use Rattle.sdr_base.specs.Objects.{Misses}
 use Rattle.sdr_base.specs.declared.kind.Kind.TheVariants as kinds
 use Rattle.sdr_model.specs.declared.answer.Reply.TheVariants as replies
@@ -13,7 +13,7 @@ returns-in_err-first-clause-comes g c =
     let old = g.O.HasHeap.heap c.args.o.now in
     let new = g.O.HasHeap.heap c.dimensions.new.o in
     let page = c.args.page.now in
-    let fact : Comes (calls.Dimensions c.args.table) old new page page (Err c.in_err-first.field-0.0) =
+    let fact : ComesInEach (calls.Dimensions c.args.table) old new page page (Err c.in_err-first.field-0.0) =
     comes_stopped (calls.Dimensions c.args.table) old new page c.in_err-first.field-0.0
     (Misses (old.blocks c.args.table) c.args.table kinds.Table) c.in_err-first.ensures.refused
     (λ w refusal stands served m. table_missed old new w c.requires.unmoved stands served (calls.Dimensions c.args.table)

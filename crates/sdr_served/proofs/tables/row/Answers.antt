@@ -1,7 +1,7 @@
 use Rattle.std.proofs.Common.{rules, take, Err}
 use Rattle.sdr_answers.proofs.CallLemmas.{comes_showing, comes_stopped}
 use Rattle.sdr_served.proofs.TableCalls.{row_answered, row_unread}
-use Rattle.sdr_answers.specs.Answering.{Comes}
+use Rattle.sdr_answers.specs.Answering.{ComesInEach}
 use Rattle.sdr_table.specs.Rows.{RowStops}
 use Rattle.sdr_model.specs.declared.answer.Reply.TheVariants as replies
 use Rattle.sdr_model.specs.declared.call.Call.TheVariants as calls
@@ -12,7 +12,7 @@ returns-in_err-count-clause-comes g c =
     let old = g.O.HasHeap.heap c.args.o.now in
     let new = g.O.HasHeap.heap c.row.new.o in
     let page = c.args.page.now in
-    let fact : Comes (calls.Row c.args.table c.args.row) old new page page (Err c.in_err-count.field-0.0) =
+    let fact : ComesInEach (calls.Row c.args.table c.args.row) old new page page (Err c.in_err-count.field-0.0) =
     comes_stopped (calls.Row c.args.table c.args.row) old new page c.in_err-count.field-0.0
     (RowStops (old.blocks c.args.table) c.args.table c.args.row) c.in_err-count.ensures.refused
     (λ w refusal stands served m. row_unread old new w c.requires.unmoved stands served c.args.table c.args.row page refusal

@@ -1,7 +1,7 @@
 use Rattle.std.proofs.Common.{rules, length, Err}
 use Rattle.sdr_answers.proofs.CallLemmas.{comes_answered, comes_stopped}
 use Rattle.sdr_served.proofs.TableCalls.{row_set, row_unset}
-use Rattle.sdr_answers.specs.Answering.{Comes}
+use Rattle.sdr_answers.specs.Answering.{ComesInEach}
 use Rattle.sdr_table.specs.Rows.{SetStops}
 use Rattle.sdr_model.specs.declared.answer.Reply.TheVariants as replies
 use Rattle.sdr_model.specs.declared.call.Call.TheVariants as calls
@@ -12,7 +12,7 @@ returns-in_err-set_row-clause-comes g c =
     let old = g.O.HasHeap.heap c.args.o.now in
     let new = g.O.HasHeap.heap c.set_row.new.o in
     let page = c.args.page.now in
-    let fact : Comes (calls.SetRow c.args.table c.args.row c.args.from.now) old new page page (Err c.in_err-set_row.field-0.0) =
+    let fact : ComesInEach (calls.SetRow c.args.table c.args.row c.args.from.now) old new page page (Err c.in_err-set_row.field-0.0) =
     comes_stopped (calls.SetRow c.args.table c.args.row c.args.from.now) old new page c.in_err-set_row.field-0.0
     (SetStops c.args.table c.args.row (length c.args.from.now) old new) c.in_err-set_row.ensures.refused
     (λ w refusal stands served m. row_unset old new w c.requires.unmoved stands served c.args.table c.args.row c.args.from.now

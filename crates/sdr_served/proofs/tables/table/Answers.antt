@@ -1,7 +1,7 @@
 use Rattle.std.proofs.Common.{rules, Err}
 use Rattle.sdr_answers.proofs.CallLemmas.{comes_answered, comes_stopped}
 use Rattle.sdr_served.proofs.TableCalls.{table_made, table_unmade}
-use Rattle.sdr_answers.specs.Answering.{Comes}
+use Rattle.sdr_answers.specs.Answering.{ComesInEach}
 use Rattle.sdr_table.specs.Calls.{CreateStops}
 use Rattle.sdr_model.specs.declared.answer.Reply.TheVariants as replies
 use Rattle.sdr_model.specs.declared.call.Call.TheVariants as calls
@@ -12,7 +12,8 @@ returns-in_err-addr-clause-comes g c =
     let old = g.O.HasHeap.heap c.args.o.now in
     let new = g.O.HasHeap.heap c.create.new.o in
     let page = c.args.page.now in
-    let fact : Comes (calls.Table c.args.rows c.args.size c.args.user) old new page page (Err c.in_err-addr.field-0.0) =
+    let fact : ComesInEach (calls.Table c.args.rows c.args.size c.args.user) old new page page
+        (Err c.in_err-addr.field-0.0) =
     comes_stopped (calls.Table c.args.rows c.args.size c.args.user) old new page c.in_err-addr.field-0.0
     (CreateStops c.args.rows c.args.size old new) c.in_err-addr.ensures.refused
     (λ w refusal stands served m. table_unmade old new w c.requires.unmoved stands served c.args.rows c.args.size c.args.user

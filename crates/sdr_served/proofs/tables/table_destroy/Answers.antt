@@ -1,7 +1,7 @@
 use Rattle.std.proofs.Common.{rules, Err}
 use Rattle.sdr_answers.proofs.CallLemmas.{comes_answered, comes_stopped}
 use Rattle.sdr_served.proofs.TableCalls.{table_destroyed, table_undestroyed}
-use Rattle.sdr_answers.specs.Answering.{Comes}
+use Rattle.sdr_answers.specs.Answering.{ComesInEach}
 use Rattle.sdr_table.specs.Calls.{DestroyStops}
 use Rattle.sdr_model.specs.declared.answer.Reply.TheVariants as replies
 use Rattle.sdr_model.specs.declared.call.Call.TheVariants as calls
@@ -12,7 +12,7 @@ returns-in_err-destroy-clause-comes g c =
     let old = g.O.HasHeap.heap c.args.o.now in
     let new = g.O.HasHeap.heap c.destroy.new.o in
     let page = c.args.page.now in
-    let fact : Comes (calls.TableDestroy c.args.table) old new page page (Err c.in_err-destroy.field-0.0) =
+    let fact : ComesInEach (calls.TableDestroy c.args.table) old new page page (Err c.in_err-destroy.field-0.0) =
     comes_stopped (calls.TableDestroy c.args.table) old new page c.in_err-destroy.field-0.0 (DestroyStops c.args.table old new)
     c.in_err-destroy.ensures.refused
     (λ w refusal stands served m. table_undestroyed old new w c.requires.unmoved stands served c.args.table page refusal m) in

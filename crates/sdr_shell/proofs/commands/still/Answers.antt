@@ -93,9 +93,9 @@ returns-in-Some-Format g c =
                 (subst (λ d. AnswersFormat c.format_disk-status.result c.in-Some-Format.frame (g.D.Disk.size c.args.disk) disk (seen g.D.Disk.bytes g.D.Disk.faults d) sink sink') (sym kept) answers),
           );
       synced = on_form _ (Format c.in-Some-Format.frame)
-          (λ _. HasFormatted c.outcome-in-Some-Format.result.status → IsSynced g.D.Disk.bytes g.D.Disk.moment g.D.Disk.may_leave c.outcome-in-Some-Format.result.disk) form
-          (subst (λ s. HasFormatted s → IsSynced g.D.Disk.bytes g.D.Disk.moment g.D.Disk.may_leave c.outcome-in-Some-Format.result.disk) (sym status)
-          (subst (λ d. HasFormatted c.format_disk-status.result → IsSynced g.D.Disk.bytes g.D.Disk.moment g.D.Disk.may_leave d) (sym kept) e.synced));
+          (λ _. HasFormatted c.outcome-in-Some-Format.result.status → IsSynced g.D.Disk.bytes g.D.Disk.moment g.D.Disk.may_hold_after c.outcome-in-Some-Format.result.disk) form
+          (subst (λ s. HasFormatted s → IsSynced g.D.Disk.bytes g.D.Disk.moment g.D.Disk.may_hold_after c.outcome-in-Some-Format.result.disk) (sym status)
+          (subst (λ d. HasFormatted c.format_disk-status.result → IsSynced g.D.Disk.bytes g.D.Disk.moment g.D.Disk.may_hold_after d) (sym kept) e.synced));
       counts = search rules;
       given = search rules;
       media = search rules;

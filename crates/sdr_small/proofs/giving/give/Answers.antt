@@ -1,7 +1,7 @@
 -- A block in use can be given back, and what is done is the rule.
 use Rattle.std.proofs.Common.{refl, arith}
 use Rattle.std.proofs.lemmas.Result.{on_ok_weaker}
-use Rattle.sdr_small.proofs.CallsLemmas.{can_give, gives_back, Gives-kept}
+use Rattle.sdr_small.proofs.CallsLemmas.{can_give, gives_back, GivesSmall-kept}
 use Rattle.sdr_small.proofs.giving.give.Goals as goal
 
 pub overflow_sub-addr : goal.overflow_sub-addr
@@ -26,6 +26,6 @@ returns-clause-given g c =
 pub returns-clause-kept : goal.returns-clause-kept
 returns-clause-kept g c =
     on_ok_weaker c.put_front.result
-    (λ puts. Gives-kept _ _ c.args.addr c.requires.used
+    (λ puts. GivesSmall-kept _ _ c.args.addr c.requires.used
     (gives_back _ _ _ c.in_ok-words.words c.args.addr c.in_ok-words.ensures.same c.in_ok-words.ensures.given puts))
     c.put_front.ensures.front

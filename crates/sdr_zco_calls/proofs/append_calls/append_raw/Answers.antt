@@ -6,7 +6,7 @@ use Rattle.sdr_draft.proofs.CallingLemmas.{bounded_object}
 use Rattle.sdr_model.proofs.Cases.{some_is}
 use Rattle.sdr_model.specs.Amounts.{amounts_by}
 use Rattle.sdr_model.specs.Charges.{bytes_charge, space_in}
-use Rattle.sdr_model.specs.Charging.{with_used}
+use Rattle.sdr_model.specs.Charging.{with_covered}
 use Rattle.sdr_model.specs.Dry.{next_addr, with_blocks}
 use Rattle.sdr_model.specs.ObjectSteps.{with_object}
 use Rattle.sdr_model.specs.SourceSteps.{new_source}
@@ -75,7 +75,7 @@ returns-in-Ok c =
     let fresh = c.next-source.ensures.fresh src (omega (arith, c.next-source.ensures.value)) in
     let charges = component_charges w made in
     let taking = λ (n : ℕ). things.Source (new_source (subjects.Heap a.named) n) in
-    let grown = with_object (with_blocks (with_used w p charges) 2) a.object (with_component z.0 made) in
+    let grown = with_object (with_blocks (with_covered w p charges) 2) a.object (with_component z.0 made) in
     let put = grown_at w c.touch.new.self.now a.object a.ticket 2 z.0 c.extent-extent.result made c.touch.ensures.now z.1 component
     c.add_component.new.world.now _ p c.in-Ok.is c.in_ok-add_component.ensures.added in
     record {

@@ -26,7 +26,7 @@ loop-extent-preserved c =
     let goes = λ (n : ℕ). if n == uses_of w e.source then source_blocks e.source (source_at w e.source) else [] in
     record {
       seen = λ s. c.in_ok-count.ensures.counted s ∙ ap (λ n. n + one s) (c.loop-extent.invariant.seen s) ∙ more s;
-      gone = ap (λ (g : List ℕ). g ++ rest) (c.in_ok-add_last.ensures
+      gone = ap (λ (g : List ℕ). g ++ rest) (c.in_ok-add_if_last.ensures
           ∙ ap (λ all. c.loop-extent.gone ++ (if c.in_ok-count.count == all then source_blocks e.source (source_at w e.source) else [])) uses)
           ∙ append_assoc c.loop-extent.gone (goes c.in_ok-count.count) rest
           ∙ ap (λ (t : List ℕ). c.loop-extent.gone ++ t)

@@ -4,7 +4,7 @@ use Rattle.sdr_base.specs.declared.kind.Space.TheVariants as spaces
 use Rattle.sdr_draft.specs.Allowed.{MayCharge}
 use Rattle.sdr_model.specs.Amounts.{in_space}
 use Rattle.sdr_model.specs.Charges.{object_bytes}
-use Rattle.sdr_model.specs.Charging.{with_used}
+use Rattle.sdr_model.specs.Charging.{with_covered}
 use Rattle.sdr_model.specs.Dry.{StepsDry, dry_moves, with_blocks}
 use Rattle.sdr_model.specs.ObjectSteps.{with_object}
 use Rattle.sdr_model.specs.Things.{object_need}
@@ -23,16 +23,16 @@ returns-in-Ok c =
     let call : Call = calls.Create c.args.acct c.args.number in
     let may = subst (λ v. MayCharge v c.args.acct c.args.number amounts p) c.touch.ensures.now
     (subst (λ r. IfOk r (MayCharge c.touch.new.self.now c.args.acct c.args.number amounts)) c.in-Ok.is c.in_ok-charge_blocks.ensures.allowed) in
-    let taken = subst (λ r. IfOk r (λ p. c.charge_blocks.new.world.now ≡ with_blocks (with_used c.touch.new.self.now p amounts) 1))
+    let taken = subst (λ r. IfOk r (λ p. c.charge_blocks.new.world.now ≡ with_blocks (with_covered c.touch.new.self.now p amounts) 1))
     c.in-Ok.is c.in_ok-charge_blocks.ensures.taken in
-    let charged : c.charge_blocks.new.world.now ≡ with_blocks (with_used w p amounts) 1 =
-    taken ∙ ap (λ v. with_blocks (with_used v p amounts) 1) c.touch.ensures.now in
+    let charged : c.charge_blocks.new.world.now ≡ with_blocks (with_covered w p amounts) 1 =
+    taken ∙ ap (λ v. with_blocks (with_covered v p amounts) 1) c.touch.ensures.now in
     record {
       step = subst (λ a. StepsDry w call (dry_moves w call (replies.At a)) c.put.new.self.now (replies.At a)) (sym c.next-addr.ensures.value)
           (one-step w c.put.new.self.now call c.args.acct c.args.number object_need (in_space spaces.Heap object_bytes) amounts
           (λ addr. addr) (λ addr. empty_object c.args.acct) (λ addr. replies.At addr) (λ o row. row) c.heap_charge.ensures p may
           (c.put.ensures.put ∙ ap (λ v. with_object v c.next-addr.result c.empty_object.result) charged
-          ∙ ap₂ (with_object (with_blocks (with_used w p amounts) 1)) c.next-addr.ensures.value c.empty_object.ensures));
+          ∙ ap₂ (with_object (with_blocks (with_covered w p amounts) 1)) c.next-addr.ensures.value c.empty_object.ensures));
       begun = c.put.ensures.keeps.begun ∙ c.charge_blocks.ensures.keeps.begun ∙ c.touch.ensures.keeps.begun;
       same = tt;
     }

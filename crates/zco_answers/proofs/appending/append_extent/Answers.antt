@@ -1,7 +1,7 @@
 -- A part of a source or of a raw object, appended or refused.
 use Rattle.std.proofs.Common.{rules, Err}
 use Rattle.std.proofs.lemmas.Result.{err_from_is_err_and}
-use Rattle.sdr_answers.specs.Answering.{Comes}
+use Rattle.sdr_answers.specs.Answering.{ComesInEach}
 use Rattle.sdr_answers.proofs.ListLemmas.{IsSmall}
 use Rattle.sdr_answers.proofs.CallLemmas.{comes_answered, comes_stopped}
 use Rattle.sdr_base.proofs.WorksLemmas.{works_ok, works_stopped}
@@ -21,7 +21,7 @@ returns-in_err-append_extent-clause-comes g c =
       few = g.met.O.Objects.few c.args.o.now c.requires.kept;
       small = g.met.O.Objects.small c.args.o.now c.requires.kept;
     } in
-    let fact : Comes call old new page page (Err c.in_err-append_extent.field-0.0) =
+    let fact : ComesInEach call old new page page (Err c.in_err-append_extent.field-0.0) =
     comes_stopped call old new page c.in_err-append_extent.field-0.0
     (AppendStops c.args.object c.args.ticket (record { of = c.args.named; offset = c.args.offset; bytes = c.args.bytes }) old new)
     c.in_err-append_extent.ensures.refused

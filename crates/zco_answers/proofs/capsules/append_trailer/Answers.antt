@@ -1,6 +1,6 @@
 -- A trailer, put behind or refused.
 use Rattle.std.proofs.Common.{rules, Err, refl}
-use Rattle.sdr_answers.specs.Answering.{Comes}
+use Rattle.sdr_answers.specs.Answering.{ComesInEach}
 use Rattle.sdr_answers.proofs.ListLemmas.{IsSmall}
 use Rattle.sdr_answers.proofs.CallLemmas.{comes_answered, comes_stopped}
 use Rattle.sdr_model.specs.ObjectSteps.{with_trailer}
@@ -22,7 +22,7 @@ returns-in_err-append_trailer-clause-comes g c =
       few = g.met.O.Objects.few c.args.o.now c.requires.kept;
       small = g.met.O.Objects.small c.args.o.now c.requires.kept;
     } in
-    let fact : Comes call old new page page (Err c.in_err-append_trailer.field-0.0) =
+    let fact : ComesInEach call old new page page (Err c.in_err-append_trailer.field-0.0) =
     comes_stopped call old new page c.in_err-append_trailer.field-0.0
     (CapsuleStops c.args.object c.args.ticket c.args.text.now old new) c.in_err-append_trailer.ensures.refused
     (λ w refusal stands served m.

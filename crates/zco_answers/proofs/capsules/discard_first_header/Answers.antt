@@ -2,7 +2,7 @@
 use Rattle.std.proofs.Common.{rules, Err, arith, refl}
 use Rattle.std.proofs.lemmas.Result.{err_from_is_err_and}
 use Rattle.std.specs.Prelude.{slice_get}
-use Rattle.sdr_answers.specs.Answering.{Comes}
+use Rattle.sdr_answers.specs.Answering.{ComesInEach}
 use Rattle.sdr_answers.proofs.ListLemmas.{IsSmall}
 use Rattle.sdr_answers.proofs.CallLemmas.{comes_answered, comes_stopped}
 use Rattle.sdr_base.proofs.WorksLemmas.{looks_then, works_more, works_ok, works_stopped, works_then}
@@ -27,7 +27,7 @@ returns-in_err-discard_first_header-clause-comes g c =
       few = g.met.O.Objects.few c.args.o.now c.requires.kept;
       small = g.met.O.Objects.small c.args.o.now c.requires.kept;
     } in
-    let fact : Comes call old new page page (Err c.in_err-discard_first_header.field-0.0) =
+    let fact : ComesInEach call old new page page (Err c.in_err-discard_first_header.field-0.0) =
     comes_stopped call old new page c.in_err-discard_first_header.field-0.0 (DiscardStops rows.first_header c.args.object old new)
     c.in_err-discard_first_header.ensures.refused
     (λ w refusal stands served m.
@@ -54,7 +54,7 @@ returns-in_err-serve-clause-comes g c =
       few = g.met.O.Objects.few c.args.o.now c.requires.kept;
       small = g.met.O.Objects.small c.args.o.now c.requires.kept;
     } in
-    let fact : Comes call old new page page (Err c.in_err-serve.field-0.0) =
+    let fact : ComesInEach call old new page page (Err c.in_err-serve.field-0.0) =
     comes_stopped call old new page c.in_err-serve.field-0.0 (OnlyUnmoved heap new) c.in_err-serve.ensures.refused
     (λ w refusal stands served m.
     let d = dropped old w c.requires.unmoved stands served small (λ z. slice_get z.headers 0) without_header rows.first_header rows.without_header drops_header header_fits call refl

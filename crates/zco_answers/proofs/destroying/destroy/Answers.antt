@@ -1,7 +1,7 @@
 -- An object, destroyed or refused.
 use Rattle.std.proofs.Common.{rules, Err, arith}
 use Rattle.std.proofs.lemmas.Result.{err_from_is_err_and}
-use Rattle.sdr_answers.specs.Answering.{Comes}
+use Rattle.sdr_answers.specs.Answering.{ComesInEach}
 use Rattle.sdr_answers.proofs.ListLemmas.{IsSmall}
 use Rattle.sdr_answers.proofs.CallLemmas.{comes_answered, comes_stopped}
 use Rattle.sdr_audit.specs.Rows.{object_row}
@@ -26,7 +26,7 @@ returns-in_err-expect_kind-clause-comes g c =
       few = g.met.O.Objects.few c.args.o.now c.requires.kept;
       small = g.met.O.Objects.small c.args.o.now c.requires.kept;
     } in
-    let fact : Comes call old new page page (Err c.in_err-expect_kind.field-0.0) =
+    let fact : ComesInEach call old new page page (Err c.in_err-expect_kind.field-0.0) =
     comes_stopped call old new page c.in_err-expect_kind.field-0.0 (Misses (old.blocks c.args.object) c.args.object kinds.Object)
     c.in_err-expect_kind.ensures.refused
     (λ w refusal stands served m.
@@ -53,7 +53,7 @@ returns-in_err-destroy-clause-comes g c =
       small = g.met.O.Objects.small c.args.o.now c.requires.kept;
     } in
     let stops = rw (c.account.ensures.looks.same, c.expect_kind.ensures.looks.same) at c.in_err-destroy.ensures.refused in
-    let fact : Comes call old new page page (Err c.in_err-destroy.field-0.0) =
+    let fact : ComesInEach call old new page page (Err c.in_err-destroy.field-0.0) =
     comes_stopped call old new page c.in_err-destroy.field-0.0 (DestroyStops c.args.object old new) stops
     (λ w refusal stands served m. undestroyed old w c.requires.unmoved stands served small c.args.object new page refusal m) in
     search rules
@@ -82,7 +82,7 @@ returns-in_err-serve-clause-comes g c =
       small = g.met.O.Objects.small c.args.o.now c.requires.kept;
     } in
     let d = rw (c.account.ensures.looks.same, c.expect_kind.ensures.looks.same) at c.in_ok-destroy.ensures.destroyed in
-    let fact : Comes call old new page page (Err c.in_err-serve.field-0.0) =
+    let fact : ComesInEach call old new page page (Err c.in_err-serve.field-0.0) =
     comes_stopped call old new page c.in_err-serve.field-0.0 (OnlyUnmoved mid new) c.in_err-serve.ensures.refused
     (λ w refusal stands served m. unserved old w c.requires.unmoved stands served small c.args.object d new page refusal m) in
     search rules

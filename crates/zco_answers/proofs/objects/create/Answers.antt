@@ -1,6 +1,6 @@
 -- An object, made or refused.
 use Rattle.std.proofs.Common.{rules, Err}
-use Rattle.sdr_answers.specs.Answering.{Comes}
+use Rattle.sdr_answers.specs.Answering.{ComesInEach}
 use Rattle.sdr_answers.proofs.CallLemmas.{comes_answered, comes_stopped}
 use Rattle.sdr_model.specs.declared.answer.Reply.TheVariants as replies
 use Rattle.sdr_model.specs.declared.call.Call.TheVariants as calls
@@ -14,7 +14,7 @@ returns-in_err-addr-clause-comes g c =
     let new = g.O.HasHeap.heap c.create.new.o in
     let page = c.args.page.now in
     let call = calls.Create c.args.acct c.args.ticket in
-    let fact : Comes call old new page page (Err c.in_err-addr.field-0.0) =
+    let fact : ComesInEach call old new page page (Err c.in_err-addr.field-0.0) =
     comes_stopped call old new page c.in_err-addr.field-0.0 (CreateStops c.args.acct c.args.ticket old new)
     c.in_err-addr.ensures.refused
     (λ w refusal stands served m.

@@ -1,6 +1,6 @@
 -- An object's length on the wire, told or refused.
 use Rattle.std.proofs.Common.{rules, Err}
-use Rattle.sdr_answers.specs.Answering.{Comes}
+use Rattle.sdr_answers.specs.Answering.{ComesInEach}
 use Rattle.sdr_answers.proofs.ListLemmas.{IsSmall}
 use Rattle.sdr_answers.proofs.CallLemmas.{comes_answered, comes_stopped}
 use Rattle.zco_answers.proofs.ReadingCalls.{length_answered, length_refused}
@@ -16,7 +16,7 @@ returns-in_err-value-clause-comes g c =
     let new = g.O.HasHeap.heap c.length.new.o in
     let page = c.args.page.now in
     let call = calls.ZcoLength c.args.object in
-    let fact : Comes call old new page page (Err c.in_err-value.field-0.0) =
+    let fact : ComesInEach call old new page page (Err c.in_err-value.field-0.0) =
     comes_stopped call old new page c.in_err-value.field-0.0
     (Misses (old.blocks c.args.object) c.args.object kinds.Object) c.in_err-value.ensures.refused
     (λ w refusal stands served m.

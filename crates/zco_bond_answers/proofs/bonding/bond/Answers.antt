@@ -3,7 +3,7 @@ use Rattle.std.proofs.Common.{rules, Err}
 use Rattle.std.proofs.lemmas.Result.{err_from_is_err_and}
 use Rattle.sdr_answers.proofs.CallLemmas.{comes_answered, comes_stopped}
 use Rattle.sdr_answers.proofs.ListLemmas.{IsSmall}
-use Rattle.sdr_answers.specs.Answering.{Comes}
+use Rattle.sdr_answers.specs.Answering.{ComesInEach}
 use Rattle.sdr_base.proofs.WorksLemmas.{works_ok, works_stopped}
 use Rattle.sdr_model.specs.declared.answer.Reply.TheVariants as replies
 use Rattle.sdr_model.specs.declared.call.Call.TheVariants as calls
@@ -27,7 +27,7 @@ returns-in_err-bond-clause-comes g c =
       few = g.met.O.Objects.few c.args.o.now c.requires.kept;
       small = g.met.O.Objects.small c.args.o.now c.requires.kept;
     } in
-    let fact : Comes call old new page page (Err c.in_err-bond.field-0.0) =
+    let fact : ComesInEach call old new page page (Err c.in_err-bond.field-0.0) =
     comes_stopped call old new page c.in_err-bond.field-0.0 (BondStops c.args.object c.args.ticket old new)
     c.in_err-bond.ensures.refused
     (λ w refusal stands served m.

@@ -1,7 +1,7 @@
 -- A maximum is set, and the queue served.
 use Rattle.std.proofs.Common.{arith, refl, rules, Err}
 use Rattle.std.proofs.lemmas.Result.{err_from_is_err_and}
-use Rattle.sdr_answers.specs.Answering.{Comes}
+use Rattle.sdr_answers.specs.Answering.{ComesInEach}
 use Rattle.sdr_base.proofs.WorksLemmas.{works_more, works_ok, works_stopped, works_then}
 use Rattle.sdr_base.specs.Objects.{OnlyUnmoved}
 use Rattle.sdr_model.specs.declared.answer.Reply.TheVariants as replies
@@ -18,7 +18,7 @@ returns-in_err-set_maximum-clause-comes g c =
     let new = g.O.HasHeap.heap c.set_maximum.new.o in
     let page = c.args.page.now in
     let call = calls.SetMaximum c.args.acct c.args.space c.args.value in
-    let fact : Comes call old new page page (Err c.in_err-set_maximum.field-0.0) =
+    let fact : ComesInEach call old new page page (Err c.in_err-set_maximum.field-0.0) =
     comes_stopped call old new page c.in_err-set_maximum.field-0.0 (MaximumStops c.args.space c.args.value old new)
     c.in_err-set_maximum.ensures.refused
     (λ w refusal stands served m. maximum_refused old new w c.args.acct c.args.space c.args.value page refusal c.requires.unmoved m) in
@@ -37,7 +37,7 @@ returns-in_err-serve-clause-comes g c =
     let page = c.args.page.now in
     let call = calls.SetMaximum c.args.acct c.args.space c.args.value in
     let small = c.in_ok-set_maximum.ensures.set.small in
-    let fact : Comes call old new page page (Err c.in_err-serve.field-0.0) =
+    let fact : ComesInEach call old new page page (Err c.in_err-serve.field-0.0) =
     comes_stopped call old new page c.in_err-serve.field-0.0 (OnlyUnmoved mid new) c.in_err-serve.ensures.refused
     (λ w refusal stands served m.
     log_full w call old mid new page refusal refl (maximum_aim w c.args.acct c.args.space c.args.value small) m) in

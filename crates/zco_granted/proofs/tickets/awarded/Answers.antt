@@ -1,6 +1,6 @@
 -- A ticket is awarded, or it isn't.
 use Rattle.std.proofs.Common.{rules, Err}
-use Rattle.sdr_answers.specs.Answering.{Comes}
+use Rattle.sdr_answers.specs.Answering.{ComesInEach}
 use Rattle.sdr_model.specs.declared.answer.Reply.TheVariants as replies
 use Rattle.sdr_model.specs.declared.call.Call.TheVariants as calls
 use Rattle.sdr_answers.proofs.CallLemmas.{comes_answered, comes_stopped}
@@ -13,7 +13,7 @@ returns-in_err-awarded-clause-comes g c =
     let old = g.O.HasHeap.heap c.args.o.now in
     let new = g.O.HasHeap.heap c.awarded.new.o in
     let page = c.args.page.now in
-    let fact : Comes (calls.Awarded c.args.ticket) old new page page (Err c.in_err-awarded.field-0.0) =
+    let fact : ComesInEach (calls.Awarded c.args.ticket) old new page page (Err c.in_err-awarded.field-0.0) =
     comes_stopped (calls.Awarded c.args.ticket) old new page c.in_err-awarded.field-0.0 (AwardStops old c.args.ticket)
     c.in_err-awarded.ensures.refused
     (λ w refusal stands served m. awarded_refused old new w c.requires.unmoved stands served c.in_err-awarded.ensures.looks.same

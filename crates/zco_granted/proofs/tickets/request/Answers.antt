@@ -1,7 +1,7 @@
 -- A ticket is given, or the call is refused.
 use Rattle.std.proofs.Common.{arith, rules, Err}
 use Rattle.std.proofs.lemmas.Result.{err_from_is_err_and}
-use Rattle.sdr_answers.specs.Answering.{Comes}
+use Rattle.sdr_answers.specs.Answering.{ComesInEach}
 use Rattle.sdr_base.proofs.WorksLemmas.{works_more, works_ok, works_stopped}
 use Rattle.sdr_model.specs.Accounts.{tickets_of}
 use Rattle.sdr_model.specs.declared.answer.Reply.TheVariants as replies
@@ -19,7 +19,7 @@ returns-in_err-number-clause-comes g c =
     let page = c.args.page.now in
     let a = c.args.asking.now in
     let call = asks a.acct a.asked a.coarse a.fine in
-    let fact : Comes call old new page page (Err c.in_err-number.field-0.0) =
+    let fact : ComesInEach call old new page page (Err c.in_err-number.field-0.0) =
     comes_stopped call old new page c.in_err-number.field-0.0 (RequestStops a.acct a.asked old new)
     c.in_err-number.ensures.refused
     (λ w refusal stands served m.

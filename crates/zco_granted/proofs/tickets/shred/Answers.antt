@@ -1,7 +1,7 @@
 -- A ticket goes, or the call is refused.
 use Rattle.std.proofs.Common.{arith, rules, Err}
 use Rattle.std.proofs.lemmas.Result.{err_from_is_err_and}
-use Rattle.sdr_answers.specs.Answering.{Comes}
+use Rattle.sdr_answers.specs.Answering.{ComesInEach}
 use Rattle.sdr_base.proofs.WorksLemmas.{works_more, works_ok, works_stopped}
 use Rattle.sdr_base.specs.declared.account.Acct.TheVariants as accts
 use Rattle.sdr_model.specs.declared.answer.Reply.TheVariants as replies
@@ -18,7 +18,7 @@ returns-in_err-shred-clause-comes g c =
     let old = g.O.HasHeap.heap c.args.o.now in
     let new = g.O.HasHeap.heap c.shred.new.o in
     let page = c.args.page.now in
-    let fact : Comes (calls.Shred c.args.ticket) old new page page (Err c.in_err-shred.field-0.0) =
+    let fact : ComesInEach (calls.Shred c.args.ticket) old new page page (Err c.in_err-shred.field-0.0) =
     comes_stopped (calls.Shred c.args.ticket) old new page c.in_err-shred.field-0.0 (ShredStops c.args.ticket old new)
     c.in_err-shred.ensures.refused
     (λ w refusal stands served m. shredded_refused old new w c.args.ticket page refusal c.requires.unmoved stands served m) in

@@ -3,7 +3,7 @@ use Rattle.std.proofs.Common.{arith, ap}
 use Rattle.std.proofs.Common.{length}
 use Rattle.std.proofs.lemmas.Result.{err_from_is_err_and}
 use Rattle.sdr_base.proofs.WorksLemmas.{looks_then, looks_works, works_more, works_ok, works_stopped, works_then}
-use Rattle.zco_obj.specs.declared.extent.Piece.{Piece}
+use Rattle.zco_obj.specs.declared.extent.ExtentPiece.{ExtentPiece}
 use Rattle.zco_obj.proofs.ChargeLemmas.{some_queue}
 use Rattle.zco_part.proofs.AskedLemmas.{some_beside, some_kept, with_queue}
 use Rattle.zco_part.proofs.CloneLemmas.{clones, copy_then, not_copied, not_made, some_copy, spare_enough, these, uncharged}
@@ -101,7 +101,7 @@ returns-in_err-copy_chain-clause-works g c =
     let v = rw c.account.ensures.looks.same at c.in_ok-seen.ensures.seen in
     let d = rw (c.see_asked.ensures.looks.same, c.account.ensures.looks.same) at c.in_ok-charge_clone.ensures.charged in
     λ row tickets sources k.
-    let n = ap (length {A = Piece}) (these c.args.ticket c.in_ok-seen.seen t v c.requires.has k) in
+    let n = ap (length {A = ExtentPiece}) (these c.args.ticket c.in_ok-seen.seen t v c.requires.has k) in
     rw (p.1, p.2)
     (works_stopped _
     (works_more (looks_then c.in_ok-acct.ensures.looks (looks_then c.in_ok-seen.ensures.looks
@@ -122,7 +122,7 @@ returns-clause-works g c =
     let v = rw c.account.ensures.looks.same at c.in_ok-seen.ensures.seen in
     let d = rw (c.see_asked.ensures.looks.same, c.account.ensures.looks.same) at c.in_ok-charge_clone.ensures.charged in
     λ row tickets sources k.
-    let n = ap (length {A = Piece}) (these c.args.ticket c.in_ok-seen.seen t v c.requires.has k) in
+    let n = ap (length {A = ExtentPiece}) (these c.args.ticket c.in_ok-seen.seen t v c.requires.has k) in
     works_ok
     (works_more (looks_then c.in_ok-acct.ensures.looks (looks_then c.in_ok-seen.ensures.looks
     (works_then (works_then c.in_ok-charge_clone.ensures.works c.in_ok-clone.ensures.works)

@@ -1,6 +1,6 @@
 -- The part of an object, set or refused.
 use Rattle.std.proofs.Common.{rules, Err}
-use Rattle.sdr_answers.specs.Answering.{Comes}
+use Rattle.sdr_answers.specs.Answering.{ComesInEach}
 use Rattle.sdr_answers.proofs.ListLemmas.{IsSmall}
 use Rattle.sdr_answers.proofs.CallLemmas.{comes_answered, comes_stopped}
 use Rattle.sdr_model.specs.declared.answer.Reply.TheVariants as replies
@@ -19,7 +19,7 @@ returns-in_err-delimit-clause-comes g c =
       few = g.met.O.Objects.few c.args.o.now c.requires.kept;
       small = g.met.O.Objects.small c.args.o.now c.requires.kept;
     } in
-    let fact : Comes call old new page page (Err c.in_err-delimit.field-0.0) =
+    let fact : ComesInEach call old new page page (Err c.in_err-delimit.field-0.0) =
     comes_stopped call old new page c.in_err-delimit.field-0.0 (DelimitStops c.args.object c.args.offset c.args.bytes old new)
     c.in_err-delimit.ensures.refused
     (λ w refusal stands served m.

@@ -1,6 +1,6 @@
 -- The source goes, or its count is set to one less.
 use Rattle.std.proofs.Common.{◌+◌, ◌*◌, ◌∙◌, sym, arith, rules, Err}
-use Rattle.sdr_base.specs.Works.{Works}
+use Rattle.sdr_base.specs.Works.{Spends}
 use Rattle.sdr_base.proofs.WorksLemmas.{looks_then, works_more, works_ok}
 use Rattle.zco_ref.specs.Counting.{DetachStops}
 use Rattle.zco_ref.specs.Going.{going}
@@ -37,7 +37,7 @@ pub returns-in_err-vanish-clause-works : goal.returns-in_err-vanish-clause-works
 returns-in_err-vanish-clause-works g c =
     let e = going_told c.args.source c.args.acct (g.O.HasHeap.heap c.args.o.now) c.in_ok-seen.seen c.in_ok-seen.ensures.seen
     c.requires.source (sym c.goes_next.ensures ∙ c.if-goes_next.true) in
-    let w : Works {T = Unit {0}} g.O.HasHeap (4 + 24 * going ((g.O.HasHeap.heap c.args.o.now).blocks c.args.source)) c.args.o.now c.vanish.new.o
+    let w : Spends {T = Unit {0}} g.O.HasHeap (4 + 24 * going ((g.O.HasHeap.heap c.args.o.now).blocks c.args.source)) c.args.o.now c.vanish.new.o
     (Err c.in_err-vanish.field-0.0) =
     works_more (looks_then c.in_ok-seen.ensures.looks c.in_err-vanish.ensures.works) (omega (arith, e)) in search rules
 

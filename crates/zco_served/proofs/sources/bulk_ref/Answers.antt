@@ -1,6 +1,6 @@
 -- A source of an item, made or refused.
 use Rattle.std.proofs.Common.{rules, Err}
-use Rattle.sdr_answers.specs.Answering.{Comes}
+use Rattle.sdr_answers.specs.Answering.{ComesInEach}
 use Rattle.sdr_answers.proofs.CallLemmas.{comes_answered, comes_stopped}
 use Rattle.zco_served.proofs.MakingCalls.{bulk_made, bulk_unmade}
 use Rattle.zco_ref.specs.Making.{BulkStops}
@@ -13,7 +13,7 @@ returns-in_err-addr-clause-comes g c =
     let old = g.O.HasHeap.heap c.args.o.now in
     let new = g.O.HasHeap.heap c.bulk_ref.new.o in
     let page = c.args.page.now in
-    let fact : Comes (calls.BulkRef c.args.item c.args.bytes) old new page page (Err c.in_err-addr.field-0.0) =
+    let fact : ComesInEach (calls.BulkRef c.args.item c.args.bytes) old new page page (Err c.in_err-addr.field-0.0) =
     comes_stopped (calls.BulkRef c.args.item c.args.bytes) old new page c.in_err-addr.field-0.0 (BulkStops c.args.bytes old new) c.in_err-addr.ensures.refused
     (λ w refusal stands served m. bulk_unmade old new w c.requires.unmoved stands served c.args.item c.args.bytes page refusal m) in
     search rules

@@ -1,6 +1,6 @@
 -- A count, read or refused.
 use Rattle.std.proofs.Common.{rules, Err}
-use Rattle.sdr_answers.specs.Answering.{Comes}
+use Rattle.sdr_answers.specs.Answering.{ComesInEach}
 use Rattle.sdr_answers.proofs.ListLemmas.{IsSmall}
 use Rattle.sdr_answers.proofs.CallLemmas.{comes_answered, comes_stopped}
 use Rattle.zco_served.proofs.CountingCalls.{count_answered, count_refused}
@@ -19,7 +19,7 @@ returns-in_err-value-clause-comes g c =
       few = g.met.O.Objects.few c.args.o.now c.requires.kept;
       small = g.met.O.Objects.small c.args.o.now c.requires.kept;
     } in
-    let fact : Comes (calls.Count c.args.source) old new page page (Err c.in_err-value.field-0.0) =
+    let fact : ComesInEach (calls.Count c.args.source) old new page page (Err c.in_err-value.field-0.0) =
     comes_stopped (calls.Count c.args.source) old new page c.in_err-value.field-0.0 (Misses (old.blocks c.args.source) c.args.source kinds.Source) c.in_err-value.ensures.refused
     (λ w refusal stands served m. count_refused old new w c.requires.unmoved stands served c.in_err-value.ensures.looks.same c.args.source page refusal m) in
     search rules

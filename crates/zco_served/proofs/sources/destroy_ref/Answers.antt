@@ -1,6 +1,6 @@
 -- A source, destroyed or refused.
 use Rattle.std.proofs.Common.{rules, Err}
-use Rattle.sdr_answers.specs.Answering.{Comes}
+use Rattle.sdr_answers.specs.Answering.{ComesInEach}
 use Rattle.sdr_answers.proofs.ListLemmas.{IsSmall}
 use Rattle.sdr_answers.proofs.CallLemmas.{comes_answered, comes_stopped}
 use Rattle.zco_served.proofs.DroppingCalls.{destroyed, undestroyed}
@@ -18,7 +18,7 @@ returns-in_err-destroy_ref-clause-comes g c =
       few = g.met.O.Objects.few c.args.o.now c.requires.kept;
       small = g.met.O.Objects.small c.args.o.now c.requires.kept;
     } in
-    let fact : Comes (calls.DestroyRef c.args.source) old new page page (Err c.in_err-destroy_ref.field-0.0) =
+    let fact : ComesInEach (calls.DestroyRef c.args.source) old new page page (Err c.in_err-destroy_ref.field-0.0) =
     comes_stopped (calls.DestroyRef c.args.source) old new page c.in_err-destroy_ref.field-0.0 (DestroyStops c.args.source old new) c.in_err-destroy_ref.ensures.refused
     (λ w refusal stands served m. undestroyed old new w c.requires.unmoved stands served c.args.source page refusal small m) in
     search rules

@@ -1,6 +1,6 @@
 -- A source of a raw object, made or refused.
 use Rattle.std.proofs.Common.{rules, Err}
-use Rattle.sdr_answers.specs.Answering.{Comes}
+use Rattle.sdr_answers.specs.Answering.{ComesInEach}
 use Rattle.sdr_answers.proofs.ListLemmas.{IsSmall}
 use Rattle.sdr_answers.proofs.CallLemmas.{comes_answered, comes_stopped}
 use Rattle.zco_served.proofs.NamingCalls.{obj_made, obj_unmade}
@@ -18,7 +18,7 @@ returns-in_err-addr-clause-comes g c =
       few = g.met.O.Objects.few c.args.o.now c.requires.kept;
       small = g.met.O.Objects.small c.args.o.now c.requires.kept;
     } in
-    let fact : Comes (calls.ObjRef c.args.raw) old new page page (Err c.in_err-addr.field-0.0) =
+    let fact : ComesInEach (calls.ObjRef c.args.raw) old new page page (Err c.in_err-addr.field-0.0) =
     comes_stopped (calls.ObjRef c.args.raw) old new page c.in_err-addr.field-0.0 (NamingStops c.args.raw old new) c.in_err-addr.ensures.refused
     (λ w refusal stands served m. obj_unmade old new w c.requires.unmoved stands served c.args.raw page refusal small m) in
     search rules

@@ -1,6 +1,6 @@
 use Rattle.std.proofs.Common.{inl, subst, sym}
 use Rattle.sdr_lock.specs.Roll.{MayDraw, held_by}
-use Rattle.sdr_core.specs.CoreKept.{Kept}
+use Rattle.sdr_core.specs.CoreKept.{LoggedLock}
 use Rattle.sdr_core.proofs.CoreLemmas.{core_after, core_either, core_spoken, core_stands}
 use Rattle.sdr_core.proofs.core_run.Core.event.Goals as goal
 
@@ -10,8 +10,9 @@ leave-requires-clause-spoken g c =
 
 pub make-requires : goal.make-requires
 make-requires g c = record {
-  drawn = subst (λ (k : Kept g.row.T.Denot). MayDraw k.lock.roll (held_by k.lock.roll c.args.daemon)) (sym c.self.view_is) c.requires.drawn;
-  lasts = subst (λ (k : Kept g.row.T.Denot). g.T.HasGround.lasts k.lock.base 1) (sym c.self.view_is) c.requires.lasts;
+  drawn = subst (λ (k : LoggedLock g.row.T.Denot). MayDraw k.lock.roll (held_by k.lock.roll c.args.daemon)) (sym c.self.view_is) c.requires.drawn;
+  lasts = subst (λ (k : LoggedLock g.row.T.Denot). g.T.HasGround.lasts k.lock.base 1) (sym c.self.view_is)
+      c.requires.lasts;
   stands = core_stands g.T.HasGround g.J.Origin.begins c.self.inside.lock c.self.inside.keeper c.self.invariant;
   apart = c.self.invariant.apart;
   few = c.self.invariant.few;

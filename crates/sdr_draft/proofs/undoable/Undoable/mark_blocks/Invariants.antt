@@ -1,7 +1,7 @@
 use Rattle.std.proofs.Common.{◌≡◌, ◌<◌, ◌++◌, ℕ, Some}
 use Rattle.std.specs.FinMap.{get}
 use Rattle.sdr_model.specs.Dry.{addr_after, next_addr, next_addrs}
-use Rattle.sdr_draft.specs.Keeps.{Keeps, StayTouched}
+use Rattle.sdr_draft.specs.Keeps.{SameBegin, StayTouched}
 use Rattle.sdr_draft.proofs.undoable.Undoable.mark_blocks.Given as goal
 
 abbrev pub invariant-loop-k : goal.invariant-loop-k
@@ -13,6 +13,6 @@ invariant-loop-k l = record {
   others : (other of : ℕ) → other < next_addr l.initial.self.now.taken → get l.initial.self.owners other ≡ Some of
       → get l.self.owners other ≡ Some of;
   touched : StayTouched l.initial.self l.self;
-  keeps : Keeps l.initial.self l.self;
+  keeps : SameBegin l.initial.self l.self;
   first : l.first ≡ next_addr l.initial.self.now.taken;
 }

@@ -1,10 +1,10 @@
 use Rattle.std.proofs.Common.{◌≡◌}
-use Rattle.sdr_model.specs.Zco.{source_on}
+use Rattle.sdr_model.specs.Zco.{source_naming}
 use Rattle.sdr_undo.specs.Store.{things_in}
 use Rattle.sdr_draft.proofs.NamedLemmas.{first_source}
 use Rattle.sdr_draft.proofs.undoable.Undoable.source_on.Given as goal
 
 abbrev pub invariant-loop-addr : goal.invariant-loop-addr
 invariant-loop-addr l = record {
-  first : first_source l.raw (things_in l.addr-iterator) ≡ source_on l.self.now l.raw;
+  first : first_source l.raw (things_in l.addr-iterator) ≡ source_naming l.self.now l.raw;
 }

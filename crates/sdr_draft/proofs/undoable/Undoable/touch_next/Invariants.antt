@@ -1,7 +1,7 @@
 use Rattle.std.proofs.Common.{◌≡◌, ◌<◌, ℕ}
 use Rattle.std.specs.Prelude.{Contains}
 use Rattle.sdr_model.specs.Dry.{addr_after, next_addr}
-use Rattle.sdr_draft.specs.Keeps.{Keeps, StayTouched}
+use Rattle.sdr_draft.specs.Keeps.{SameBegin, StayTouched}
 use Rattle.sdr_draft.proofs.undoable.Undoable.touch_next.Given as goal
 
 abbrev pub invariant-loop-k : goal.invariant-loop-k
@@ -10,6 +10,6 @@ invariant-loop-k l = record {
   owners : l.self.owners ≡ l.initial.self.owners;
   touched : (k : ℕ) → k < l.k → Contains l.self.touched (addr_after l.initial.self.now.taken k);
   others : StayTouched l.initial.self l.self;
-  keeps : Keeps l.initial.self l.self;
+  keeps : SameBegin l.initial.self l.self;
   first : l.first ≡ next_addr l.initial.self.now.taken;
 }

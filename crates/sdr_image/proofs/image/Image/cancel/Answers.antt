@@ -3,7 +3,7 @@ use Rattle.sdr_disk.specs.Moments.{AtEach}
 use Rattle.sdr_disk.specs.Told.{IfTold}
 use Rattle.sdr_log.specs.Log.{put_records}
 use Rattle.sdr_log.specs.declared.record.Record.{Record}
-use Rattle.sdr_log.specs.Logged.{Gives}
+use Rattle.sdr_log.specs.Logged.{GivesHeap}
 use Rattle.sdr_image.specs.Opened.{Opened}
 use Rattle.sdr_image.proofs.ImageLemmas.{IsImage-cancel}
 use Rattle.sdr_image.proofs.OpenedLemmas.{image_back, rests_now}
@@ -13,18 +13,18 @@ pub invariant_of-self : goal.invariant_of-self
 invariant_of-self g c =
     let old = c.self.inside in
     IsImage-cancel (g.D.Disk.size old.disk) (g.D.Disk.bytes old.disk) old.frame old.bytes old.undo
-    old.saving old.is_open old.failed c.self.invariant c.put_back.new.self c.clear.new.self
-    (c.put_back.ensures ∙ ap (λ (olds : List Record). put_records olds old.bytes) c.olds.ensures) c.clear.ensures
+    old.saving old.is_open old.failed c.self.invariant c.roll_back.new.self c.clear.new.self
+    (c.roll_back.ensures ∙ ap (λ (olds : List Record). put_records olds old.bytes) c.olds.ensures) c.clear.ensures
 
 pub returns-clause-back : goal.returns-clause-back
 returns-clause-back g c x is =
-    subst (λ (heap : List ℕ). Gives heap x) (ap (λ (v : Opened g.row.D.Denot). v.begun) c.self.view_is)
+    subst (λ (heap : List ℕ). GivesHeap heap x) (ap (λ (v : Opened g.row.D.Denot). v.begun) c.self.view_is)
     (image_back _ _ _ _ _ _ _ _ c.self.invariant c.if-self.false x is)
 
 pub returns-clause-any_moment : goal.returns-clause-any_moment
 returns-clause-any_moment g c sound rests =
     let old = c.args.self.now in
     subst (λ (disk : g.row.D.Denot). IfTold (g.D.Disk.bytes old.disk)
-    (λ _. AtEach g.D.Disk.moment g.D.Disk.may_leave old.disk disk (Gives old.begun)))
+    (λ _. AtEach g.D.Disk.moment g.D.Disk.may_hold_after old.disk disk (GivesHeap old.begun)))
     (sym (ap (λ (v : Opened g.row.D.Denot). v.disk) c.self.view_is))
-    (rests_now g.D.Disk.bytes g.D.Disk.moment g.D.Disk.may_leave old sound rests)
+    (rests_now g.D.Disk.bytes g.D.Disk.moment g.D.Disk.may_hold_after old sound rests)

@@ -6,7 +6,7 @@ use Rattle.sdr_disk.specs.Told.{IfTold}
 use Rattle.sdr_disk.proofs.MomentsLemmas.{at_then}
 use Rattle.sdr_image.specs.Changed.{GivesEither}
 use Rattle.sdr_image.specs.Opened.{Opened, lines_named}
-use Rattle.sdr_log.specs.Logged.{Gives}
+use Rattle.sdr_log.specs.Logged.{GivesHeap}
 use Rattle.sdr_log.specs.declared.record.Record.{Record}
 use Rattle.sdr_image.proofs.OpenedLemmas.{image_bytes, rests_now}
 use Rattle.sdr_image.proofs.SavedLemmas.{Saves-from, calls_of-touched}
@@ -28,7 +28,7 @@ returns-clause-saved g c =
     (eqb-true (length c.olds-touched.result.now) 0 (sym c.is_empty.ensures ∙ c.if-not-is_empty.false)) in
     let touched = ap (λ (v : Opened g.row.D.Denot). v.touched) c.self.view_is in
     let idle = sym touched ∙ ap (λ (rs : List Record). lines_named rs) none in
-    Saves-from g.D.Disk.bytes g.D.Disk.moment g.D.Disk.may_leave c.args.self.now _ old.disk old.frame old.bytes
+    Saves-from g.D.Disk.bytes g.D.Disk.moment g.D.Disk.may_hold_after c.args.self.now _ old.disk old.frame old.bytes
     old.undo.olds
     (ap (λ (v : Opened g.row.D.Denot). v.disk) c.self.view_is)
     (ap (λ (v : Opened g.row.D.Denot). v.frame) c.self.view_is)
@@ -43,8 +43,8 @@ pub returns-clause-any_moment : goal.returns-clause-any_moment
 returns-clause-any_moment g c sound rests =
     let old = c.args.self.now in
     subst (λ (disk : g.row.D.Denot). IfTold (g.D.Disk.bytes old.disk)
-    (λ _. AtEach g.D.Disk.moment g.D.Disk.may_leave old.disk disk (GivesEither old.begun old.bytes)))
+    (λ _. AtEach g.D.Disk.moment g.D.Disk.may_hold_after old.disk disk (GivesEither old.begun old.bytes)))
     (sym (ap (λ (v : Opened g.row.D.Denot). v.disk) c.self.view_is))
-    (λ x is. at_then g.D.Disk.moment g.D.Disk.may_leave old.disk old.disk (Gives old.begun)
+    (λ x is. at_then g.D.Disk.moment g.D.Disk.may_hold_after old.disk old.disk (GivesHeap old.begun)
     (GivesEither old.begun old.bytes)
-    (rests_now g.D.Disk.bytes g.D.Disk.moment g.D.Disk.may_leave old sound rests x is) (λ image gives. inl gives))
+    (rests_now g.D.Disk.bytes g.D.Disk.moment g.D.Disk.may_hold_after old sound rests x is) (λ image gives. inl gives))

@@ -20,7 +20,7 @@ returns-in-Ok-clause-opened g c =
       rests = λ may sound y now.
           let t = told_before _ _ y e.disk.tells now in
           subst (λ (heap : List ℕ). HoldsHeap loaded.frame heap y
-          (g.D.Disk.may_leave c.load.new.disk (g.D.Disk.moment c.load.new.disk))) (sym begun)
+          (g.D.Disk.may_hold_after c.load.new.disk (g.D.Disk.moment c.load.new.disk))) (sym begun)
           (bytes_held loaded.frame loaded.bytes y _ (e.bytes y now) (e.synced t.x t.is (may t.x t.is) y now));
       begun = begun;
       touched = ap (λ (u : Olds). lines_named u.olds) e.ready.undo_is;

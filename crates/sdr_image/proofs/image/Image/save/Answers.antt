@@ -38,7 +38,7 @@ returns-clause-saved g c =
     let old = c.self.inside in
     let i = c.self.invariant in
     let e = c.in-Ok.ensures in
-    Saves-from g.D.Disk.bytes g.D.Disk.moment g.D.Disk.may_leave c.args.self.now _ old.disk old.frame old.bytes
+    Saves-from g.D.Disk.bytes g.D.Disk.moment g.D.Disk.may_hold_after c.args.self.now _ old.disk old.frame old.bytes
     old.undo.olds
     (ap (λ (v : Opened g.row.D.Denot). v.disk) c.self.view_is)
     (ap (λ (v : Opened g.row.D.Denot). v.frame) c.self.view_is)

@@ -1,7 +1,7 @@
 use Rattle.std.proofs.Common.{◌≡◌, ◌∙◌, ap, sym, List, arith, ◌++◌, ◌∷◌, []}
 use Rattle.std.specs.Prelude.{true, false}
 use Rattle.sdr_log.specs.Frame.{room_of}
-use Rattle.sdr_log.specs.Log.{is_named, put_records}
+use Rattle.sdr_log.specs.Log.{names_line, put_records}
 use Rattle.sdr_log.specs.declared.record.Record.{Record}
 use Rattle.sdr_image.specs.Undo.{Olds}
 use Rattle.sdr_image.specs.Opened.{Opened, lines_named}
@@ -23,7 +23,7 @@ invariant_of-self g c =
     let same = ap (λ (v : Opened g.row.D.Denot). v.touched) c.self.view_is in
     let room = ap (λ (v : Opened g.row.D.Denot). room_of v.frame) c.self.view_is in
     let lines = ap (λ (v : Opened g.row.D.Denot). v.frame.heap_lines) c.self.view_is in
-    let new : is_named old.undo.olds c.args.line ≡ false = sym c.is_touched.ensures ∙ c.if-not-is_touched.true in
+    let new : names_line old.undo.olds c.args.line ≡ false = sym c.is_touched.ensures ∙ c.if-not-is_touched.true in
     let few = few_more old.undo.olds c.args.self.now.touched c.args.line (room_of old.frame)
     (room_of c.args.self.now.frame) same room new c.requires.room in
     IsImage-keep (g.D.Disk.size old.disk) (g.D.Disk.bytes old.disk) old.frame old.bytes old.undo
@@ -36,7 +36,7 @@ returns-then-not-is_touched g c =
     let old = c.self.inside in
     let same = ap (λ (v : Opened g.row.D.Denot). v.touched) c.self.view_is in
     let lines = ap (λ (v : Opened g.row.D.Denot). v.frame.heap_lines) c.self.view_is in
-    let new : is_named old.undo.olds c.args.line ≡ false = sym c.is_touched.ensures ∙ c.if-not-is_touched.true in
+    let new : names_line old.undo.olds c.args.line ≡ false = sym c.is_touched.ensures ∙ c.if-not-is_touched.true in
     let r : Record = record { line = c.args.line; bytes = c.line_at-bytes.result } in
     let olds : c.keep.new.self.olds ≡ old.undo.olds ++ r ∷ [] = ap (λ (u : Olds). u.olds) c.keep.ensures in
     let touched = ap (λ (l : List Record). lines_named l) olds

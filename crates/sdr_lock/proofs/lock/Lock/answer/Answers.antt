@@ -1,6 +1,6 @@
 use Rattle.std.proofs.Common.{◌≡◌, ◌∙◌, IfOk, None, Some, ap, refl, subst, sym}
 use Rattle.sdr_base.specs.declared.refusal.Refusal.TheVariants as refusals
-use Rattle.sdr_lock.specs.Crash.{keeps_of}
+use Rattle.sdr_lock.specs.Crash.{commits_of}
 use Rattle.sdr_lock.specs.Machine.{Performs}
 use Rattle.sdr_lock.specs.Roll.{daemon_of}
 use Rattle.sdr_lock.specs.Serving.{Acts, Locked}
@@ -27,7 +27,7 @@ returns-in-Some-clause-answers g c =
     if_ok c.perform.result _ _ (λ a acts. acts_also g.T.HasGround _ _ _ _ c.args.id c.args.event.now a self c.perform.new.self
     (keeps_found self.roll c.args.id d c.args.event.now some)
     (λ v v' line performs. on_some _ _ _ d some performs) acts)
-    (subst (λ id. IfOk c.perform.result (λ a. Acts g.T.HasGround (keeps_of self.roll d c.args.event.now) (λ m e m'. Performs m d e m') id c.args.event.now a self c.perform.new.self)) same c.perform.ensures.performs)
+    (subst (λ id. IfOk c.perform.result (λ a. Acts g.T.HasGround (commits_of self.roll d c.args.event.now) (λ m e m'. Performs m d e m') id c.args.event.now a self c.perform.new.self)) same c.perform.ensures.performs)
 
 pub perform-requires-clause-drawn : goal.perform-requires-clause-drawn
 perform-requires-clause-drawn g c =

@@ -1,7 +1,7 @@
 use Rattle.std.proofs.Common.{Bool, ◌+◌, nat_le, if◌then◌else◌, ◌==◌, ◌≡◌, ◌∙◌, arith, ap, false, inl, refl, true}
 use Rattle.sdr_model.specs.declared.event.Event.TheVariants as events
 use Rattle.std.proofs.lemmas.Bool.Decides.{nat_tests}
-use Rattle.sdr_lock.specs.Machine.{Opens}
+use Rattle.sdr_lock.specs.Machine.{BeginsUnder}
 use Rattle.sdr_lock.specs.Nesting.{Inner, comes_to, deepened, deepest, doomed_for}
 use Rattle.sdr_lock.specs.declared.nesting.Nesting.{Nesting}
 use Rattle.sdr_model.specs.declared.answer.Answer.TheVariants as answers
@@ -18,7 +18,7 @@ pub returns-then-nesting-eq0 : goal.returns-then-nesting-eq0
 returns-then-nesting-eq0 g c =
     let d = c.args.daemon in
     let h = c.args.holding in
-    acts_also g.T.HasGround _ _ (λ m e m'. Opens m d h e m') _ d.id events.Begin c.open.result c.args.self.now c.open.new.self refl
+    acts_also g.T.HasGround _ _ (λ m e m'. BeginsUnder m d h e m') _ d.id events.Begin c.open.result c.args.self.now c.open.new.self refl
     (λ v v' line opens. on_true _ _ (h.nesting.depth == 0) (grind (arith, nat_tests)) opens) c.open.ensures
 
 -- a nesting that is deepened meets no fault, and tells nothing of media

@@ -23,6 +23,6 @@ returns g c =
     let new : Locked T = record { roll = c.put.new.self; base = c.self.inside.base } in
     let free : (served_number old.roll == 0) ≡ true = grind (arith, nat_tests, c.serving.ensures, c.if-serving-ne0.false) in
     let put : c.put.new.self ≡ with_daemon (with_drawn old.roll) (after_leave d) =
-    c.put.ensures ∙ (λ i. with_daemon (c.pass.ensures i) (c.after_leave.ensures i)) in
+    c.put.ensures ∙ (λ i. with_daemon (c.draw_done.ensures i) (c.after_leave.ensures i)) in
     acts_told g.T.HasGround _ _ d.id _ (answers.Reply replies.Done) c.told.result old _ new (with_daemon (with_drawn old.roll) (after_leave d))
     c.self.view_is c.told.ensures refl refl refl put (λ none. none) (λ v line goes. on_true _ _ _ free goes)

@@ -24,7 +24,7 @@ returns g c =
     let old : Locked T = record { roll = c.self.inside.roll; base = c.self.inside.base } in
     let free : (served_number old.roll == 0) ≡ true = grind (arith, nat_tests, c.serving.ensures, c.if-serving-ne0.false) in
     let looks : Acts g.T.HasGround false (λ m e m'. Looks m d e ticket m.roll m') d.id (events.Look ticket) c.look.result (record old { roll = with_drawn old.roll }) c.look.new.self =
-    subst (λ (r : Roll). Acts g.T.HasGround false (λ m e m'. Looks m d e ticket m.roll m') d.id (events.Look ticket) c.look.result (record { roll = r; base = old.base }) c.look.new.self) c.pass.ensures c.look.ensures in
+    subst (λ (r : Roll). Acts g.T.HasGround false (λ m e m'. Looks m d e ticket m.roll m') d.id (events.Look ticket) c.look.result (record { roll = r; base = old.base }) c.look.new.self) c.draw_done.ensures c.look.ensures in
     let comes = acts_drawn g.T.HasGround false _ (λ m e m'. ComesLooking m d e ticket m') d.id (events.Look ticket) c.look.result old c.look.new.self (λ v v' line looks. on_true _ _ _ free (looks_drawn old.roll v _ d _ ticket looks)) looks in
     subst (λ (o : Locked T). Acts g.T.HasGround false (λ m e m'. ComesLooking m d e ticket m') d.id c.args.event.now c.look.result o c.look.new.self) c.self.view_is
     (subst (λ (ev : Event). Acts g.T.HasGround false (λ m e m'. ComesLooking m d e ticket m') d.id ev c.look.result old c.look.new.self) (sym c.requires.look) comes)

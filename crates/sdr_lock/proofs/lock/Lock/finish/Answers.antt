@@ -1,6 +1,6 @@
 use Rattle.std.proofs.Common.{[], ◌≡◌, ◌∙◌, ap, inl, inr, refl, sym, subst, true, true≢false, Err}
 use Rattle.sdr_model.specs.declared.answer.Answer.TheVariants as answers
-use Rattle.sdr_lock.specs.Crash.{LeavesOr, is_kept, keeps_in}
+use Rattle.sdr_lock.specs.Crash.{LeavesOr, is_kept, commits_in}
 use Rattle.sdr_lock.specs.Ground.{State, NoHeap, resting}
 use Rattle.sdr_model.specs.World.{empty_world}
 use Rattle.sdr_lock.specs.Machine.{roll_closed}
@@ -24,7 +24,7 @@ returns-in-Ok-clause-closes g c =
     let T = g.row.T.Denot in
     let old : Locked T = record { roll = c.self.inside.roll; base = c.self.inside.base } in
     let new : Locked T = record { roll = c.put.new.self; base = c.settle.new.base } in
-    let roll : c.put.new.self ≡ roll_closed old.roll d = c.put.ensures ∙ ap (with_daemon old.roll) c.after_entry.ensures in
+    let roll : c.put.new.self ≡ roll_closed old.roll d = c.put.ensures ∙ ap (with_daemon old.roll) c.when_done.ensures in
     let keeps = ap is_kept c.closing-close.ensures ∙ keeps_closing h.number h.nesting some_state c.args.event.now (c.requires.closing some_state) in
     acts_asked g.T.HasGround _ _ (Settles close) d.id _ (told (answers.Closed close)) c.told.result old _ new
     c.self.view_is c.told.ensures refl (λ called. absurd (true≢false (sym called))) c.requires.sound c.in-Ok.ensures.left
@@ -46,7 +46,7 @@ returns-in-Err-Fault-clause-closes g c =
     c.self.view_is c.fail.ensures.answer c.requires.sound
     (subst (λ (t : T). MeetsFault g.T.HasGround old.base t) (sym base) (c.in-Err-Fault.ensures.fault (ap Err c.in-Err-Fault.field-0-is)))
     (subst (λ (t : T). KeepsGround g.T.HasGround true old.base t) (sym base) (keeps_more g.T.HasGround c.in-Err-Fault.ensures.keeps))
-    (subst (λ (t : T). LeavesOr (keeps_in h.nesting c.args.event.now) g.T.HasGround old.base t) (sym base)
+    (subst (λ (t : T). LeavesOr (commits_in h.nesting c.args.event.now) g.T.HasGround old.base t) (sym base)
     (subst (λ k. LeavesOr k g.T.HasGround old.base c.settle.new.base) keeps c.in-Err-Fault.ensures.any_moment))
     c.fail.ensures.roll
     (λ v line faults. inr (record { asks = asks_closing (transaction_of h v.now) c.args.event.now (c.requires.closing v.now); faults = faults }))

@@ -2,7 +2,7 @@ use Rattle.std.proofs.Common.{false, refl, subst, sym}
 use Rattle.sdr_model.specs.declared.answer.Answer.TheVariants as answers
 use Rattle.sdr_model.specs.declared.event.Event.{Event}
 use Rattle.sdr_model.specs.declared.event.Event.TheVariants as events
-use Rattle.sdr_lock.specs.Crash.{keeps_under}
+use Rattle.sdr_lock.specs.Crash.{commits_under}
 use Rattle.sdr_lock.specs.Machine.{Holds, LeavesHolding}
 use Rattle.sdr_lock.specs.Serving.{Acts}
 use Rattle.sdr_lock.proofs.LockLemmas.{acts_also, acts_or, acts_same, if_ok}
@@ -13,21 +13,21 @@ pub returns-in-Request-clause-holds : goal.returns-in-Request-clause-holds
 returns-in-Request-clause-holds g c =
     let h = c.args.holding in
     let d = c.args.daemon in
-    subst (λ (ev : Event). Acts g.T.HasGround (keeps_under c.args.self.now.roll h ev) (λ m e m'. Holds m d h ev e m') d.id ev c.told.result c.args.self.now c.args.self.now) (sym c.in-Request.is)
+    subst (λ (ev : Event). Acts g.T.HasGround (commits_under c.args.self.now.roll h ev) (λ m e m'. Holds m d h ev e m') d.id ev c.told.result c.args.self.now c.args.self.now) (sym c.in-Request.is)
     (acts_same g.T.HasGround _ _ d.id events.Request (answers.Lock h.number) c.told.result c.args.self.now c.told.ensures refl refl (λ v line goes. goes))
 
 pub returns-in-Look-clause-holds : goal.returns-in-Look-clause-holds
 returns-in-Look-clause-holds g c =
     let h = c.args.holding in
     let d = c.args.daemon in
-    subst (λ (ev : Event). Acts g.T.HasGround (keeps_under c.args.self.now.roll h ev) (λ m e m'. Holds m d h ev e m') d.id ev c.looks_holding.result c.args.self.now c.looks_holding.new.self) (sym c.in-Look.is)
+    subst (λ (ev : Event). Acts g.T.HasGround (commits_under c.args.self.now.roll h ev) (λ m e m'. Holds m d h ev e m') d.id ev c.looks_holding.result c.args.self.now c.looks_holding.new.self) (sym c.in-Look.is)
     (acts_or g.T.HasGround _ _ d.id _ c.looks_holding.result c.args.self.now c.looks_holding.new.self c.looks_holding.ensures)
 
 pub returns-in-Leaves-clause-holds : goal.returns-in-Leaves-clause-holds
 returns-in-Leaves-clause-holds g c =
     let h = c.args.holding in
     let d = c.args.daemon in
-    acts_or g.T.HasGround (keeps_under c.args.self.now.roll h c.args.event.now) (λ m e m'. Holds m d h c.args.event.now e m') d.id c.args.event.now c.leave.result c.args.self.now c.leave.new.self
+    acts_or g.T.HasGround (commits_under c.args.self.now.roll h c.args.event.now) (λ m e m'. Holds m d h c.args.event.now e m') d.id c.args.event.now c.leave.result c.args.self.now c.leave.new.self
     (subst (λ (ev : Event). Acts g.T.HasGround false (λ m e m'. Holds m d h ev e m') d.id c.args.event.now c.leave.result c.args.self.now c.leave.new.self) (sym c.in-Leaves.is)
     (subst (λ (ev : Event). Acts g.T.HasGround false (λ m e m'. LeavesHolding m d h ev e m') d.id c.args.event.now c.leave.result c.args.self.now c.leave.new.self) c.in-Leaves.is c.leave.ensures))
 

@@ -1,7 +1,7 @@
 use Rattle.std.proofs.Common.{◌≡◌, ◌∙◌, ap, false, inl, inr, refl, subst, sym, true, true≢false, []}
 use Rattle.sdr_model.specs.declared.event.Event.TheVariants as events
 use Rattle.sdr_lock.specs.Crash.{LeavesBefore}
-use Rattle.sdr_lock.specs.Roll.{after_entry, with_daemon}
+use Rattle.sdr_lock.specs.Roll.{when_done, with_daemon}
 use Rattle.sdr_lock.specs.Serving.{KeepsGround, Locked, MeetsFault, Sees, after_look, machine_at}
 use Rattle.sdr_lock.proofs.GroundLemmas.{keeps_more}
 use Rattle.sdr_lock.proofs.LockLemmas.{acts_asked, acts_failed, agrees_untold, no_gap_cause, sight_no_fault, sight_untold, told}
@@ -34,7 +34,7 @@ returns-in-Err g c =
     let T = g.row.T.Denot in
     let old : Locked T = record { roll = c.self.inside.roll; base = c.self.inside.base } in
     let base = c.fail.ensures.base in
-    acts_failed g.T.HasGround false _ d.id _ c.fail.result old _ c.fail.new.self (with_daemon old.roll (after_entry d))
+    acts_failed g.T.HasGround false _ d.id _ c.fail.result old _ c.fail.new.self (with_daemon old.roll (when_done d))
     c.self.view_is c.fail.ensures.answer c.requires.sound
     (subst (λ (t : T). MeetsFault g.T.HasGround old.base t) (sym base) c.in-Err.ensures.fault)
     (subst (λ (t : T). KeepsGround g.T.HasGround true old.base t) (sym base) (keeps_more g.T.HasGround c.in-Err.ensures.keeps))

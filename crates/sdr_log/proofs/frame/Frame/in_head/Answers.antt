@@ -1,10 +1,10 @@
 use Rattle.std.proofs.Common.{refl, arith}
 use Rattle.std.proofs.lemmas.Slice.{between_to_end}
-use Rattle.sdr_log.specs.Frame.{number}
+use Rattle.sdr_log.specs.Frame.{first_number}
 use Rattle.sdr_log.proofs.frame.Frame.in_head.Goals as goal
 
 pub returns : goal.returns
-unfolding number
+unfolding first_number
 returns c =
     rw (
       c.read_u32.ensures,

@@ -2,7 +2,7 @@ use Rattle.std.proofs.Common.{◌∙◌, ap, sym, subst, ltb, rules}
 use Rattle.std.specs.List.{prefix_len}
 use Rattle.std.proofs.lemmas.List.Sorted.{IsPartitionPoint-from_clause, IsPartitionedBy-ltb}
 use Rattle.sdr_model.proofs.HashLemmas.{prefix_len-point}
-use Rattle.sdr_model.specs.HashChanges.{first_of}
+use Rattle.sdr_model.specs.HashChanges.{bucket_start}
 use Rattle.sdr_model.specs.Hashes.{Hash, AreByBucket}
 use Rattle.sdr_model.specs.HashSteps.{bucket_of}
 use Rattle.sdr_model.specs.declared.things.HashEntry.{HashEntry}
@@ -19,4 +19,4 @@ returns-clause-place c =
     let point = IsPartitionPoint-from_clause lower _ _ clause.partitioned parted (λ a r q k. search rules) in
     sym (prefix_len-point lower _ _ clause.bound point)
     ∙ ap (prefix_len lower) entries
-    ∙ ap (λ (h : Hash). first_of h c.args.bucket) c.self.view_is
+    ∙ ap (λ (h : Hash). bucket_start h c.args.bucket) c.self.view_is

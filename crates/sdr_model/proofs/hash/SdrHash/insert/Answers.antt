@@ -1,7 +1,7 @@
 use Rattle.std.proofs.Common.{◌∙◌, ap, sym, subst, insert}
 use Rattle.sdr_model.proofs.Cases.{in_result}
 use Rattle.sdr_model.proofs.HashLemmas.{ordered-insert}
-use Rattle.sdr_model.specs.HashChanges.{first_of}
+use Rattle.sdr_model.specs.HashChanges.{bucket_start}
 use Rattle.sdr_model.specs.HashSteps.{bucket_of}
 use Rattle.sdr_model.specs.Hashes.{AreByBucket, Hash}
 use Rattle.sdr_model.specs.declared.things.HashEntry.{HashEntry}
@@ -15,8 +15,8 @@ invariant_of-self c =
     let hash : Hash = record { key_length = inside.key_length; buckets = inside.buckets; entries = inside.entries } in
     let bucket = c.bucket_of-bucket.ensures.value ∙ ap (bucket_of inside.buckets) c.as_slice.ensures in
     let place = c.first_of-place.ensures.place
-    ∙ ap (λ (h : Hash). first_of h c.bucket_of-bucket.result) (sym c.self.view_is)
-    ∙ ap (first_of hash) bucket in
+    ∙ ap (λ (h : Hash). bucket_start h c.bucket_of-bucket.result) (sym c.self.view_is)
+    ∙ ap (bucket_start hash) bucket in
     record {
       some = c.self.invariant.some;
       few = c.self.invariant.few;

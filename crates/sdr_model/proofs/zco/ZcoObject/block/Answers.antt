@@ -1,23 +1,23 @@
 use Rattle.std.proofs.Common.{◌≡◌, ◌==◌, ◌++◌, ℕ, List, Option, map, ap, sym, ◌∙◌, refl}
 use Rattle.std.proofs.lemmas.List.Folds.{find-append}
 use Rattle.std.specs.Option.{option_or}
-use Rattle.sdr_model.specs.Things.{block_among, capsule_block, extent_block, object_blocks}
-use Rattle.sdr_model.specs.declared.things.Block.{Block}
+use Rattle.sdr_model.specs.Things.{block_among, block_for_capsule, block_for_extent, object_blocks}
+use Rattle.sdr_model.specs.declared.things.UsedBlock.{UsedBlock}
 use Rattle.sdr_model.specs.declared.zco.Capsule.{Capsule}
 use Rattle.sdr_model.specs.declared.zco.Extent.{Extent}
 use Rattle.sdr_model.specs.declared.zco.ZcoObject.{ZcoObject}
 use Rattle.sdr_model.proofs.zco.ZcoObject.block.Goals as goal
 
 -- the block among those of headers or trailers
-abbrev of_capsules : ℕ → List Capsule → Option Block
-of_capsules addr capsules = block_among addr (map capsule_block capsules)
+abbrev of_capsules : ℕ → List Capsule → Option UsedBlock
+of_capsules addr capsules = block_among addr (map block_for_capsule capsules)
 
 -- the block among those of extents
-abbrev of_extents : ℕ → List Extent → Option Block
-of_extents addr extents = block_among addr (map extent_block extents)
+abbrev of_extents : ℕ → List Extent → Option UsedBlock
+of_extents addr extents = block_among addr (map block_for_extent extents)
 
 -- with what was found in headers, among extents and in trailers
-found : (addr : ℕ) (z : ZcoObject) (first second third : Option Block)
+found : (addr : ℕ) (z : ZcoObject) (first second third : Option UsedBlock)
     → first ≡ of_capsules addr z.headers → second ≡ of_extents addr z.extents → third ≡ of_capsules addr z.trailers
     → option_or (option_or first second) third ≡ block_among addr (object_blocks z)
 found addr z first second third headers extents trailers =
@@ -25,8 +25,8 @@ found addr z first second third headers extents trailers =
     ∙ ap (λ o. option_or (option_or (of_capsules addr z.headers) o) third) extents
     ∙ ap (option_or (option_or (of_capsules addr z.headers) (of_extents addr z.extents))) trailers
     ∙ ap (λ o. option_or o (of_capsules addr z.trailers))
-    (sym (find-append (λ b. b.addr == addr) (map capsule_block z.headers) (map extent_block z.extents)))
-    ∙ sym (find-append (λ b. b.addr == addr) (map capsule_block z.headers ++ map extent_block z.extents) (map capsule_block z.trailers))
+    (sym (find-append (λ b. b.addr == addr) (map block_for_capsule z.headers) (map block_for_extent z.extents)))
+    ∙ sym (find-append (λ b. b.addr == addr) (map block_for_capsule z.headers ++ map block_for_extent z.extents) (map block_for_capsule z.trailers))
 
 pub returns-in-Some : goal.returns-in-Some
 returns-in-Some c =

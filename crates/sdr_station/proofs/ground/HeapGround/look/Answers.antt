@@ -14,32 +14,34 @@ see-requires-clause-before g c =
 
 pub returns-then-self-clause-any_moment : goal.returns-then-self-clause-any_moment
 returns-then-self-clause-any_moment g c =
-    leaves_quiet g.D.Disk.bytes g.D.Disk.moment g.D.Disk.faults g.D.Disk.may_leave g.M.Media c.args.self.now c.see.new.self
+    leaves_quiet g.D.Disk.bytes g.D.Disk.moment g.D.Disk.faults g.D.Disk.may_hold_after g.M.Media c.args.self.now c.see.new.self
     c.see.ensures.quiet.disk (ap (λ (o : Grounded g.row.D.Denot g.row.M.Denot). o.moment) c.see.ensures.same)
 
 pub returns-then-branch-clause-memory : goal.returns-then-branch-clause-memory
 returns-then-branch-clause-memory g c =
-    shows_later {S = StandsInMemory} c.args.self.now c.drop_changes.new.self c.see-then-branch.new.self c.args.ticket
-    c.see-then-branch.result c.in_ok-drop_changes.ensures.memory c.see-then-branch.ensures.shown
+    shows_later {S = StandsInMemory} c.args.self.now c.roll_back_for_look.new.self c.see-then-branch.new.self
+        c.args.ticket
+    c.see-then-branch.result c.in_ok-roll_back_for_look.ensures.memory c.see-then-branch.ensures.shown
 
 pub returns-then-branch-clause-shown : goal.returns-then-branch-clause-shown
 returns-then-branch-clause-shown g c =
-    shows_later {S = λ g' v. StandsForBoth g.D.Disk.bytes g.D.Disk.moment g.D.Disk.may_leave g' v} c.args.self.now
-    c.drop_changes.new.self c.see-then-branch.new.self c.args.ticket c.see-then-branch.result
-    c.in_ok-drop_changes.ensures.dropped c.see-then-branch.ensures.stands
+    shows_later {S = λ g' v. StandsForBoth g.D.Disk.bytes g.D.Disk.moment g.D.Disk.may_hold_after g' v} c.args.self.now
+    c.roll_back_for_look.new.self c.see-then-branch.new.self c.args.ticket c.see-then-branch.result
+    c.in_ok-roll_back_for_look.ensures.dropped c.see-then-branch.ensures.stands
 
 pub returns-then-branch-clause-any_moment : goal.returns-then-branch-clause-any_moment
 returns-then-branch-clause-any_moment g c =
-    leaves_later g.D.Disk.bytes g.D.Disk.moment g.D.Disk.faults g.D.Disk.may_leave g.M.Media c.args.self.now c.drop_changes.new.self
+    leaves_later g.D.Disk.bytes g.D.Disk.moment g.D.Disk.faults g.D.Disk.may_hold_after g.M.Media c.args.self.now c.roll_back_for_look.new.self
     c.see-then-branch.new.self c.see-then-branch.ensures.quiet.disk
-    (ap (λ (o : Grounded g.row.D.Denot g.row.M.Denot). o.moment) c.see-then-branch.ensures.same) c.drop_changes.ensures.any_moment
+    (ap (λ (o : Grounded g.row.D.Denot g.row.M.Denot). o.moment) c.see-then-branch.ensures.same) c.roll_back_for_look.ensures.any_moment
 
 pub returns-clause-memory : goal.returns-clause-memory
 returns-clause-memory g c =
-    brings_failed {P = Shows c.args.ticket None} c.args.self.now c.drop_changes.new.self
-    (c.in_ok-drop_changes.ensures.failed c.if-branch.false)
+    brings_failed {P = Shows c.args.ticket None} c.args.self.now c.roll_back_for_look.new.self
+    (c.in_ok-roll_back_for_look.ensures.failed c.if-branch.false)
 
 pub returns-clause-shown : goal.returns-clause-shown
 returns-clause-shown g c =
-    shows_failed g.D.Disk.bytes g.D.Disk.moment g.D.Disk.may_leave c.args.self.now c.drop_changes.new.self c.args.ticket
-    (c.in_ok-drop_changes.ensures.failed c.if-branch.false)
+    shows_failed g.D.Disk.bytes g.D.Disk.moment g.D.Disk.may_hold_after c.args.self.now c.roll_back_for_look.new.self
+        c.args.ticket
+    (c.in_ok-roll_back_for_look.ensures.failed c.if-branch.false)

@@ -25,7 +25,7 @@ returns-in-Err-check-clause-bytes g c =
 pub returns-in-Err-check-clause-any_moment : goal.returns-in-Err-check-clause-any_moment
 returns-in-Err-check-clause-any_moment g c x is may =
     let D = g.row.D.Denot in
-    subst (λ (d : D). AtEach g.D.Disk.moment g.D.Disk.may_leave c.args.disk d (GivesSame x))
+    subst (λ (d : D). AtEach g.D.Disk.moment g.D.Disk.may_hold_after c.args.disk d (GivesSame x))
     (sym (c.into_disk.ensures.disk ∙ c.check.ensures.reads.quiet.disk)) (c.in-Ok.ensures.any_moment x is may)
 
 pub returns-in-Ok-new-clause-opened : goal.returns-in-Ok-new-clause-opened
@@ -34,7 +34,7 @@ returns-in-Ok-new-clause-opened g c =
     let M = g.row.M.Denot in
     let b = g.D.Disk.bytes in
     let m = g.D.Disk.moment in
-    let l = g.D.Disk.may_leave in
+    let l = g.D.Disk.may_hold_after in
     let made = c.in-Ok-new.ensures.made in
     subst (λ (n : Grounded D M). IsOpen b m l c.args.disk n)
     (λ i. record {
@@ -51,13 +51,13 @@ returns-in-Ok-new-clause-opened g c =
 pub returns-in-Ok-new-clause-any_moment : goal.returns-in-Ok-new-clause-any_moment
 returns-in-Ok-new-clause-any_moment g c x is may =
     let D = g.row.D.Denot in
-    subst (λ (d : D). AtEach g.D.Disk.moment g.D.Disk.may_leave c.args.disk d (GivesSame x))
+    subst (λ (d : D). AtEach g.D.Disk.moment g.D.Disk.may_hold_after c.args.disk d (GivesSame x))
     (sym (ap (λ (h : Held (Opened D)). h.cells.disk) c.in-Ok-new.ensures.made ∙ c.check.ensures.reads.quiet.disk)) (c.in-Ok.ensures.any_moment x is may)
 
 pub returns-in-Err-new-clause-any_moment : goal.returns-in-Err-new-clause-any_moment
 returns-in-Err-new-clause-any_moment g c x is may =
     let D = g.row.D.Denot in
-    subst (λ (d : D). AtEach g.D.Disk.moment g.D.Disk.may_leave c.args.disk d (GivesSame x))
+    subst (λ (d : D). AtEach g.D.Disk.moment g.D.Disk.may_hold_after c.args.disk d (GivesSame x))
     (sym (c.into_disk-in-Err-new.ensures.disk ∙ ap (λ (i : Opened D). i.disk) c.in-Err-new.ensures.back ∙ c.check.ensures.reads.quiet.disk)) (c.in-Ok.ensures.any_moment x is may)
 
 pub invariant_of-result : goal.invariant_of-result
@@ -66,7 +66,7 @@ invariant_of-result g c =
     let M = g.row.M.Denot in
     let b = g.D.Disk.bytes in
     let m = g.D.Disk.moment in
-    let l = g.D.Disk.may_leave in
+    let l = g.D.Disk.may_hold_after in
     let made = c.in-Ok-new.ensures.made in
     open_ground b m l c.args.disk _ (omega (arith, ap (λ (h : Held (Opened D)). m h.cells.disk) made, c.now-moment.ensures.moment)) (subst (λ (n : Grounded D M). IsOpen b m l c.args.disk n)
     (λ i. record {

@@ -5,7 +5,7 @@ use Rattle.sdr_base.specs.declared.stop.Stop.{Stop}
 use Rattle.sdr_heap.specs.Noted.{Held}
 use Rattle.sdr_image.specs.Opened.{Opened, Rests, transaction_of}
 use Rattle.sdr_lock.specs.Crash.{LeavesBefore}
-use Rattle.sdr_lock.specs.Serving.{PutsBack}
+use Rattle.sdr_lock.specs.Serving.{RollsBack}
 use Rattle.sdr_station.proofs.ClosingLemmas.{ClosesTo, back_ground, closes_back, leaves_back}
 use Rattle.sdr_station.proofs.GroundLemmas.{heap_ground}
 use Rattle.sdr_station.specs.Grounded.{Grounded}
@@ -17,7 +17,7 @@ returns-in-Ok g c =
     let M = g.row.M.Denot in
     let b = g.D.Disk.bytes in
     let m = g.D.Disk.moment in
-    let l = g.D.Disk.may_leave in
+    let l = g.D.Disk.may_hold_after in
     let f = g.D.Disk.faults in
     let n = g.M.Media in
     let at = c.moment_since-self-inside in
@@ -48,7 +48,7 @@ returns-in-Ok g c =
     let sound : old.heap.cells.failed ≡ false = e.cause.explained.0 in
     let closed = closes_back b m f l n old disk at.result at_now sound e.disk.tells _ (e.any_moment sound) new is c.self.invariant
     e.cause.later (λ rests. subst (λ (h : Held (Opened D)). Rests b m l h.cells) e.ended (e.rests rests)) (λ image p. p) in
-    let all : ClosesTo b m f l n false PutsBack c.args.self.now new = subst (λ (o : Grounded D M). ClosesTo b m f l n false PutsBack o new) c.self.view_is closed in
+    let all : ClosesTo b m f l n false RollsBack c.args.self.now new = subst (λ (o : Grounded D M). ClosesTo b m f l n false RollsBack o new) c.self.view_is closed in
     record {
       memory = all.memory;
       put_back = all.brings;
@@ -68,7 +68,7 @@ returns-in-Err-DiskFault-clause-any_moment g c =
     let M = g.row.M.Denot in
     let b = g.D.Disk.bytes in
     let m = g.D.Disk.moment in
-    let l = g.D.Disk.may_leave in
+    let l = g.D.Disk.may_hold_after in
     let f = g.D.Disk.faults in
     let n = g.M.Media in
     let at = c.moment_since-self-inside-in-Err-DiskFault in
@@ -104,7 +104,7 @@ invariant_of-self g c =
     let M = g.row.M.Denot in
     let b = g.D.Disk.bytes in
     let m = g.D.Disk.moment in
-    let l = g.D.Disk.may_leave in
+    let l = g.D.Disk.may_hold_after in
     let f = g.D.Disk.faults in
     let n = g.M.Media in
     let at = c.moment_since-self-inside in

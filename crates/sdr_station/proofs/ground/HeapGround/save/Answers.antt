@@ -3,7 +3,7 @@ use Rattle.std.proofs.Common.{◌≡◌, ◌∙◌, true, ap, false, refl, subst
 use Rattle.sdr_heap.specs.Noted.{Held}
 use Rattle.sdr_image.specs.Opened.{Opened, Rests}
 use Rattle.sdr_lock.specs.Crash.{LeavesEither}
-use Rattle.sdr_lock.specs.Serving.{Keeps, MeetsFault}
+use Rattle.sdr_lock.specs.Serving.{Commits, MeetsFault}
 use Rattle.sdr_station.proofs.ClosingLemmas.{ClosesTo, closes_kept, kept_ground, leaves_either, meets_fault}
 use Rattle.sdr_station.proofs.GroundLemmas.{heap_ground}
 use Rattle.sdr_station.specs.Grounded.{Grounded}
@@ -15,7 +15,7 @@ returns-in-Ok g c =
     let M = g.row.M.Denot in
     let b = g.D.Disk.bytes in
     let m = g.D.Disk.moment in
-    let l = g.D.Disk.may_leave in
+    let l = g.D.Disk.may_hold_after in
     let f = g.D.Disk.faults in
     let n = g.M.Media in
     let at = c.moment_since-self-inside in
@@ -47,7 +47,7 @@ returns-in-Ok g c =
     let sound : old.heap.cells.failed ≡ false = e.cause.explained.0 in
     let closed = closes_kept b m f l n old disk at.result at_now sound e.disk.tells _ (e.any_moment sound) new is c.self.invariant going
     e.cause.later (λ rests. subst (λ (h : Held (Opened D)). Rests b m l h.cells) e.ended (e.rests rests)) (λ image p. p) in
-    let all : ClosesTo b m f l n true Keeps c.args.self.now new = subst (λ (o : Grounded D M). ClosesTo b m f l n true Keeps o new) c.self.view_is closed in
+    let all : ClosesTo b m f l n true Commits c.args.self.now new = subst (λ (o : Grounded D M). ClosesTo b m f l n true Commits o new) c.self.view_is closed in
     record {
       memory = all.memory;
       kept = all.brings;
@@ -67,7 +67,7 @@ returns-in-Err-clause-any_moment g c =
     let M = g.row.M.Denot in
     let b = g.D.Disk.bytes in
     let m = g.D.Disk.moment in
-    let l = g.D.Disk.may_leave in
+    let l = g.D.Disk.may_hold_after in
     let f = g.D.Disk.faults in
     let n = g.M.Media in
     let at = c.moment_since-self-inside-in-Err in
@@ -104,7 +104,7 @@ invariant_of-self g c =
     let M = g.row.M.Denot in
     let b = g.D.Disk.bytes in
     let m = g.D.Disk.moment in
-    let l = g.D.Disk.may_leave in
+    let l = g.D.Disk.may_hold_after in
     let f = g.D.Disk.faults in
     let n = g.M.Media in
     let at = c.moment_since-self-inside in
@@ -144,7 +144,7 @@ returns-in-Err-clause-fault g c =
     let M = g.row.M.Denot in
     let b = g.D.Disk.bytes in
     let m = g.D.Disk.moment in
-    let l = g.D.Disk.may_leave in
+    let l = g.D.Disk.may_hold_after in
     let f = g.D.Disk.faults in
     let n = g.M.Media in
     let e = c.in-Err.ensures in

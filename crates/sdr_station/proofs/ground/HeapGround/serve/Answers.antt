@@ -6,21 +6,21 @@ use Rattle.sdr_station.proofs.ground.HeapGround.serve.Goals as goal
 
 pub answer-requires-clause-kept : goal.answer-requires-clause-kept
 answer-requires-clause-kept g c =
-    keeps_before g.D.Disk.moment _ c.self.invariant (ap (λ (o : Grounded g.row.D.Denot g.row.M.Denot). o.stopped) c.self.view_is ∙ c.requires.going) c.fresh.new.self c.fresh.ensures.none
+    keeps_before g.D.Disk.moment _ c.self.invariant (ap (λ (o : Grounded g.row.D.Denot g.row.M.Denot). o.stopped) c.self.view_is ∙ c.requires.going) c.clear_moves.new.self c.clear_moves.ensures.none
 
 pub answer-requires-clause-good : goal.answer-requires-clause-good
 answer-requires-clause-good g c =
-    good_before g.D.Disk.moment _ c.self.invariant (ap (λ (o : Grounded g.row.D.Denot g.row.M.Denot). o.stopped) c.self.view_is ∙ c.requires.going) c.fresh.new.self c.fresh.ensures.none
+    good_before g.D.Disk.moment _ c.self.invariant (ap (λ (o : Grounded g.row.D.Denot g.row.M.Denot). o.stopped) c.self.view_is ∙ c.requires.going) c.clear_moves.new.self c.clear_moves.ensures.none
 
 pub unreachable-requires : goal.unreachable-requires
 unreachable-requires g c =
-    faults_never g.D.Disk.moment _ c.self.invariant (ap (λ (o : Grounded g.row.D.Denot g.row.M.Denot). o.stopped) c.self.view_is ∙ c.requires.going) c.fresh.new.self c.fresh.ensures.none
+    faults_never g.D.Disk.moment _ c.self.invariant (ap (λ (o : Grounded g.row.D.Denot g.row.M.Denot). o.stopped) c.self.view_is ∙ c.requires.going) c.clear_moves.new.self c.clear_moves.ensures.none
     g.D.Disk.faults c.args.call.now c.answer.new.o c.in-Err-DiskFault.field-0 c.in-Err-DiskFault.ensures.works
     (inl c.in-Err-DiskFault.field-0-is)
 
 pub unreachable-requires-in-Err-Failed : goal.unreachable-requires-in-Err-Failed
 unreachable-requires-in-Err-Failed g c =
-    faults_never g.D.Disk.moment _ c.self.invariant (ap (λ (o : Grounded g.row.D.Denot g.row.M.Denot). o.stopped) c.self.view_is ∙ c.requires.going) c.fresh.new.self c.fresh.ensures.none
+    faults_never g.D.Disk.moment _ c.self.invariant (ap (λ (o : Grounded g.row.D.Denot g.row.M.Denot). o.stopped) c.self.view_is ∙ c.requires.going) c.clear_moves.new.self c.clear_moves.ensures.none
     g.D.Disk.faults c.args.call.now c.answer.new.o c.in-Err-Failed.field-0 c.in-Err-Failed.ensures.works
     (inr c.in-Err-Failed.field-0-is)
 
@@ -30,7 +30,7 @@ returns-in-Ok g c =
     let M = g.row.M.Denot in
     let b = g.D.Disk.bytes in
     let m = g.D.Disk.moment in
-    let l = g.D.Disk.may_leave in
+    let l = g.D.Disk.may_hold_after in
     let f = g.D.Disk.faults in
     let n = g.M.Media in
     let going = ap (λ (o : Grounded D M). o.stopped) c.self.view_is ∙ c.requires.going in
@@ -44,8 +44,9 @@ returns-in-Ok g c =
       moment = c.self.inside.moment;
       restored = c.self.inside.restored;
     } in
-    let came = came_answered b m f l n _ c.self.invariant going c.args.call.now c.in-Ok.ensures.fits c.fresh.new.self
-    c.fresh.ensures.none c.answer.new.o c.answer.new.media c.in-Ok.ensures.media c.answer.new.page reply c.in-Ok.ensures.comes c.in-Ok.ensures.works
+    let came = came_answered b m f l n _ c.self.invariant going c.args.call.now c.in-Ok.ensures.fits
+        c.clear_moves.new.self
+    c.clear_moves.ensures.none c.answer.new.o c.answer.new.media c.in-Ok.ensures.media c.answer.new.page reply c.in-Ok.ensures.comes c.in-Ok.ensures.works
     c.in-Ok.ensures.tells c.in-Ok.ensures.unread in
     let at : CameTo b m f l n c.args.call.now reply c.args.self.now new =
     subst (λ (o : Grounded D M). CameTo b m f l n c.args.call.now reply o new) c.self.view_is came in
@@ -68,7 +69,7 @@ returns-in-Err-Refused g c =
     let M = g.row.M.Denot in
     let b = g.D.Disk.bytes in
     let m = g.D.Disk.moment in
-    let l = g.D.Disk.may_leave in
+    let l = g.D.Disk.may_hold_after in
     let f = g.D.Disk.faults in
     let n = g.M.Media in
     let going = ap (λ (o : Grounded D M). o.stopped) c.self.view_is ∙ c.requires.going in
@@ -83,8 +84,8 @@ returns-in-Err-Refused g c =
       moment = c.self.inside.moment;
       restored = c.self.inside.restored;
     } in
-    let came = came_refused b m f l n _ c.self.invariant going c.args.call.now e.ensures.fits c.fresh.new.self
-    c.fresh.ensures.none c.answer.new.o c.answer.new.media e.ensures.media c.answer.new.page e.refusal e.field-0 e.field-0-is c.forget_moves.new.heap
+    let came = came_refused b m f l n _ c.self.invariant going c.args.call.now e.ensures.fits c.clear_moves.new.self
+    c.clear_moves.ensures.none c.answer.new.o c.answer.new.media e.ensures.media c.answer.new.page e.refusal e.field-0 e.field-0-is c.forget_moves.new.heap
     c.forget_moves.ensures c.is_reading.result c.is_reading.ensures e.ensures.comes e.ensures.works
     e.ensures.tells e.ensures.unread in
     let at : CameTo b m f l n c.args.call.now reply c.args.self.now new =
@@ -108,7 +109,7 @@ returns-in-Err-MediaFault g c =
     let M = g.row.M.Denot in
     let b = g.D.Disk.bytes in
     let m = g.D.Disk.moment in
-    let l = g.D.Disk.may_leave in
+    let l = g.D.Disk.may_hold_after in
     let f = g.D.Disk.faults in
     let n = g.M.Media in
     let going = ap (λ (o : Grounded D M). o.stopped) c.self.view_is ∙ c.requires.going in
@@ -122,7 +123,7 @@ returns-in-Err-MediaFault g c =
       moment = c.self.inside.moment;
       restored = c.self.inside.restored;
     } in
-    let came = came_missed b m f l n _ c.self.invariant going c.args.call.now e.ensures.fits c.fresh.new.self c.fresh.ensures.none c.answer.new.o
+    let came = came_missed b m f l n _ c.self.invariant going c.args.call.now e.ensures.fits c.clear_moves.new.self c.clear_moves.ensures.none c.answer.new.o
     c.answer.new.media e.ensures.media c.answer.new.page e.field-0 e.field-0-is e.ensures.works e.ensures.tells e.ensures.unread in
     let at : CameTo b m f l n c.args.call.now replies.MediaFault c.args.self.now new =
     subst (λ (o : Grounded D M). CameTo b m f l n c.args.call.now replies.MediaFault o new) c.self.view_is came in
@@ -145,12 +146,13 @@ invariant_of-self g c =
     let M = g.row.M.Denot in
     let b = g.D.Disk.bytes in
     let m = g.D.Disk.moment in
-    let l = g.D.Disk.may_leave in
+    let l = g.D.Disk.may_hold_after in
     let f = g.D.Disk.faults in
     let n = g.M.Media in
     let going = ap (λ (o : Grounded D M). o.stopped) c.self.view_is ∙ c.requires.going in
-    let came = came_answered b m f l n _ c.self.invariant going c.args.call.now c.in-Ok.ensures.fits c.fresh.new.self
-    c.fresh.ensures.none c.answer.new.o c.answer.new.media c.in-Ok.ensures.media c.answer.new.page c.in-Ok.reply c.in-Ok.ensures.comes
+    let came = came_answered b m f l n _ c.self.invariant going c.args.call.now c.in-Ok.ensures.fits
+        c.clear_moves.new.self
+    c.clear_moves.ensures.none c.answer.new.o c.answer.new.media c.in-Ok.ensures.media c.answer.new.page c.in-Ok.reply c.in-Ok.ensures.comes
     c.in-Ok.ensures.works c.in-Ok.ensures.tells c.in-Ok.ensures.unread in
     came.is_ground
 
@@ -160,13 +162,13 @@ invariant_of-self-in-Err-Refused g c =
     let M = g.row.M.Denot in
     let b = g.D.Disk.bytes in
     let m = g.D.Disk.moment in
-    let l = g.D.Disk.may_leave in
+    let l = g.D.Disk.may_hold_after in
     let f = g.D.Disk.faults in
     let n = g.M.Media in
     let going = ap (λ (o : Grounded D M). o.stopped) c.self.view_is ∙ c.requires.going in
     let e = c.in-Err-Refused in
-    let came = came_refused b m f l n _ c.self.invariant going c.args.call.now e.ensures.fits c.fresh.new.self
-    c.fresh.ensures.none c.answer.new.o c.answer.new.media e.ensures.media c.answer.new.page e.refusal e.field-0 e.field-0-is c.forget_moves.new.heap
+    let came = came_refused b m f l n _ c.self.invariant going c.args.call.now e.ensures.fits c.clear_moves.new.self
+    c.clear_moves.ensures.none c.answer.new.o c.answer.new.media e.ensures.media c.answer.new.page e.refusal e.field-0 e.field-0-is c.forget_moves.new.heap
     c.forget_moves.ensures c.is_reading.result c.is_reading.ensures e.ensures.comes e.ensures.works
     e.ensures.tells e.ensures.unread in
     came.is_ground
@@ -175,7 +177,7 @@ pub invariant_of-self-in-Err-MediaFault : goal.invariant_of-self-in-Err-MediaFau
 invariant_of-self-in-Err-MediaFault g c =
     let going = ap (λ (o : Grounded g.row.D.Denot g.row.M.Denot). o.stopped) c.self.view_is ∙ c.requires.going in
     let e = c.in-Err-MediaFault in
-    let came = came_missed g.D.Disk.bytes g.D.Disk.moment g.D.Disk.faults g.D.Disk.may_leave g.M.Media _ c.self.invariant going c.args.call.now
-    e.ensures.fits c.fresh.new.self c.fresh.ensures.none c.answer.new.o c.answer.new.media e.ensures.media c.answer.new.page e.field-0 e.field-0-is
+    let came = came_missed g.D.Disk.bytes g.D.Disk.moment g.D.Disk.faults g.D.Disk.may_hold_after g.M.Media _ c.self.invariant going c.args.call.now
+    e.ensures.fits c.clear_moves.new.self c.clear_moves.ensures.none c.answer.new.o c.answer.new.media e.ensures.media c.answer.new.page e.field-0 e.field-0-is
     e.ensures.works e.ensures.tells e.ensures.unread in
     came.is_ground

@@ -9,7 +9,7 @@ pub returns-in-Ended : goal.returns-in-Ended
 returns-in-Ended g c =
     let D = g.row.D.Denot in
     let M = g.row.M.Denot in
-    let h = heap_ground g.D.Disk.bytes g.D.Disk.moment g.D.Disk.faults g.D.Disk.may_leave g.M.Media in
+    let h = heap_ground g.D.Disk.bytes g.D.Disk.moment g.D.Disk.faults g.D.Disk.may_hold_after g.M.Media in
     subst (λ (k : Close). Closes h k c.args.self.now c.keep.new.self c.keep.result)
     (sym c.in-Ended.is ∙ c.closing.ensures ∙ ap (λ (s : Stationed D M). closing s.nesting c.args.event.now) c.self.view_is) c.keep.ensures
 
@@ -17,14 +17,14 @@ pub returns-in-Exited : goal.returns-in-Exited
 returns-in-Exited g c =
     let D = g.row.D.Denot in
     let M = g.row.M.Denot in
-    let h = heap_ground g.D.Disk.bytes g.D.Disk.moment g.D.Disk.faults g.D.Disk.may_leave g.M.Media in
-    subst (λ (k : Close). Closes h k c.args.self.now c.put_back.new.self c.put_back.result)
-    (sym c.in-Exited.is ∙ c.closing.ensures ∙ ap (λ (s : Stationed D M). closing s.nesting c.args.event.now) c.self.view_is) c.put_back.ensures
+    let h = heap_ground g.D.Disk.bytes g.D.Disk.moment g.D.Disk.faults g.D.Disk.may_hold_after g.M.Media in
+    subst (λ (k : Close). Closes h k c.args.self.now c.roll_back.new.self c.roll_back.result)
+    (sym c.in-Exited.is ∙ c.closing.ensures ∙ ap (λ (s : Stationed D M). closing s.nesting c.args.event.now) c.self.view_is) c.roll_back.ensures
 
 pub returns-in-Cancelled : goal.returns-in-Cancelled
 returns-in-Cancelled g c =
     let D = g.row.D.Denot in
     let M = g.row.M.Denot in
-    let h = heap_ground g.D.Disk.bytes g.D.Disk.moment g.D.Disk.faults g.D.Disk.may_leave g.M.Media in
-    subst (λ (k : Close). Closes h k c.args.self.now c.put_back-in-Cancelled.new.self c.put_back-in-Cancelled.result)
-    (sym c.in-Cancelled.is ∙ c.closing.ensures ∙ ap (λ (s : Stationed D M). closing s.nesting c.args.event.now) c.self.view_is) c.put_back-in-Cancelled.ensures
+    let h = heap_ground g.D.Disk.bytes g.D.Disk.moment g.D.Disk.faults g.D.Disk.may_hold_after g.M.Media in
+    subst (λ (k : Close). Closes h k c.args.self.now c.roll_back-in-Cancelled.new.self c.roll_back-in-Cancelled.result)
+    (sym c.in-Cancelled.is ∙ c.closing.ensures ∙ ap (λ (s : Stationed D M). closing s.nesting c.args.event.now) c.self.view_is) c.roll_back-in-Cancelled.ensures

@@ -4,7 +4,7 @@ use Rattle.sdr_model.specs.declared.accounts.Accounts.{Accounts}
 use Rattle.sdr_lock.specs.Serving.{shown_among}
 use Rattle.sdr_plain.proofs.BareLemmas.{brings_look}
 use Rattle.sdr_plain.specs.Bare.{Worlds}
-use Rattle.sdr_plain.proofs.bare.BareServes.look.Goals as goal
+use Rattle.sdr_plain.proofs.bare.BareBacking.look.Goals as goal
 
 pub returns-clause-shown : goal.returns-clause-shown
 returns-clause-shown c =

@@ -3,7 +3,7 @@ use Rattle.std.proofs.Common.{refl, arith, ap, ◌∙◌, ℕ, List, ◌+◌, �
 use Rattle.std.proofs.lemmas.Result.{on_ok_weaker}
 use Rattle.sdr_base.specs.Stored.{with_number}
 use Rattle.sdr_large.proofs.GivingLemmas.{can_join, puts_high, loose_gap, puts_free_back}
-use Rattle.sdr_large.proofs.giving.put_back.Goals as goal
+use Rattle.sdr_large.proofs.giving.set_free.Goals as goal
 
 pub overflow_mul-block : goal.overflow_mul-block
 overflow_mul-block g c = let k = can_join _ _ _ c.requires.loose refl in omega (arith, k.inside, k.short)

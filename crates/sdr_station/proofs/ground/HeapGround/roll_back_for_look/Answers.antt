@@ -5,12 +5,12 @@ use Rattle.sdr_base.specs.declared.stop.Stop.{Stop}
 use Rattle.sdr_heap.specs.Noted.{Held}
 use Rattle.sdr_image.specs.Opened.{Opened, Rests, transaction_of}
 use Rattle.sdr_lock.specs.Crash.{LeavesBefore}
-use Rattle.sdr_lock.specs.Serving.{StandsStill}
+use Rattle.sdr_lock.specs.Serving.{SameStates}
 use Rattle.sdr_station.proofs.ClosingLemmas.{ClosesTo, closes_dropped, dropped_ground, leaves_back}
 use Rattle.sdr_station.proofs.GroundLemmas.{heap_ground}
 use Rattle.sdr_station.proofs.LookLemmas.{before_dropped}
 use Rattle.sdr_station.specs.Grounded.{Grounded, IsBefore, IsGround}
-use Rattle.sdr_station.proofs.ground.HeapGround.drop_changes.Goals as goal
+use Rattle.sdr_station.proofs.ground.HeapGround.roll_back_for_look.Goals as goal
 
 pub returns-in-Ok : goal.returns-in-Ok
 returns-in-Ok g c =
@@ -18,7 +18,7 @@ returns-in-Ok g c =
     let M = g.row.M.Denot in
     let b = g.D.Disk.bytes in
     let m = g.D.Disk.moment in
-    let l = g.D.Disk.may_leave in
+    let l = g.D.Disk.may_hold_after in
     let f = g.D.Disk.faults in
     let n = g.M.Media in
     let at = c.moment_since-self-inside in
@@ -49,7 +49,7 @@ returns-in-Ok g c =
     let sound : old.heap.cells.failed ≡ false = e.cause.explained.0 in
     let closed = closes_dropped b m f l n old disk at.result at_now sound e.disk.tells _ (e.any_moment sound) new is c.self.invariant
     e.cause.later (λ rests. subst (λ (h : Held (Opened D)). Rests b m l h.cells) e.ended (e.rests rests)) (λ image p. p) in
-    let all : ClosesTo b m f l n false StandsStill c.args.self.now new = subst (λ (o : Grounded D M). ClosesTo b m f l n false StandsStill o new) c.self.view_is closed in
+    let all : ClosesTo b m f l n false SameStates c.args.self.now new = subst (λ (o : Grounded D M). ClosesTo b m f l n false SameStates o new) c.self.view_is closed in
     record {
       memory = all.memory;
       dropped = all.brings;
@@ -72,7 +72,7 @@ returns-in-Err-DiskFault-clause-any_moment g c =
     let M = g.row.M.Denot in
     let b = g.D.Disk.bytes in
     let m = g.D.Disk.moment in
-    let l = g.D.Disk.may_leave in
+    let l = g.D.Disk.may_hold_after in
     let f = g.D.Disk.faults in
     let n = g.M.Media in
     let at = c.moment_since-self-inside-in-Err-DiskFault in
@@ -108,7 +108,7 @@ invariant_of-self g c =
     let M = g.row.M.Denot in
     let b = g.D.Disk.bytes in
     let m = g.D.Disk.moment in
-    let l = g.D.Disk.may_leave in
+    let l = g.D.Disk.may_hold_after in
     let f = g.D.Disk.faults in
     let n = g.M.Media in
     let at = c.moment_since-self-inside in

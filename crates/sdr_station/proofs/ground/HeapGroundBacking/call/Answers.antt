@@ -1,7 +1,7 @@
 use Rattle.sdr_lock.proofs.GroundLemmas.{leaves_same}
 use Rattle.sdr_station.proofs.GroundLemmas.{heap_ground}
-use Rattle.sdr_station.proofs.ground.HeapGroundServes.call.Goals as goal
+use Rattle.sdr_station.proofs.ground.HeapGroundBacking.call.Goals as goal
 
 pub returns-then-self-clause-any_moment : goal.returns-then-self-clause-any_moment
 returns-then-self-clause-any_moment g c =
-    leaves_same (heap_ground g.D.Disk.bytes g.D.Disk.moment g.D.Disk.faults g.D.Disk.may_leave g.M.Media) c.args.self.now
+    leaves_same (heap_ground g.D.Disk.bytes g.D.Disk.moment g.D.Disk.faults g.D.Disk.may_hold_after g.M.Media) c.args.self.now

@@ -1,6 +1,6 @@
 use Rattle.std.proofs.Common.{◌∙◌}
 use Rattle.sdr_plain.proofs.BareLemmas.{brings_call, keeps_called, uncaused_dry}
-use Rattle.sdr_plain.proofs.bare.BareServes.call.Goals as goal
+use Rattle.sdr_plain.proofs.bare.BareBacking.call.Goals as goal
 
 pub returns-clause-answered : goal.returns-clause-answered
 returns-clause-answered c = brings_call _ c.in-Ok.reply _ _ _ c.self.view_is c.in-Ok.ensures.step c.in-Ok.ensures.begun

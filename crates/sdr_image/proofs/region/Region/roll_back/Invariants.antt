@@ -1,6 +1,6 @@
 use Rattle.std.proofs.Common.{◌≡◌, ◌*◌, true, length}
 use Rattle.sdr_log.specs.Log.{are_good, put_records}
-use Rattle.sdr_image.proofs.region.Region.put_back.Given as goal
+use Rattle.sdr_image.proofs.region.Region.roll_back.Given as goal
 
 abbrev pub invariant-loop-old : goal.invariant-loop-old
 invariant-loop-old l = record {

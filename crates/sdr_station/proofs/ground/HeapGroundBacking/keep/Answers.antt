@@ -1,8 +1,8 @@
 use Rattle.sdr_lock.proofs.GroundLemmas as ground
 use Rattle.sdr_station.proofs.GroundLemmas.{heap_ground}
-use Rattle.sdr_station.proofs.ground.HeapGroundServes.keep.Goals as goal
+use Rattle.sdr_station.proofs.ground.HeapGroundBacking.keep.Goals as goal
 
 pub returns-then-self-clause-any_moment : goal.returns-then-self-clause-any_moment
 returns-then-self-clause-any_moment g c =
-    let h = heap_ground g.D.Disk.bytes g.D.Disk.moment g.D.Disk.faults g.D.Disk.may_leave g.M.Media in
+    let h = heap_ground g.D.Disk.bytes g.D.Disk.moment g.D.Disk.faults g.D.Disk.may_hold_after g.M.Media in
     ground.leaves_either h (ground.leaves_same h c.args.self.now)

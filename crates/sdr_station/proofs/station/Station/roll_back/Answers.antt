@@ -3,13 +3,13 @@ use Rattle.sdr_base.specs.declared.stop.Stop.TheVariants as stops
 use Rattle.sdr_station.proofs.GroundLemmas.{heap_ground}
 use Rattle.sdr_station.specs.Stationed.{Closes, Stationed}
 use Rattle.sdr_station.proofs.StationLemmas.{leaves_unkept, settles_back}
-use Rattle.sdr_station.proofs.station.Station.put_back.Goals as goal
+use Rattle.sdr_station.proofs.station.Station.roll_back.Goals as goal
 
 pub returns-in-Ok : goal.returns-in-Ok
 returns-in-Ok g c =
     let D = g.row.D.Denot in
     let M = g.row.M.Denot in
-    let h = heap_ground g.D.Disk.bytes g.D.Disk.moment g.D.Disk.faults g.D.Disk.may_leave g.M.Media in
+    let h = heap_ground g.D.Disk.bytes g.D.Disk.moment g.D.Disk.faults g.D.Disk.may_hold_after g.M.Media in
     let close = c.args.close in
     let old : Stationed D M = record { ground = c.self.inside.ground; nesting = c.self.inside.nesting; failed = c.self.inside.failed } in
     let new : Stationed D M = record { ground = c.restore.new.self; nesting = c.none-self-inside.result; failed = c.self.inside.failed } in
@@ -31,7 +31,7 @@ pub returns-in-Err : goal.returns-in-Err
 returns-in-Err g c =
     let D = g.row.D.Denot in
     let M = g.row.M.Denot in
-    let h = heap_ground g.D.Disk.bytes g.D.Disk.moment g.D.Disk.faults g.D.Disk.may_leave g.M.Media in
+    let h = heap_ground g.D.Disk.bytes g.D.Disk.moment g.D.Disk.faults g.D.Disk.may_hold_after g.M.Media in
     let close = c.args.close in
     let old : Stationed D M = record { ground = c.self.inside.ground; nesting = c.self.inside.nesting; failed = c.self.inside.failed } in
     let new : Stationed D M = record { ground = c.restore.new.self; nesting = c.none-self-inside-in-Err.result; failed = Some c.moment.result } in

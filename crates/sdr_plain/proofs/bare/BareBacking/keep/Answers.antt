@@ -1,7 +1,7 @@
 use Rattle.std.proofs.Common.{◌∙◌, ap}
 use Rattle.sdr_plain.proofs.BareLemmas.{brings_kept, keeps_kept}
 use Rattle.sdr_plain.specs.Bare.{worlds_kept}
-use Rattle.sdr_plain.proofs.bare.BareServes.keep.Goals as goal
+use Rattle.sdr_plain.proofs.bare.BareBacking.keep.Goals as goal
 
 pub returns-clause-kept : goal.returns-clause-kept
 returns-clause-kept c = brings_kept _ _ ((λ i. record { begun = (c.keep.ensures i).begun; now = (c.keep.ensures i).now }) ∙ ap worlds_kept c.self.view_is)

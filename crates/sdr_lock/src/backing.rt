@@ -1,15 +1,15 @@
 // The ground of a lock.
 ghost use Rattle.std.specs.Prelude.{true, false, ◌≡◌, IfOk, OnOk, OnErr, IsErrOf};
 ghost use Rattle.sdr_lock.specs.Crash.{LeavesBefore, LeavesEither};
-ghost use Rattle.sdr_lock.specs.Gaps.{HasGapCause};
-ghost use Rattle.sdr_lock.specs.Serving.{Brings, Calls, Keeps, KeepsGround, MeetsFault, PutsBack, Shows};
+ghost use Rattle.sdr_lock.specs.Lapses.{HasLapseCause};
+ghost use Rattle.sdr_lock.specs.Serving.{Brings, Calls, Commits, KeepsGround, MeetsFault, RollsBack, Shows};
 
 use crate::{Fault, Halt, HasGround};
 use sdr_model::{Answer, Call, Reply};
 
-/// A world that calls change within a transaction, which is then kept or put back. A transaction begins
+/// A world that calls change within a transaction, which then commits or is rolled back. A transaction begins
 /// with the first call after that.
-pub trait Serves: HasGround {
+pub trait Backing: HasGround {
     /// The disk's moment.
     fn moment(&self) -> u64
         ensures { result ≡ Self.moment self.now };
@@ -19,8 +19,8 @@ pub trait Serves: HasGround {
         requires { Self.lasts self.old 1 }
         ensures answered { IfOk result (λ reply. Brings Self.stands self.old self.new
             (Calls (Self.told self.old) call.now reply)) }
-        ensures gap { IfOk result (λ reply. HasGapCause (Answer.Reply reply) (Self.gaps self.old)
-            (Self.gaps self.new)) }
+        ensures gap { IfOk result (λ reply. HasLapseCause (Answer.Reply reply) (Self.lapses self.old)
+            (Self.lapses self.new)) }
         ensures memory { IsErrOf result Halt.Memory → self.new ≡ self.old }
         ensures fault { IsErrOf result Halt.Fault → MeetsFault Self.HasGround self.old self.new }
         ensures keeps { KeepsGround Self.HasGround true self.old self.new }
@@ -28,15 +28,15 @@ pub trait Serves: HasGround {
 
     /// Keeps what the transaction has done. Want of memory leaves all as before.
     fn keep(&mut self) -> Result<(), Halt>
-        ensures kept { OnOk result (Brings Self.stands self.old self.new Keeps) }
+        ensures kept { OnOk result (Brings Self.stands self.old self.new Commits) }
         ensures memory { IsErrOf result Halt.Memory → self.new ≡ self.old }
         ensures fault { IsErrOf result Halt.Fault → MeetsFault Self.HasGround self.old self.new }
         ensures keeps { KeepsGround Self.HasGround false self.old self.new }
         ensures any_moment { LeavesEither Self.HasGround self.old self.new };
 
-    /// Puts back what was before the transaction.
-    fn put_back(&mut self) -> Result<(), Fault>
-        ensures put_back { OnOk result (Brings Self.stands self.old self.new PutsBack) }
+    /// Rolls the transaction back: what was before it stands again.
+    fn roll_back(&mut self) -> Result<(), Fault>
+        ensures put_back { OnOk result (Brings Self.stands self.old self.new RollsBack) }
         ensures fault { OnErr result (MeetsFault Self.HasGround self.old self.new) }
         ensures keeps { KeepsGround Self.HasGround false self.old self.new }
         ensures any_moment { LeavesBefore Self.HasGround self.old self.new };
