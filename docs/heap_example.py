@@ -1,6 +1,6 @@
 #!/usr/bin/env python3
 """Writes the small heap of docs/FORMAT.md from the tables there, in hex, or with `spec` as the lists of
-crates/sdr_audit/specs/Example.antt. It shares nothing with the crates.
+crates/sdr_stands/specs/Example.antt. It shares nothing with the crates.
 
     python3 docs/heap_example.py [spec]
 """

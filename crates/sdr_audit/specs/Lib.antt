@@ -1,5 +1,4 @@
-pub mod Example
-pub mod Rows
-pub mod Shape
-pub mod Standing
-pub mod Ties
+pub mod Errors
+pub mod Census
+pub mod Checked
+pub mod WorldChains

@@ -1,41 +1,61 @@
-//! When the bytes of a heap stand for a world. Each law is the contract of a function that does nothing.
+//! The whole audit of a heap region, and what it says of the heap.
 //!
-//! `StandsFor` says it of the bytes of a heap region between transactions, and `HeapStandsFor` of a heap in a
-//! transaction: the blocks in use are just the world's, each with the bytes of what it keeps, and the control words
-//! are the world's. That the world is whole is a fact beside it.
+//! A region is read once, and its checks are taken in this order, each of which has its own order in which things are looked at:
 //!
-//! 1. A part of the blocks in use becomes another, and all else stays (`parts_change`).
-//! 2. A thing that comes, changes or goes is such a part (`things_change`). Where what is there then names what was
-//!    named there before, nothing changes in other things' blocks (`alike_things_tie_alike`), so it is a part of the
-//!    world's (`alike_things_are_parts`); and one that is neither a source nor a zero-copy object changes no control
-//!    word besides (`untied_things_stay_apart`). The catalogue and each queue are parts too (`names_and_tickets_change`).
-//! 3. So a heap stands for the world with the other part (`a_part_changes`), and with the thing that came, changed or
-//!    went (`a_thing_comes`, `a_thing_changes`, `a_thing_goes`).
-//! 4. The blocks in use are the blocks of the world, no more and no fewer (`no_block_leaks`).
-//! 5. A fresh heap stands for the world without things, which is whole (`fresh_heap_stands`).
-//! 6. A transaction begins with a heap that stands for the world at rest, and ends with bytes that stand for it
-//!    (`transactions_begin_and_end`).
-//! 7. A small world, byte by byte (`bundle_is_kept_so`), and where the control words stand
-//!    (`control_words_stand_so`).
+//! 1. Its structure: control words, blocks, start bits, lists of free blocks, and contents (`audit_blocks`).
+//! 2. Who owns each block; what blocks and control words count; and the queues of tickets (`audit_counts`).
 //!
-//! Proved: laws: as a thing, a name or a ticket comes, changes or goes, the heap stands for the changed world
-//! (`a_thing_comes`, `a_thing_changes`, `a_thing_goes`, `a_part_changes`). The blocks in use are just the world's
-//! (`no_block_leaks`). A fresh heap stands for a whole world without things (`fresh_heap_stands`).
+//! `check_structure` takes the first step alone. `check` tells the first place that is wrong by the check that found it, or takes a census of the blocks, and `read_world` makes the
+//! world in memory for which a region stands that passes. Such a region isn't wrong anywhere (`right_regions_are_not_wrong`), and no
+//! world stands for one in which something is wrong.
+//!
+//! Proved: `check` answers Ok only where the region is right, and then it stands for the world that it tells
+//! (`right`, `stands`). `Damaged` tells the first wrong place and its check, and then the region stands for no
+//! whole world (`damaged`, `none`). It only reads (`reads`).
+//!
+//! Only tested: a census, and each check's place (`test_audit`); replays behind one another on one file
+//! (`tests/again`).
+//!
+//! A heap whose bytes stand for a whole world tells that world, and all that its blocks and control words tell of one another is
+//! right. Each law is the contract of a function that does nothing.
+//!
+//! 1. What its blocks and control words tell is the world for which they stand (`worlds_are_told`). So bytes stand for one whole
+//!    world at most (`one_world_stands`).
+//! 2. Each block has its owner; lists, hashes and names, the counts of sources, the rules of sources, extents and objects, and what
+//!    is occupied are right; and the queues keep their law (`worlds_are_right`).
+//!
+//! Proved: laws: a region that stands for a whole world tells that world (`worlds_are_told`), so it stands for no
+//! other (`one_world_stands`), and its owners, counts and queues are right (`worlds_are_right`).
+//!
+//! A heap whose bytes stand for a world passes the audit. Each law is the contract of a function that does nothing.
+//!
+//! 1. Its structure is right: control words, blocks, start bits, lists of free blocks, and what stands in each block in use
+//!    (`worlds_are_sound`).
+//! 2. The blocks of the world are linked into chains as their owners say, each stands in just one, and extents, sources and raw
+//!    objects name one another (`worlds_are_owned`).
+//!
+//! Proved: laws: a region of bytes that stands for a whole world passes the audit of structure
+//! (`worlds_are_sound`) and the audit of owners (`worlds_are_owned`).
 #![tactic(auto)]
 
-mod blocks;
-mod changes;
-mod example;
-mod fresh;
-mod parts;
-mod rest;
+mod census;
+mod checking;
+mod error;
+mod laws;
+mod owned;
+mod reading;
+mod right;
+mod sound;
+mod structure;
+mod told;
 
-pub use blocks::no_block_leaks;
-pub use changes::{a_part_changes, a_thing_changes, a_thing_comes, a_thing_goes};
-pub use example::{bundle_is_kept_so, control_words_stand_so};
-pub use fresh::fresh_heap_stands;
-pub use parts::{
-    alike_things_are_parts, alike_things_tie_alike, names_and_tickets_change, parts_change,
-    things_change, untied_things_stay_apart,
-};
-pub use rest::transactions_begin_and_end;
+pub use census::Census;
+pub use checking::check;
+pub use error::{AuditError, Check};
+pub use laws::right_regions_are_not_wrong;
+pub use owned::worlds_are_owned;
+pub use reading::{Survey, read_survey, read_world};
+pub use right::worlds_are_right;
+pub use sound::worlds_are_sound;
+pub use structure::check_structure;
+pub use told::{one_world_stands, worlds_are_told};

@@ -62,7 +62,7 @@ last_reaches {heap} {prev} {was} {rest} (x ∷ xs) c e n =
 -- a block that was taken stands behind them
 pub came_behind : {addr next : ℕ} {old mid : Heap} {rows : List NameRow} {rest : Entries} (name : List ℕ) (kind object : ℕ) →
     TakesBytes kinds.Name (layout (0 ∷ kind ∷ object ∷ []) (name_bytes name)) addr old mid → CatalogueChain old rows
-        next rest →
+    next rest →
     CatalogueChain mid rows next ((addr, name_block 0 0 (last_row addr name kind object)) ∷ rest)
 came_behind {addr} {next} {old} {mid} {rows} {rest} name kind object t c = record {
   stands =

@@ -13,23 +13,23 @@ use Rattle.sdr_model.specs.declared.journal.Entry.{Entry}
 use Rattle.sdr_model.specs.declared.journal.Said.{Said}
 use Rattle.sdr_model.specs.declared.journal.What.{What}
 use Rattle.sdr_model.specs.declared.journal.What.TheVariants as whats
-use Rattle.sdr_lock.specs.Core.{Core, Under, all_said, closed_by, entry_of, said_by, under, what_added, what_of}
-use Rattle.sdr_lock.specs.Crash.{end_told}
-use Rattle.sdr_lock.specs.Ground.{State, committed}
-use Rattle.sdr_lock.specs.Legal.{is_fault}
-use Rattle.sdr_lock.specs.Machine.{Machine, Made}
-use Rattle.sdr_lock.specs.Roll.{daemon_of, number_of}
-use Rattle.sdr_lock.specs.Transaction.{ClosesSo, Finishes, IsAnswered, Runs, is_closing, transaction_of}
-use Rattle.sdr_lock.specs.declared.daemon.Daemon.{Daemon}
-use Rattle.sdr_lock.specs.declared.daemon.Holding.{Holding}
-use Rattle.sdr_lock.specs.Nesting.{closing}
-use Rattle.sdr_lock.specs.Closing.{close_of}
+use Rattle.sdr_machine.specs.Core.{Core, Under, all_said, closed_by, entry_of, said_by, under, what_added, what_of}
+use Rattle.sdr_machine.specs.Crash.{end_told}
+use Rattle.sdr_machine.specs.Ground.{State, committed}
+use Rattle.sdr_machine.specs.Legal.{is_fault}
+use Rattle.sdr_machine.specs.Machine.{Machine, Made}
+use Rattle.sdr_machine.specs.Roll.{daemon_of, number_of}
+use Rattle.sdr_machine.specs.Transaction.{ClosesSo, Finishes, IsAnswered, Runs, is_closing, transaction_of}
+use Rattle.sdr_machine.specs.declared.daemon.Daemon.{Daemon}
+use Rattle.sdr_machine.specs.declared.daemon.Holding.{Holding}
+use Rattle.sdr_machine.specs.Nesting.{closing}
+use Rattle.sdr_machine.specs.Closing.{close_of}
 use Rattle.sdr_base.specs.declared.refusal.Reason.{Reason}
-use Rattle.sdr_runs.specs.Adding.{entry_added}
-use Rattle.sdr_runs.proofs.CoreLemmas.{KeepsCore}
-use Rattle.sdr_runs.proofs.CurrentLemmas.{served_far}
-use Rattle.sdr_runs.proofs.RollLemmas.{found_number, same_number}
-use Rattle.sdr_runs.proofs.WorkLemmas.{runs_last, said_more}
+use Rattle.law_runs.specs.Adding.{entry_added}
+use Rattle.law_runs.proofs.CoreLemmas.{KeepsCore}
+use Rattle.law_runs.proofs.CurrentLemmas.{served_far}
+use Rattle.law_runs.proofs.RollLemmas.{found_number, same_number}
+use Rattle.law_runs.proofs.WorkLemmas.{runs_last, said_more}
 use Rattle.sdr_core.proofs.EndLemmas.{IsOuterEnd}
 
 -- the entry is of the daemon of the event, under its number, and of this
@@ -133,7 +133,7 @@ ends_in_vain told daemons first c e keeps sound end given =
     let how : closes.Ended ≡ closing h.nesting e.said.event =
     sym (ap (closing h.nesting) end.event_is ∙ ap (λ o. option_map_or (λ (reason : Reason). closes.Cancelled reason) o (close_of events.End h.nesting.modified)) end.undoomed) in
     let closed : ClosesSo c.machine.before (transaction_of h c.machine.now) last closes.Ended
-        (committed c.machine.now) =
+    (committed c.machine.now) =
     record { how = how; told = record { answer = refl; moves = given.moves; bytes = given.bytes }; left = refl } in
     subst (λ n. Runs told c.machine.before n (end_told (all_said c.log.works e.daemon e.said)) closes.Ended (committed c.machine.now))
     (sym (ap (λ o. option_map_or (λ (k : Holding). k.number) o (c.machine.roll.drawn + 1)) end.holds))

@@ -2,21 +2,21 @@
 use Rattle.std.proofs.Common.{◌≡◌, ◌≤◌, ◌*◌, ℕ, List, [], ◌∷◌, true≢false, map, Result, Ok, Err, IfOk, OnErr, inl, inr, length, refl, sym, ap, subst, arith}
 use Rattle.std.proofs.lemmas.List.{length-map}
 use Rattle.std.specs.declared.alloc.AllocError.{AllocError}
-use Rattle.sdr_lock.specs.Crash.{commits_by}
-use Rattle.sdr_lock.specs.Serving.{Locked}
-use Rattle.sdr_lock.specs.declared.came.Came.{Came}
-use Rattle.sdr_lock.specs.declared.has_ground.HasGround.{Ghosts}
+use Rattle.sdr_machine.specs.Crash.{commits_by}
+use Rattle.sdr_machine.specs.Serving.{Locked}
+use Rattle.sdr_machine.specs.declared.came.Came.{Came}
+use Rattle.sdr_machine.specs.declared.has_ground.HasGround.{Ghosts}
 use Rattle.sdr_model.specs.declared.event.Event.{Event}
 use Rattle.sdr_model.specs.declared.journal.Entry.{Entry}
-use Rattle.sdr_lock.specs.Core.{Log}
-use Rattle.sdr_lock.specs.Holders.{HoldFirst}
-use Rattle.sdr_runs.proofs.RunLemmas.{run_keeps}
+use Rattle.sdr_machine.specs.Core.{Log}
+use Rattle.sdr_machine.specs.Holders.{HoldFirst}
+use Rattle.law_runs.proofs.RunLemmas.{run_keeps}
 use Rattle.sdr_core.proofs.HoldingLemmas.{as_many, first_after, spoken_kept}
 use Rattle.sdr_core.proofs.LeaveLemmas.{ahead_most}
 use Rattle.sdr_core.proofs.RunLemmas.{keeps_after, keeps_new}
 use Rattle.sdr_core.proofs.SafeLemmas.{machine_step, safe_after, safe_new}
 use Rattle.sdr_core.specs.CoreFacts.{IsCore}
-use Rattle.sdr_lock.specs.Roll.{first_roll, newcomer}
+use Rattle.sdr_machine.specs.Roll.{first_roll, newcomer}
 use Rattle.sdr_core.specs.CoreKept.{RunStart, BeginsOn, LoggedLock, KeepsRun, KeepsSafe, MakesCoreStep, HasState, core_at}
 use Rattle.sdr_core.specs.Keeping.{AreApart, works_of}
 use Rattle.sdr_core.specs.Logging.{HasRoomFor, HasRoomOr, HaveSpoken, IsSame, leaves_ahead, log_of}

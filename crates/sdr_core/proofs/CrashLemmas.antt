@@ -3,7 +3,7 @@ use Rattle.std.proofs.Common.{◌≡◌, ℕ, zero, suc, ◌+◌, ◌<◌, ◌�
 use Rattle.std.proofs.lemmas.Bool.Decides.{nat_tests}
 use Rattle.sdr_disk.specs.Moments.{AtEach}
 use Rattle.sdr_model.specs.declared.journal.Entry.{Entry}
-use Rattle.sdr_lock.specs.Crash.{AfterSome, IsCrashSafe, begun_below, done_by, is_sound, is_whole}
+use Rattle.sdr_machine.specs.Crash.{AfterSome, IsCrashSafe, begun_below, done_by, is_sound, is_whole}
 
 pub done_by-le : (m : ℕ) (journal : List Entry) → done_by m journal ≤ length journal
 unfolding done_by

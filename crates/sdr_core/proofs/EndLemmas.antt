@@ -7,16 +7,16 @@ use Rattle.sdr_model.specs.declared.answer.Close.TheVariants as closes
 use Rattle.sdr_model.specs.declared.answer.Reply.TheVariants as replies
 use Rattle.sdr_model.specs.declared.event.Event.{Event}
 use Rattle.sdr_model.specs.declared.event.Event.TheVariants as events
-use Rattle.sdr_lock.specs.Closing.{close_of}
-use Rattle.sdr_lock.specs.Crash.{commits_by, commits_in, commits_of, commits_under}
-use Rattle.sdr_lock.specs.Ground.{committed}
-use Rattle.sdr_lock.specs.Machine.{Closes, FaultsWithin, Holds, Machine, Made, MachineStep, OnTurn, is_outside}
-use Rattle.sdr_lock.specs.Nesting.{closing}
-use Rattle.sdr_lock.specs.Roll.{Roll, daemon_of, served_number}
-use Rattle.sdr_lock.specs.Transaction.{IsAnswered, state_left}
-use Rattle.sdr_lock.specs.declared.daemon.Daemon.{Daemon}
-use Rattle.sdr_lock.specs.declared.daemon.Holding.{Holding}
-use Rattle.sdr_lock.proofs.StepLemmas.{from_option, from_test}
+use Rattle.sdr_machine.specs.Closing.{close_of}
+use Rattle.sdr_machine.specs.Crash.{commits_by, commits_in, commits_of, commits_under}
+use Rattle.sdr_machine.specs.Ground.{committed}
+use Rattle.sdr_machine.specs.Machine.{Closes, FaultsWithin, Holds, Machine, Made, MachineStep, OnTurn, is_outside}
+use Rattle.sdr_machine.specs.Nesting.{closing}
+use Rattle.sdr_machine.specs.Roll.{Roll, daemon_of, served_number}
+use Rattle.sdr_machine.specs.Transaction.{IsAnswered, state_left}
+use Rattle.sdr_machine.specs.declared.daemon.Daemon.{Daemon}
+use Rattle.sdr_machine.specs.declared.daemon.Holding.{Holding}
+use Rattle.sdr_machine.proofs.StepLemmas.{from_option, from_test}
 
 both : (a b : Bool) → (a && b) ≡ true → (a ≡ true) × (b ≡ true)
 both true b e = (refl, e)

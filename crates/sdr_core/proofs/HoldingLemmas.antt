@@ -7,20 +7,20 @@ use Rattle.sdr_base.specs.Media.{Told}
 use Rattle.sdr_model.specs.declared.event.Event.{Event}
 use Rattle.sdr_model.specs.declared.event.Event.TheVariants as events
 use Rattle.sdr_model.specs.declared.journal.Said.{Said}
-use Rattle.sdr_lock.specs.Core.{Core, said_by}
-use Rattle.sdr_lock.specs.Ground.{State}
-use Rattle.sdr_lock.specs.Holders.{HoldFirst}
-use Rattle.sdr_lock.specs.Machine.{Machine, Made, MachineStep, roll_acting, roll_coming, roll_failed, roll_holding}
-use Rattle.sdr_lock.specs.Roll.{Roll, after_leave, daemon_of, served_number, with_daemon, with_drawn, with_number}
-use Rattle.sdr_lock.specs.Transaction.{transaction_of}
-use Rattle.sdr_lock.specs.declared.daemon.Daemon.{Daemon}
-use Rattle.sdr_lock.specs.declared.daemon.Holding.{Holding}
-use Rattle.sdr_lock.proofs.HolderSteps.{keeps_holders, put_holders}
-use Rattle.sdr_lock.proofs.StepLemmas.{from_option}
-use Rattle.sdr_runs.proofs.CoreLemmas.{KeepsCore}
-use Rattle.sdr_runs.proofs.CurrentLemmas.{Current}
-use Rattle.sdr_runs.proofs.RollLemmas.{contrary, same_number}
-use Rattle.sdr_runs.proofs.WorkLemmas.{SoFar, Untouched}
+use Rattle.sdr_machine.specs.Core.{Core, said_by}
+use Rattle.sdr_machine.specs.Ground.{State}
+use Rattle.sdr_machine.specs.Holders.{HoldFirst}
+use Rattle.sdr_machine.specs.Machine.{Machine, Made, MachineStep, roll_acting, roll_coming, roll_failed, roll_holding}
+use Rattle.sdr_machine.specs.Roll.{Roll, after_leave, daemon_of, served_number, with_daemon, with_drawn, with_number}
+use Rattle.sdr_machine.specs.Transaction.{transaction_of}
+use Rattle.sdr_machine.specs.declared.daemon.Daemon.{Daemon}
+use Rattle.sdr_machine.specs.declared.daemon.Holding.{Holding}
+use Rattle.sdr_machine.proofs.HolderSteps.{keeps_holders, put_holders}
+use Rattle.sdr_machine.proofs.StepLemmas.{from_option}
+use Rattle.law_runs.proofs.CoreLemmas.{KeepsCore}
+use Rattle.law_runs.proofs.CurrentLemmas.{Current}
+use Rattle.law_runs.proofs.RollLemmas.{contrary, same_number}
+use Rattle.law_runs.proofs.WorkLemmas.{SoFar, Untouched}
 use Rattle.sdr_core.proofs.PlaceLemmas.{none_works}
 use Rattle.sdr_core.proofs.SpokenLemmas.{said_by-none}
 use Rattle.sdr_core.specs.Keeping.{spoken_of, works_of}

@@ -2,14 +2,14 @@
 use Rattle.std.proofs.Common.{◌≡◌, ◌∙◌, ℕ, List, [], ◌∷◌, ◌++◌, Bool, true, false, None, Some, MatchOption, refl, sym, ap, subst}
 use Rattle.std.specs.Option.{option_map, option_map_or, option_to_list}
 use Rattle.std.specs.Prelude.{if◌then◌else◌, ⊤}
-use Rattle.sdr_lock.specs.Core.{Log, Under, Work, all_said, closed_by, entry_of, was_outside, log_after, said_by, what_added, with_said, without_work, works_after}
-use Rattle.sdr_lock.specs.Machine.{Made}
+use Rattle.sdr_machine.specs.Core.{Log, Under, Work, all_said, closed_by, entry_of, was_outside, log_after, said_by, what_added, with_said, without_work, works_after}
+use Rattle.sdr_machine.specs.Machine.{Made}
 use Rattle.sdr_model.specs.declared.answer.Close.{Close}
 use Rattle.sdr_model.specs.declared.journal.Said.{Said}
 use Rattle.sdr_model.specs.declared.journal.What.TheVariants as whats
 use Rattle.sdr_core.proofs.PlaceLemmas.{none_works}
 use Rattle.sdr_core.proofs.SpokenLemmas.{apart-said, said_by-none, with_said-none, without_work-with_said}
-use Rattle.sdr_runs.proofs.WorkLemmas as runs
+use Rattle.law_runs.proofs.WorkLemmas as runs
 use Rattle.sdr_core.specs.Keeping.{AreApart, spoken_of, work_of, works_of}
 use Rattle.sdr_core.specs.Logging.{ClosesWithin}
 use Rattle.sdr_core.specs.declared.spoken.Spoken.{Spoken}

@@ -12,15 +12,15 @@ use Rattle.sdr_model.specs.declared.event.Event.TheVariants as events
 use Rattle.sdr_model.specs.declared.event.Leave.{Leave}
 use Rattle.sdr_model.specs.declared.journal.What.{What}
 use Rattle.sdr_model.specs.declared.journal.What.TheVariants as whats
-use Rattle.sdr_lock.specs.Core.{Under, Work, all_said, closed_by, has_left, is_failed, is_passed_over, under, what_added, what_of}
-use Rattle.sdr_lock.specs.Machine.{Closes, Comes, FaultsWithin, Goes, Holds, Machine, Made, MachineStep, roll_acting, roll_coming, roll_failed, roll_holding, with_roll}
-use Rattle.sdr_lock.specs.Roll.{Roll, when_done, after_leave, daemon_of, put_daemon, served_number, with_daemon, with_drawn, with_number}
-use Rattle.sdr_lock.specs.Nesting.{nested}
-use Rattle.sdr_lock.specs.Transaction.{refused}
-use Rattle.sdr_lock.specs.declared.daemon.Daemon.{Daemon}
-use Rattle.sdr_lock.specs.declared.daemon.Holding.{Holding}
-use Rattle.sdr_lock.proofs.StepLemmas.{Kind, from_option, from_test, step_is}
-use Rattle.sdr_runs.proofs.RollLemmas.{among, found_number, found_put, put_here, put_later, same_number}
+use Rattle.sdr_machine.specs.Core.{Under, Work, all_said, closed_by, has_left, is_failed, is_passed_over, under, what_added, what_of}
+use Rattle.sdr_machine.specs.Machine.{Closes, Comes, FaultsWithin, Goes, Holds, Machine, Made, MachineStep, roll_acting, roll_coming, roll_failed, roll_holding, with_roll}
+use Rattle.sdr_machine.specs.Roll.{Roll, when_done, after_leave, daemon_of, put_daemon, served_number, with_daemon, with_drawn, with_number}
+use Rattle.sdr_machine.specs.Nesting.{nested}
+use Rattle.sdr_machine.specs.Transaction.{refused}
+use Rattle.sdr_machine.specs.declared.daemon.Daemon.{Daemon}
+use Rattle.sdr_machine.specs.declared.daemon.Holding.{Holding}
+use Rattle.sdr_machine.proofs.StepLemmas.{Kind, from_option, from_test, step_is}
+use Rattle.law_runs.proofs.RollLemmas.{among, found_number, found_put, put_here, put_later, same_number}
 use Rattle.sdr_core.specs.Logging.{PassesUnlessClosing, entries_of, leaves_ahead, leaves_of}
 
 -- how many may still be added where a daemon is put in its place

@@ -5,13 +5,13 @@ use Rattle.sdr_model.specs.declared.answer.Close.{Close}
 use Rattle.sdr_model.specs.declared.event.Event.{Event}
 use Rattle.sdr_model.specs.declared.event.Event.TheVariants as events
 use Rattle.sdr_model.specs.declared.event.Leave.{Leave}
-use Rattle.sdr_lock.specs.Core.{Under, closed_by, looks_again, under, what_of}
-use Rattle.sdr_lock.specs.Machine.{Machine, Made, MachineStep}
-use Rattle.sdr_lock.specs.Roll.{daemon_of}
-use Rattle.sdr_lock.specs.Serving.{Acts, Locked, IsInSomeState, MakesMachineStep, machine_at, made_by, made_with}
-use Rattle.sdr_lock.specs.declared.came.Came.{Came}
-use Rattle.sdr_lock.specs.declared.daemon.Daemon.{Daemon}
-use Rattle.sdr_lock.specs.declared.has_ground.HasGround.{Ghosts}
+use Rattle.sdr_machine.specs.Core.{Under, closed_by, looks_again, under, what_of}
+use Rattle.sdr_machine.specs.Machine.{Machine, Made, MachineStep}
+use Rattle.sdr_machine.specs.Roll.{daemon_of}
+use Rattle.sdr_machine.specs.Serving.{Acts, Locked, IsInSomeState, MakesMachineStep, machine_at, made_by, made_with}
+use Rattle.sdr_machine.specs.declared.came.Came.{Came}
+use Rattle.sdr_machine.specs.declared.daemon.Daemon.{Daemon}
+use Rattle.sdr_machine.specs.declared.has_ground.HasGround.{Ghosts}
 use Rattle.sdr_core.proofs.LeaveLemmas.{LeaveIs, leave_entries, leave_is, leave_quiet}
 use Rattle.sdr_core.proofs.RunLemmas.{made_quiet}
 use Rattle.sdr_core.specs.CoreKept.{HasState}

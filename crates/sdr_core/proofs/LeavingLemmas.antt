@@ -7,21 +7,21 @@ use Rattle.std.specs.Option.{option_map_or, option_and_then}
 use Rattle.sdr_base.specs.Media.{Told}
 use Rattle.sdr_model.specs.declared.event.Event.TheVariants as events
 use Rattle.sdr_model.specs.declared.event.Leave.{Leave}
-use Rattle.sdr_lock.specs.Core.{Core, CoreStep, Log}
-use Rattle.sdr_lock.specs.Lapses.{Lapses, LapsesLast}
-use Rattle.sdr_lock.specs.Holders.{HoldFirst, holders}
-use Rattle.sdr_lock.specs.Leaving.{AllLeave, HoldersLeave, LeaveInTurn, MakesLeave, holds_number, served_daemon, staying}
-use Rattle.sdr_lock.specs.Machine.{Made, MachineStep}
-use Rattle.sdr_lock.specs.Roll.{MayDraw, Roll, held_by, served_number}
-use Rattle.sdr_lock.specs.Serving.{Locked, IsInSomeState, machine_at, made_by}
-use Rattle.sdr_lock.specs.Standing.{GroundState}
-use Rattle.sdr_lock.specs.declared.came.Came.{Came}
-use Rattle.sdr_lock.specs.declared.daemon.Daemon.{Daemon}
-use Rattle.sdr_lock.specs.declared.daemon.Holding.{Holding}
-use Rattle.sdr_lock.specs.declared.has_ground.HasGround.{Ghosts}
-use Rattle.sdr_lock.proofs.GroundLemmas.{lapses_same}
-use Rattle.sdr_lock.proofs.HolderLemmas.{IsFirst, find_first, put_fewer, put_length, served_holds}
-use Rattle.sdr_lock.proofs.WorkLemmas.{on_some}
+use Rattle.sdr_machine.specs.Core.{Core, CoreStep, Log}
+use Rattle.sdr_machine.specs.Lapses.{Lapses, LapsesLast}
+use Rattle.sdr_machine.specs.Holders.{HoldFirst, holders}
+use Rattle.sdr_machine.specs.Leaving.{AllLeave, HoldersLeave, LeaveInTurn, MakesLeave, holds_number, served_daemon, staying}
+use Rattle.sdr_machine.specs.Machine.{Made, MachineStep}
+use Rattle.sdr_machine.specs.Roll.{MayDraw, Roll, held_by, served_number}
+use Rattle.sdr_machine.specs.Serving.{Locked, IsInSomeState, machine_at, made_by}
+use Rattle.sdr_machine.specs.Standing.{GroundState}
+use Rattle.sdr_machine.specs.declared.came.Came.{Came}
+use Rattle.sdr_machine.specs.declared.daemon.Daemon.{Daemon}
+use Rattle.sdr_machine.specs.declared.daemon.Holding.{Holding}
+use Rattle.sdr_machine.specs.declared.has_ground.HasGround.{Ghosts}
+use Rattle.sdr_machine.proofs.GroundLemmas.{lapses_same}
+use Rattle.sdr_machine.proofs.HolderLemmas.{IsFirst, find_first, put_fewer, put_length, served_holds}
+use Rattle.sdr_machine.proofs.WorkLemmas.{on_some}
 use Rattle.sdr_core.proofs.LeaveLemmas.{LeaveIs, leave_is}
 use Rattle.sdr_core.specs.CoreKept.{LoggedLock, MakesCoreStep, HasState, core_at}
 use Rattle.sdr_core.specs.Leaving.{LastsOn, RunLeads}

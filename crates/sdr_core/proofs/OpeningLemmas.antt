@@ -7,12 +7,12 @@ use Rattle.sdr_base.specs.Media.{Told}
 use Rattle.sdr_disk.specs.Moments.{AtEach}
 use Rattle.sdr_model.specs.declared.journal.Entry.{Entry}
 use Rattle.sdr_model.specs.declared.journal.What.{What}
-use Rattle.sdr_lock.specs.Crash.{AfterSome, IsCrashSafe, KeptInVain, LeavesBefore, LeavesOr, OpensAfter, as_ended, begun_below, done_by, is_sound, is_whole}
-use Rattle.sdr_lock.specs.Ground.{State, committed}
-use Rattle.sdr_lock.specs.Legal.{IsAfter, Lead, MayFollow}
-use Rattle.sdr_lock.specs.Standing.{GroundState}
-use Rattle.sdr_lock.specs.declared.has_ground.HasGround.{Ghosts}
-use Rattle.sdr_runs.proofs.JournalLemmas.{lead_more, take_all}
+use Rattle.sdr_machine.specs.Crash.{AfterSome, IsCrashSafe, KeptInVain, LeavesBefore, LeavesOr, OpensAfter, as_ended, begun_below, done_by, is_sound, is_whole}
+use Rattle.sdr_machine.specs.Ground.{State, committed}
+use Rattle.sdr_machine.specs.Legal.{IsAfter, Lead, MayFollow}
+use Rattle.sdr_machine.specs.Standing.{GroundState}
+use Rattle.sdr_machine.specs.declared.has_ground.HasGround.{Ghosts}
+use Rattle.law_runs.proofs.JournalLemmas.{lead_more, take_all}
 use Rattle.sdr_core.proofs.CrashLemmas.{begun-more, crash_ended, crash_faulted, done_by-unsound}
 
 -- The entry, in which the disk failed as its transaction ended, might stand behind the journal if the end had been answered, and
@@ -151,7 +151,7 @@ module _ {T : Type 0} (g : Ghosts T) (told : Option Told) (daemons : List ℕ) (
               ended = would.ended;
               kept =
                   subst (λ entries. MayFollow told daemons entries v.before e.number e.daemon would.what
-                      (committed v.now))
+                  (committed v.now))
                   (sym (take-append-le (length journal) journal (e ∷ []) (omega arith) ∙ take_all journal)) would.stands;
             });
           })) broken

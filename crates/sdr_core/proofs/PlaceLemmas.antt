@@ -4,12 +4,12 @@ use Rattle.std.specs.List.{filter, flat_map, position_from, remove}
 use Rattle.std.specs.Prelude.{if◌then◌else◌, position, slice_index_or, slice_set, ⊤}
 use Rattle.std.proofs.lemmas.Iterator.Adapters.{position_from-zero}
 use Rattle.sdr_model.specs.declared.journal.Said.{Said}
-use Rattle.sdr_lock.specs.Core.{Work, said_by, with_said, without_work}
+use Rattle.sdr_machine.specs.Core.{Work, said_by, with_said, without_work}
 use Rattle.sdr_core.proofs.SpokenLemmas.{said_by-none, without_work-none}
 use Rattle.sdr_core.specs.Keeping.{AreApart, AreSpacious, HasSpace, MaySay, StandsAt, is_of, spoken_of, work_of, works_of}
 use Rattle.std.proofs.Math.Seq.{get_or-append_seam, set-append_seam}
 use Rattle.sdr_core.specs.declared.spoken.Spoken.{Spoken}
-use Rattle.sdr_runs.proofs.RollLemmas.{same_number}
+use Rattle.law_runs.proofs.RollLemmas.{same_number}
 
 abbrev is_his : ℕ → Spoken → Bool
 is_his daemon s = s.daemon == daemon

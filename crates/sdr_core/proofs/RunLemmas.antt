@@ -5,25 +5,25 @@ use Rattle.std.specs.Prelude.{if◌then◌else◌}
 use Rattle.sdr_base.specs.Media.{Told}
 use Rattle.sdr_base.specs.declared.moves.Move.{Move}
 use Rattle.sdr_model.specs.declared.event.Event.{Event}
-use Rattle.sdr_lock.specs.Core.{AreInTime, Core, CoreStep, Log, RunsCore, first_core, log_after, under}
-use Rattle.sdr_lock.specs.Crash.{LeavesOr, commits_by}
-use Rattle.sdr_lock.specs.Transaction.{bytes_given}
-use Rattle.sdr_lock.proofs.StepLemmas.{step_is}
+use Rattle.sdr_machine.specs.Core.{AreInTime, Core, CoreStep, Log, RunsCore, first_core, log_after, under}
+use Rattle.sdr_machine.specs.Crash.{LeavesOr, commits_by}
+use Rattle.sdr_machine.specs.Transaction.{bytes_given}
+use Rattle.sdr_machine.proofs.StepLemmas.{step_is}
 use Rattle.sdr_core.proofs.LeaveLemmas.{leave_quiet}
 use Rattle.sdr_model.specs.declared.answer.Answer.{Answer}
 use Rattle.sdr_model.specs.declared.answer.Answer.TheVariants as answers
 use Rattle.sdr_model.specs.declared.answer.Reply.TheVariants as replies
 use Rattle.sdr_model.specs.declared.event.Event.TheVariants as events
 use Rattle.sdr_model.specs.declared.event.Leave.{Leave}
-use Rattle.sdr_lock.specs.Machine.{Made, MachineStep}
-use Rattle.sdr_lock.specs.Legal.{IsLegal}
-use Rattle.sdr_lock.specs.Roll.{daemon_of, first_roll}
-use Rattle.sdr_lock.specs.Serving.{Acts, Asks, Locked, IsInState, machine_at, made_by, made_with}
-use Rattle.sdr_lock.specs.Standing.{GroundState, standing_at}
-use Rattle.sdr_runs.proofs.RunLemmas.{run_is_legal}
-use Rattle.sdr_lock.specs.declared.came.Came.{Came}
-use Rattle.sdr_lock.specs.declared.daemon.Daemon.{Daemon}
-use Rattle.sdr_lock.specs.declared.has_ground.HasGround.{Ghosts}
+use Rattle.sdr_machine.specs.Machine.{Made, MachineStep}
+use Rattle.sdr_machine.specs.Legal.{IsLegal}
+use Rattle.sdr_machine.specs.Roll.{daemon_of, first_roll}
+use Rattle.sdr_machine.specs.Serving.{Acts, Asks, Locked, IsInState, machine_at, made_by, made_with}
+use Rattle.sdr_machine.specs.Standing.{GroundState, standing_at}
+use Rattle.law_runs.proofs.RunLemmas.{run_is_legal}
+use Rattle.sdr_machine.specs.declared.came.Came.{Came}
+use Rattle.sdr_machine.specs.declared.daemon.Daemon.{Daemon}
+use Rattle.sdr_machine.specs.declared.has_ground.HasGround.{Ghosts}
 use Rattle.sdr_core.specs.CoreKept.{RunStart, BeginsOn, LoggedLock, KeepsRun, MakesCoreStep, HasState, StepsCore, core_at, last_done}
 
 -- a run and one event more

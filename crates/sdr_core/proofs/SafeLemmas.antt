@@ -3,26 +3,26 @@ use Rattle.std.proofs.Common.{◌≡◌, ◌∙◌, ◌≤◌, ◌<◌, ◌++◌
 use Rattle.std.proofs.lemmas.Bool.Decides.{nat_tests}
 use Rattle.std.specs.Option.{option_to_list}
 use Rattle.sdr_base.proofs.WrittenLemmas.{rose_later}
-use Rattle.sdr_lock.specs.Core.{Core, CoreStep, all_said, closed_by}
-use Rattle.sdr_lock.specs.Crash.{LeavesOr, OpensAfter, as_ended, done_by, end_told, is_sound, is_whole, commits_by}
-use Rattle.sdr_lock.specs.Ground.{committed}
-use Rattle.sdr_lock.specs.Legal.{IsAfter, MayFollow, is_fault}
-use Rattle.sdr_lock.specs.Machine.{Made, MachineStep}
-use Rattle.sdr_lock.specs.Roll.{first_roll, number_of}
-use Rattle.sdr_lock.specs.Serving.{Asks, Locked, IsInSomeState, is_disk_fault, is_fault_answer, made_by}
-use Rattle.sdr_lock.specs.Transaction.{IsAnswered, Runs}
-use Rattle.sdr_lock.specs.declared.came.Came.{Came}
-use Rattle.sdr_lock.specs.declared.has_ground.HasGround.{Ghosts}
+use Rattle.sdr_machine.specs.Core.{Core, CoreStep, all_said, closed_by}
+use Rattle.sdr_machine.specs.Crash.{LeavesOr, OpensAfter, as_ended, done_by, end_told, is_sound, is_whole, commits_by}
+use Rattle.sdr_machine.specs.Ground.{committed}
+use Rattle.sdr_machine.specs.Legal.{IsAfter, MayFollow, is_fault}
+use Rattle.sdr_machine.specs.Machine.{Made, MachineStep}
+use Rattle.sdr_machine.specs.Roll.{first_roll, number_of}
+use Rattle.sdr_machine.specs.Serving.{Asks, Locked, IsInSomeState, is_disk_fault, is_fault_answer, made_by}
+use Rattle.sdr_machine.specs.Transaction.{IsAnswered, Runs}
+use Rattle.sdr_machine.specs.declared.came.Came.{Came}
+use Rattle.sdr_machine.specs.declared.has_ground.HasGround.{Ghosts}
 use Rattle.sdr_model.specs.declared.answer.Answer.TheVariants as answers
 use Rattle.sdr_model.specs.declared.answer.Close.TheVariants as closes
 use Rattle.sdr_model.specs.declared.answer.Reply.TheVariants as replies
 use Rattle.sdr_model.specs.declared.event.Event.{Event}
 use Rattle.sdr_model.specs.declared.journal.Entry.{Entry}
 use Rattle.sdr_model.specs.declared.journal.What.TheVariants as whats
-use Rattle.sdr_runs.proofs.CoreLemmas.{KeepsCore}
-use Rattle.sdr_runs.proofs.JournalLemmas.{AreSound}
-use Rattle.sdr_runs.proofs.RunLemmas.{core_step_keeps, run_is_after, run_keeps, step_adds}
-use Rattle.sdr_runs.specs.Adding.{AddsRightly, FailsRightly, entry_added}
+use Rattle.law_runs.proofs.CoreLemmas.{KeepsCore}
+use Rattle.law_runs.proofs.JournalLemmas.{AreSound}
+use Rattle.law_runs.proofs.RunLemmas.{core_step_keeps, run_is_after, run_keeps, step_adds}
+use Rattle.law_runs.specs.Adding.{AddsRightly, FailsRightly, entry_added}
 use Rattle.sdr_core.proofs.AddedLemmas.{IsAdded, added_is, answered_fault, closing_adds, ends_in_vain, fault_said}
 use Rattle.sdr_core.proofs.CrashLemmas.{done_by-done, done_by-open, done_by-unsound}
 use Rattle.sdr_core.proofs.EndLemmas.{EndsOrFaults, IsOuterEnd, end_keeps, outer_end}

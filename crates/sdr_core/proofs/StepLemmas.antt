@@ -8,22 +8,22 @@ use Rattle.sdr_model.specs.declared.answer.Reply.TheVariants as replies
 use Rattle.sdr_model.specs.declared.event.Event.{Event}
 use Rattle.sdr_model.specs.declared.event.Event.TheVariants as events
 use Rattle.sdr_model.specs.declared.journal.Said.{Said}
-use Rattle.sdr_lock.specs.Core.{closed_by, is_failed, was_outside, is_passed_over}
-use Rattle.sdr_lock.specs.Machine.{Comes, Holds, Machine, Made, MachineStep}
-use Rattle.sdr_lock.specs.Roll.{daemon_of}
-use Rattle.sdr_lock.specs.Transaction.{bytes_given}
-use Rattle.sdr_lock.proofs.StepLemmas.{IsCalled, Kind, from_option, from_test, step_is}
+use Rattle.sdr_machine.specs.Core.{closed_by, is_failed, was_outside, is_passed_over}
+use Rattle.sdr_machine.specs.Machine.{Comes, Holds, Machine, Made, MachineStep}
+use Rattle.sdr_machine.specs.Roll.{daemon_of}
+use Rattle.sdr_machine.specs.Transaction.{bytes_given}
+use Rattle.sdr_machine.proofs.StepLemmas.{IsCalled, Kind, from_option, from_test, step_is}
 use Rattle.sdr_core.specs.Drafting.{FitsIn}
 use Rattle.sdr_core.specs.Logging.{ClosesWithin}
-use Rattle.sdr_lock.specs.Room.{HoldsEvent}
+use Rattle.sdr_machine.specs.Room.{HoldsEvent}
 use Rattle.sdr_base.specs.declared.moves.Move.{Move}
-use Rattle.sdr_lock.specs.Serving.{made_by}
-use Rattle.sdr_lock.specs.Standing.{GroundState}
+use Rattle.sdr_machine.specs.Serving.{made_by}
+use Rattle.sdr_machine.specs.Standing.{GroundState}
 use Rattle.sdr_core.proofs.RunLemmas.{made_known}
 use Rattle.sdr_core.specs.Noting.{said_noted}
 use Rattle.sdr_core.specs.declared.noted.Noted.{Noted}
 use Rattle.sdr_core.specs.declared.draft.Draft.{Draft}
-use Rattle.sdr_lock.specs.declared.tells.Room.{Room}
+use Rattle.sdr_machine.specs.declared.tells.Room.{Room}
 
 module _ (draft : Draft) (room : Room) (moves : room.moves ≤ vec_capacity draft.moves) (bytes : room.bytes ≤ vec_capacity draft.bytes) where
   fits_nothing : (said : Said) → said.moves ≡ [] → said.bytes ≡ [] → FitsIn draft said

@@ -1,8 +1,8 @@
 -- What holds of every core.
 use Rattle.std.specs.Prelude.{◌≤◌, [], length}
-use Rattle.sdr_lock.specs.Holders.{HoldFirst}
-use Rattle.sdr_lock.specs.Serving.{Locked}
-use Rattle.sdr_lock.specs.declared.has_ground.HasGround.{Ghosts}
+use Rattle.sdr_machine.specs.Holders.{HoldFirst}
+use Rattle.sdr_machine.specs.Serving.{Locked}
+use Rattle.sdr_machine.specs.declared.has_ground.HasGround.{Ghosts}
 use Rattle.sdr_core.specs.CoreKept.{RunStart, KeepsRun, KeepsSafe}
 use Rattle.sdr_core.specs.Keeping.{AreApart, works_of}
 use Rattle.sdr_core.specs.Logging.{HasRoomFor, leaves_ahead, log_of}

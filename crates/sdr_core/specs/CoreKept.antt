@@ -2,20 +2,20 @@
 use Rattle.std.specs.Prelude.{◌≡◌, ◌≤◌, ◌<◌, ◌+◌, ℕ, List, [], ◌∷◌, Option, None, false, true, is_none, length, ⊤}
 use Rattle.sdr_base.specs.Causes.{Rose}
 use Rattle.sdr_base.specs.Media.{Told}
-use Rattle.sdr_lock.specs.Core.{AreInTime, Core, CoreStep, Log, RunsCore, first_core}
-use Rattle.sdr_lock.specs.Crash.{IsCrashSafe, OpensAfter, done_by, is_sound, commits_by}
-use Rattle.sdr_lock.specs.Ground.{Ground, State, resting}
-use Rattle.sdr_lock.specs.Machine.{Made}
-use Rattle.sdr_lock.specs.Legal.{IsAfter, IsLegal}
-use Rattle.sdr_lock.specs.Serving.{Asks, LeadsLock, Locked, SomeState, IsInState, IsInSomeState, machine_at, made_by}
-use Rattle.sdr_lock.specs.Standing.{GroundState}
-use Rattle.sdr_lock.specs.declared.came.Came.{Came}
-use Rattle.sdr_lock.specs.declared.has_ground.HasGround.{Ghosts}
+use Rattle.sdr_machine.specs.Core.{AreInTime, Core, CoreStep, Log, RunsCore, first_core}
+use Rattle.sdr_machine.specs.Crash.{IsCrashSafe, OpensAfter, done_by, is_sound, commits_by}
+use Rattle.sdr_machine.specs.Ground.{Ground, State, resting}
+use Rattle.sdr_machine.specs.Machine.{Made}
+use Rattle.sdr_machine.specs.Legal.{IsAfter, IsLegal}
+use Rattle.sdr_machine.specs.Serving.{Asks, LeadsLock, Locked, SomeState, IsInState, IsInSomeState, machine_at, made_by}
+use Rattle.sdr_machine.specs.Standing.{GroundState}
+use Rattle.sdr_machine.specs.declared.came.Came.{Came}
+use Rattle.sdr_machine.specs.declared.has_ground.HasGround.{Ghosts}
 use Rattle.sdr_model.specs.World.{fresh_world}
 use Rattle.sdr_model.specs.declared.event.Event.{Event}
 use Rattle.sdr_model.specs.declared.journal.Entry.{Entry}
 use Rattle.sdr_base.specs.declared.moves.Move.{Move}
-use Rattle.sdr_lock.specs.Standing.{standing_at}
+use Rattle.sdr_machine.specs.Standing.{standing_at}
 
 -- a lock, and the log of its run
 pub record LoggedLock (T : Type 0) : Type 0 where

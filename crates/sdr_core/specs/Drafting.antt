@@ -3,7 +3,7 @@ use Rattle.std.specs.Prelude.{◌≡◌, ◌≤◌, [], length, vec_capacity}
 use Rattle.sdr_model.specs.declared.event.Event.{Event}
 use Rattle.sdr_model.specs.declared.journal.Said.{Said}
 use Rattle.sdr_core.specs.declared.draft.Draft.{Draft}
-use Rattle.sdr_lock.specs.declared.tells.Room.{Room}
+use Rattle.sdr_machine.specs.declared.tells.Room.{Room}
 
 -- Nothing stands in the draft yet, and there is room for the first two that are said in a transaction.
 pub record IsBlank (draft : Draft) : Type 0 where

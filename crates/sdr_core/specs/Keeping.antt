@@ -1,7 +1,7 @@
 -- What the keeper of a log keeps.
 use Rattle.std.specs.Prelude.{◌≡◌, ◌≤◌, ◌+◌, ◌==◌, ℕ, Bool, true, List, [], ◌∷◌, ◌++◌, Option, None, MatchOption, find, length, map, vec_capacity, vec_len, ⊤}
 use Rattle.std.specs.List.{AllByRecursion}
-use Rattle.sdr_lock.specs.Core.{Work}
+use Rattle.sdr_machine.specs.Core.{Work}
 use Rattle.sdr_core.specs.declared.spoken.Spoken.{Spoken}
 
 -- what a daemon has said in its open transaction

@@ -1,11 +1,11 @@
 -- What a core has come to by some events.
 use Rattle.std.specs.Prelude.{◌≡◌, ℕ, List}
-use Rattle.sdr_lock.specs.Core.{Core}
-use Rattle.sdr_lock.specs.Lapses.{LapsesLast}
-use Rattle.sdr_lock.specs.Machine.{Made}
-use Rattle.sdr_lock.specs.Serving.{IsInState, IsInSomeState}
-use Rattle.sdr_lock.specs.Standing.{GroundState}
-use Rattle.sdr_lock.specs.declared.has_ground.HasGround.{Ghosts}
+use Rattle.sdr_machine.specs.Core.{Core}
+use Rattle.sdr_machine.specs.Lapses.{LapsesLast}
+use Rattle.sdr_machine.specs.Machine.{Made}
+use Rattle.sdr_machine.specs.Serving.{IsInState, IsInSomeState}
+use Rattle.sdr_machine.specs.Standing.{GroundState}
+use Rattle.sdr_machine.specs.declared.has_ground.HasGround.{Ghosts}
 use Rattle.sdr_core.specs.CoreKept.{LoggedLock, core_at}
 
 -- some events were made, by which a core has come to this, and P tells of them

@@ -2,11 +2,11 @@
 use Rattle.std.specs.Prelude.{◌≡◌, ◌<◌, ◌≤◌, ◌+◌, ◌*◌, ◌⊎◌, ◌==◌, ◌++◌, length, ℕ, List, [], ◌∷◌, ◌||◌, Vec, Bool, Option, None, Some, true, false, IsSome, MatchOption, if◌then◌else◌, vec_capacity, vec_len, ⊤}
 use Rattle.std.specs.Option.{option_map, option_map_or, option_to_list}
 use Rattle.std.specs.declared.alloc.Global.{Global}
-use Rattle.sdr_lock.specs.Core.{Log, closed_by, is_failed, is_passed_over, was_outside, what_added, with_said}
-use Rattle.sdr_lock.specs.Roll.{Roll, daemon_of}
-use Rattle.sdr_lock.specs.Serving.{Locked}
-use Rattle.sdr_lock.specs.declared.daemon.Daemon.{Daemon}
-use Rattle.sdr_lock.specs.declared.daemon.Holding.{Holding}
+use Rattle.sdr_machine.specs.Core.{Log, closed_by, is_failed, is_passed_over, was_outside, what_added, with_said}
+use Rattle.sdr_machine.specs.Roll.{Roll, daemon_of}
+use Rattle.sdr_machine.specs.Serving.{Locked}
+use Rattle.sdr_machine.specs.declared.daemon.Daemon.{Daemon}
+use Rattle.sdr_machine.specs.declared.daemon.Holding.{Holding}
 use Rattle.sdr_model.specs.declared.answer.Answer.{Answer}
 use Rattle.sdr_model.specs.declared.event.Event.{Event}
 use Rattle.sdr_model.specs.declared.event.Event.TheVariants as events

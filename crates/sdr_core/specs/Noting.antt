@@ -1,9 +1,9 @@
 -- What is noted of an event.
 use Rattle.std.specs.Prelude.{ℕ, List}
 use Rattle.sdr_base.specs.declared.moves.Move.{Move}
-use Rattle.sdr_lock.specs.Core.{Under}
-use Rattle.sdr_lock.specs.Machine.{Made}
-use Rattle.sdr_lock.specs.Serving.{made_with, said_with}
+use Rattle.sdr_machine.specs.Core.{Under}
+use Rattle.sdr_machine.specs.Machine.{Made}
+use Rattle.sdr_machine.specs.Serving.{made_with, said_with}
 use Rattle.sdr_model.specs.declared.event.Event.{Event}
 use Rattle.sdr_model.specs.declared.journal.Entry.{Entry}
 use Rattle.sdr_model.specs.declared.journal.Said.{Said}

@@ -1,17 +1,17 @@
 // A lock, and the journal of its run.
 ghost use Rattle.std.specs.Prelude.{◌≡◌, ◌≤◌, [], false, true, IfErr, IfOk, OnErr, if◌then◌else◌, length};
-ghost use Rattle.sdr_lock.specs.Standing.{GroundState};
-ghost use Rattle.sdr_lock.specs.Transaction.{bytes_given};
-ghost use Rattle.sdr_lock.specs.Holders.{HoldFirst};
-ghost use Rattle.sdr_lock.specs.Legal.{IsLegal};
-ghost use Rattle.sdr_lock.specs.Roll.{MayDraw, first_roll, held_by};
+ghost use Rattle.sdr_machine.specs.Standing.{GroundState};
+ghost use Rattle.sdr_machine.specs.Transaction.{bytes_given};
+ghost use Rattle.sdr_machine.specs.Holders.{HoldFirst};
+ghost use Rattle.sdr_machine.specs.Legal.{IsLegal};
+ghost use Rattle.sdr_machine.specs.Roll.{MayDraw, first_roll, held_by};
 ghost use Rattle.sdr_core.specs.CoreKept.{BeginsOn, IsRunOf, MakesCoreStep, HasState};
 ghost use Rattle.sdr_core.specs.Logging.{is_leave};
 
 use crate::making::{leave, make};
 use crate::{Keeper, Origin};
 use sdr_base::NoMemory;
-use sdr_lock::{Came, Lock, Roll, Tells};
+use sdr_machine::{Came, Lock, Roll, Tells};
 use sdr_model::{Answer, Entry, Event, Journal, Reply};
 use std::alloc::Global;
 use std::marker::{Model, PhantomData};

@@ -1,13 +1,13 @@
 // An event that is about to be made.
 ghost use Rattle.std.specs.Prelude.{◌≡◌, ◌≤◌, ◌++◌, [], ℕ, List, IfOk, OnOk, length, true, vec_capacity, if◌then◌else◌};
-ghost use Rattle.sdr_lock.specs.Transaction.{bytes_given};
+ghost use Rattle.sdr_machine.specs.Transaction.{bytes_given};
 ghost use Rattle.sdr_core.specs.Drafting.{FitsIn, IsBlank, IsDraft};
 ghost use Rattle.sdr_core.specs.Noting.{said_noted};
 
 use crate::Noted;
 use crate::copying::copy_of;
 use sdr_base::{Bytes, Items, Move, NoMemory};
-use sdr_lock::{Came, Room};
+use sdr_machine::{Came, Room};
 use sdr_model::{Answer, Event, Moves, Reply, Said};
 use std::alloc::Global;
 

@@ -1,6 +1,6 @@
 // The keeper of a log.
 ghost use Rattle.std.specs.Prelude.{◌≡◌, ◌<◌, ◌≤◌, ◌+◌, ◌*◌, ◌++◌, ◌∷◌, [], ℕ, IfOk, IsSome, OnOk, vec_capacity, vec_len};
-ghost use Rattle.sdr_lock.specs.Core.{log_after, said_by, what_of, with_said, without_work, closed_by};
+ghost use Rattle.sdr_machine.specs.Core.{log_after, said_by, what_of, with_said, without_work, closed_by};
 ghost use Rattle.sdr_model.specs.declared.journal.What.TheVariants as whats;
 ghost use Rattle.sdr_core.specs.Drafting.{FitsIn, IsBlank};
 ghost use Rattle.sdr_core.specs.Keeping.{AreApart, AreSpacious, spoken_of, works_of};

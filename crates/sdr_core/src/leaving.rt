@@ -1,13 +1,13 @@
 // The leaves at the end of a run.
 ghost use Rattle.std.specs.Prelude.{◌≡◌, ◌≤◌, ◌+◌, ◌*◌, ◌^◌, ◌++◌, [], filter, length, map, not, vec_capacity, vec_len};
-ghost use Rattle.sdr_lock.specs.Holders.{holders};
-ghost use Rattle.sdr_lock.specs.Leaving.{AllLeave, HoldersLeave, LeaveInTurn};
-ghost use Rattle.sdr_lock.specs.Roll.{MayDraw, held_by};
+ghost use Rattle.sdr_machine.specs.Holders.{holders};
+ghost use Rattle.sdr_machine.specs.Leaving.{AllLeave, HoldersLeave, LeaveInTurn};
+ghost use Rattle.sdr_machine.specs.Roll.{MayDraw, held_by};
 ghost use Rattle.sdr_core.specs.CoreKept.{MakesCoreStep};
 ghost use Rattle.sdr_core.specs.Leaving.{LastsOn, RunLeads};
 
 use crate::{Core, Origin};
-use sdr_lock::{Came, Daemon, Tells};
+use sdr_machine::{Came, Daemon, Tells};
 use sdr_model::{Event, Leave};
 
 // Adds those of these daemons that haven't left.

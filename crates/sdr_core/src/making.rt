@@ -1,16 +1,16 @@
 // How an event is made and noted.
 ghost use Rattle.std.specs.Prelude.{◌≡◌, ◌≤◌, ◌*◌, ◌&&◌, not, Some, IfOk, OnErr, length};
-ghost use Rattle.sdr_lock.specs.Core.{has_left, looks_again};
-ghost use Rattle.sdr_lock.specs.Roll.{MayDraw, daemon_of, held_by, number_of};
-ghost use Rattle.sdr_lock.specs.Standing.{GroundState};
+ghost use Rattle.sdr_machine.specs.Core.{has_left, looks_again};
+ghost use Rattle.sdr_machine.specs.Roll.{MayDraw, daemon_of, held_by, number_of};
+ghost use Rattle.sdr_machine.specs.Standing.{GroundState};
 ghost use Rattle.sdr_core.specs.CoreKept.{MakesCoreStep, HasState};
 ghost use Rattle.sdr_core.specs.Keeping.{AreApart, works_of};
 ghost use Rattle.sdr_core.specs.Logging.{HasRoomFor, HasRoomOr, HaveSpoken, IsSame, leaves_ahead, log_of};
-ghost use Rattle.sdr_lock.specs.Room.{HoldsEvent};
+ghost use Rattle.sdr_machine.specs.Room.{HoldsEvent};
 
 use crate::{Draft, Keeper, Noted, Under};
 use sdr_base::NoMemory;
-use sdr_lock::{Came, Daemon, Lock, Roll, Room, Tells};
+use sdr_machine::{Came, Daemon, Lock, Roll, Room, Tells};
 use sdr_model::{Event, Leave};
 use std::alloc::Global;
 

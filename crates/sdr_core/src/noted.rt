@@ -1,10 +1,10 @@
 // What is noted of an event.
 ghost use Rattle.std.specs.Prelude.{◌≡◌, ◌||◌};
-ghost use Rattle.sdr_lock.specs.Core.{closed_by, is_failed, is_passed_over, what_added};
+ghost use Rattle.sdr_machine.specs.Core.{closed_by, is_failed, is_passed_over, what_added};
 ghost use Rattle.sdr_core.specs.Noting.{entry_noted, under_of};
 
 use sdr_base::Refusal;
-use sdr_lock::Came;
+use sdr_machine::Came;
 use sdr_model::{Answer, Close, Entry, Event, Leave, Reply, What};
 
 /// What an event was made under.

@@ -1,6 +1,6 @@
 // What daemons say in their transactions.
 ghost use Rattle.std.specs.Prelude.{◌≡◌, ◌==◌, ◌<◌, ◌∷◌, IfSome, MatchOption, OnOk, Some, None, length, position, vec_capacity};
-ghost use Rattle.sdr_lock.specs.Core.{said_by, with_said, without_work};
+ghost use Rattle.sdr_machine.specs.Core.{said_by, with_said, without_work};
 ghost use Rattle.sdr_core.specs.Keeping.{AreApart, AreSpacious, HasSpace, MaySay, spoken_of, works_of};
 
 use sdr_base::NoMemory;

@@ -119,7 +119,7 @@ module _ (h : History) (place : ℕ) (from : List ℕ) (outcome : Outcome)
       let old : List ℕ = part place (length from) (bytes_read h) in
       let many : length old ≡ length from = length-part place (length from) (bytes_read h) inside in
       let whole = Agrees-part_back place (length from) (bytes_read h) image (ranges_of (state_now h).written) inside f
-          in
+      in
       record {
         whole = overwrite place old image;
         left_before = MayLeave-now h (overwrite place old image) (record { long = whole.long; same = whole.same });

@@ -255,7 +255,7 @@ module _ (torn : Torn) (kept : List KeptChange) (now : List ℕ) (m count : ℕ)
   image_of-crash begun undone' torn' are undoes tears =
       tears
       ∙ ap (λ (l : List KeptChange). tear_changes torn (changes_of l) undone')
-          (take_rest begun count ∙ ap (drop count) are)
+      (take_rest begun count ∙ ap (drop count) are)
       ∙ ap (tear_changes torn (changes_of (drop count (take (m / 2 + m % 2) kept))))
       (undoes ∙ ap (λ (l : List KeptChange). undone_all l now) (take_rest kept count))
       ∙ image_of-made

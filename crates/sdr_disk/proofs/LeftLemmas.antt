@@ -105,7 +105,7 @@ MayLeave-image_of torn kept now m leads =
 -- an image that equals that of a crash, in a history that what is kept stands for
 pub MayLeave-made : (torn : Torn) (kept : List KeptChange) (now : List ℕ) (m : ℕ) (h : History) (image : List ℕ)
     → LeadsBytes (undone_all kept now) kept now → history_of kept now ≡ h → image ≡ image_of torn h m →
-        MayLeave h m image
+    MayLeave h m image
 MayLeave-made torn kept now m h image leads is made =
     subst (MayLeave h m) (sym made)
     (subst (λ (g : History). MayLeave g m (image_of torn g m)) is (MayLeave-image_of torn kept now m leads))

@@ -31,37 +31,37 @@ module _ (h h' : History) (old new : Memory) (before : old.history ≡ h) (now :
 -- One write more, inside the disk.
 module _ (place : ℕ) (from : List ℕ) (outcome : Outcome) (old new : History)
     (is : new ≡ with_change (Write place from outcome) old) (inside : place + length from ≤ length (bytes_read old))
-        where
-  reads : bytes_read new ≡ written_over outcome place from (bytes_read old)
-  reads = ap bytes_read is ∙ bytes_read-push old (Write place from outcome)
+  where
+    reads : bytes_read new ≡ written_over outcome place from (bytes_read old)
+    reads = ap bytes_read is ∙ bytes_read-push old (Write place from outcome)
 
-  agrees : Agrees (range place (length from) ∷ []) (bytes_read old) (bytes_read new)
-  agrees =
-      subst (Agrees (range place (length from) ∷ []) (bytes_read old)) (sym reads)
-      (Agrees-written_over outcome place from (bytes_read old) [] inside)
+    agrees : Agrees (range place (length from) ∷ []) (bytes_read old) (bytes_read new)
+    agrees =
+        subst (Agrees (range place (length from) ∷ []) (bytes_read old)) (sym reads)
+        (Agrees-written_over outcome place from (bytes_read old) [] inside)
 
-  pub write_written : outcome ≡ Done
-      → IfTold (Some (bytes_read old)) (λ x. Some (bytes_read new) ≡ Some (overwrite place from x))
-  write_written done x told =
-      let e : bytes_read old ≡ x = cc in
-      let over = ap (λ (o : Outcome). written_over o place from (bytes_read old)) done in
-      ap Some (reads ∙ over ∙ ap (overwrite place from) e)
+    pub write_written : outcome ≡ Done
+        → IfTold (Some (bytes_read old)) (λ x. Some (bytes_read new) ≡ Some (overwrite place from x))
+    write_written done x told =
+        let e : bytes_read old ≡ x = cc in
+        let over = ap (λ (o : Outcome). written_over o place from (bytes_read old)) done in
+        ap Some (reads ∙ over ∙ ap (overwrite place from) e)
 
-  pub write_others : (d d' : Memory) → d.history ≡ old → d'.history ≡ new
-      → Both (bytes_now d) (bytes_now d') (Agrees (range place (length from) ∷ []))
-  write_others d d' before now x told y tells =
-      let e : bytes_read old ≡ x = cc in
-      let f : bytes_read new ≡ y = cc in
-      subst (λ (a : List ℕ). Agrees (range place (length from) ∷ []) a y) e
-      (subst (Agrees (range place (length from) ∷ []) (bytes_read old)) f agrees)
+    pub write_others : (d d' : Memory) → d.history ≡ old → d'.history ≡ new
+        → Both (bytes_now d) (bytes_now d') (Agrees (range place (length from) ∷ []))
+    write_others d d' before now x told y tells =
+        let e : bytes_read old ≡ x = cc in
+        let f : bytes_read new ≡ y = cc in
+        subst (λ (a : List ℕ). Agrees (range place (length from) ∷ []) a y) e
+        (subst (Agrees (range place (length from) ∷ []) (bytes_read old)) f agrees)
 
-  pub write_size : length (bytes_read new) ≡ length (bytes_read old)
-  write_size = agrees.long
+    pub write_size : length (bytes_read new) ≡ length (bytes_read old)
+    write_size = agrees.long
 
-  pub write_moments : (d d' : Memory) → d.history ≡ old → d'.history ≡ new
-      → Writes moment_now CrashLeaves place (length from) d d'
-  write_moments d d' before now =
-      Writes-history old _ d d' before (now ∙ is) place (length from) (Writes-push old place from outcome inside)
+    pub write_moments : (d d' : Memory) → d.history ≡ old → d'.history ≡ new
+        → Writes moment_now CrashLeaves place (length from) d d'
+    write_moments d d' before now =
+        Writes-history old _ d d' before (now ∙ is) place (length from) (Writes-push old place from outcome inside)
 
 -- One sync more.
 module _ (outcome : Outcome) (old new : History) (is : new ≡ with_change (Sync outcome) old) where
@@ -79,7 +79,7 @@ module _ (outcome : Outcome) (old new : History) (is : new ≡ with_change (Sync
       let e : bytes_read new ≡ x = cc in
       let good = is ∙ ap (λ (o : Outcome). with_change (Sync o) old) done in
       subst (λ (h : History). Only (bytes_read h) (MayLeave h (moment_of h))) (sym good) (Only-synced old) image left
-          ∙ e
+      ∙ e
 
 -- for the clauses that the search answers with them
 pub ruleset writing = (write_written, write_size)

@@ -109,6 +109,6 @@ module _ {D : Type 0} (moment : D → ℕ) (may_hold_after : D → ℕ → List 
   -- reads more
   pub at_read : (old mid new : D) (P : List ℕ → Type 0) → AtEach moment may_hold_after old mid P
       → moment new ≡ moment mid → SamePast (moment mid) (may_hold_after mid) (may_hold_after new) →
-          AtEach moment may_hold_after old new P
+      AtEach moment may_hold_after old new P
   at_read old mid new P so_far time keeps =
       at_more old mid new P so_far (omega (arith, time)) keeps (λ m image gt le left. absurd (omega (arith, time)))

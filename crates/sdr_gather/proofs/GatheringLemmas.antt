@@ -6,8 +6,8 @@ use Rattle.std.proofs.lemmas.Bool.{le-ltb, lt-ltb}
 use Rattle.std.proofs.Math.Seq.{take-length}
 use Rattle.std.proofs.lemmas.List.{length-map, length-replicate, length-take}
 use Rattle.sdr_base.specs.Media.{GivesFrom, Told, file_bytes, item_bytes}
-use Rattle.sdr_lock.specs.Agreeing.{IsFirstShort}
-use Rattle.sdr_lock.specs.Ground.{lies_with_media}
+use Rattle.sdr_machine.specs.Agreeing.{IsFirstShort}
+use Rattle.sdr_machine.specs.Ground.{lies_with_media}
 use Rattle.sdr_model.specs.Pieces.{bytes_by, media_bytes, piece_length, piece_told, pieces_told}
 use Rattle.sdr_model.specs.Wire.{Spells, ToldBytes, known, unknown}
 use Rattle.sdr_model.specs.declared.piece.Piece.{Piece}

@@ -2,8 +2,8 @@
 use Rattle.std.specs.Prelude.{◌≡◌, ◌<◌, ◌≤◌, ℕ, Bool, true, List, ◌++◌, length, Option, IfSome, ⊤}
 use Rattle.std.specs.List.{list_any}
 use Rattle.sdr_base.specs.Media.{Told}
-use Rattle.sdr_lock.specs.Agreeing.{IsFirstShort}
-use Rattle.sdr_lock.specs.Ground.{lies_with_media}
+use Rattle.sdr_machine.specs.Agreeing.{IsFirstShort}
+use Rattle.sdr_machine.specs.Ground.{lies_with_media}
 use Rattle.sdr_model.specs.Pieces.{bytes_by, media_bytes, piece_length, piece_told, pieces_told}
 use Rattle.sdr_model.specs.Wire.{Spells}
 use Rattle.sdr_model.specs.declared.piece.Piece.{Piece}

@@ -2,7 +2,7 @@
 ghost use Rattle.std.specs.Prelude.{◌≡◌, ◌≤◌, ◌⊎◌, IfErr, IfOk, OnErr, OnOk, length};
 ghost use Rattle.std.specs.List.{list_any};
 ghost use Rattle.sdr_base.specs.Causes.{Rose};
-ghost use Rattle.sdr_lock.specs.Ground.{lies_with_media};
+ghost use Rattle.sdr_machine.specs.Ground.{lies_with_media};
 ghost use Rattle.sdr_model.specs.Pieces.{piece_length, pieces_told};
 ghost use Rattle.sdr_gather.specs.Gathering.{AddsPiece, AreGathered, GivesPiece, HasGiven, IsGapIn, IsGapOf, OfMedia};
 

@@ -42,7 +42,7 @@ module _ (front : Link) (next value addr count : ℕ) (key : List ℕ) {old mid 
   taken_stands : (words : List ℕ) (bucket : List HashItem) (rest : Entries) → IsOpened (length key) front.field words bucket →
       BlocksAre old.blocks (opened_entries front.addr words bucket ++ rest) →
       BlocksAre mid.blocks ((front.addr, words_block words) ∷
-          (bucket_entries (new_item addr key value ∷ bucket) ++ rest))
+      (bucket_entries (new_item addr key value ∷ bucket) ++ rest))
   unfolding linked
   taken_stands words bucket rest o s =
       let x = new_item addr key value in

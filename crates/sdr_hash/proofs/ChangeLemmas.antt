@@ -118,7 +118,7 @@ module _ (old new : Heap) {hash size : ℕ} {key : List ℕ} {front : Link} (f :
         (subst (λ p. new.blocks ≡ (with_word old p 1 value).blocks) i.at_addr (heap_blocks w)) (omega arith)
         (cut hash words i.before x i.behind rest
         (subst (λ (items : List HashItem). BlocksAre old.blocks (opened_entries hash words items ++ rest)) i.whole
-            s))));
+        s))));
   }
 
   pub revises : {place : Place} (value : ℕ) → Searches old.blocks front key (Some place) →

@@ -82,7 +82,7 @@ module _ (old : Heap) (hash size count buckets : ℕ) (few : Few size old.blocks
         record {
           stands =
               subst (λ at. BlocksAre now.blocks ((at, hash_block row) ∷ (bucket_entries items ++ (more ++ rest))))
-                  (sym a)
+              (sym a)
               (subst (λ (es : Entries). BlocksAre now.blocks ((hash, hash_block row) ∷ es))
               (ap (λ (bs : List (List HashItem)). flat_map bucket_entries bs ++ rest) (drop_more row.buckets bucket [] inside)
               ∙ append_assoc (bucket_entries items) more rest) b.stands);

@@ -76,7 +76,7 @@ module _ (front : Link) (place : Place) (next count : ℕ) (old : Heap) (h : Has
   cut_at words f rest s =
       cut front.addr words f.before f.item f.behind rest
       (subst (λ (items : List HashItem). BlocksAre old.blocks (opened_entries front.addr words items ++ rest)) f.whole
-          s)
+      s)
 
   first_at : {key words : List ℕ} {bucket : List HashItem} → IsOpened (length key) front.field words bucket →
       (f : IsFirst key front bucket place) →

@@ -153,7 +153,7 @@ module _ {key : List ℕ} {front link : Link} {bucket : List HashItem} {cursor i
   not_found : w.left ≡ [] → find (item_has_key key) bucket ≡ None
   not_found none =
       ap (find (item_has_key key)) (w.whole ∙ ap (λ (t : List HashItem). w.passed ++ t) none ∙ append-nil w.passed)
-          ∙ w.none
+      ∙ w.none
 
 pub begun : {b : Blocks} {front : Link} {cursor : ℕ} (key : List ℕ) → HasWord (b front.addr) front.field cursor →
     Walks b front key front cursor 0

@@ -64,7 +64,7 @@ module _ (f : Frame) (olds news : List Record) (x : List ℕ) (left : List ℕ �
       unfolding Either
       at_closing moment may_hold_after old mid mid' now before putting each =
           at_both moment may_hold_after old mid' now Either
-              (λ image. GivesSame z image ⊎ GivesHeap (heap_of f z) image) Either
+          (λ image. GivesSame z image ⊎ GivesHeap (heap_of f z) image) Either
           (at_putting moment may_hold_after old mid mid' before putting) each (λ image either. either)
           (λ image either. ⊎_elim (λ same. old_lines image (same ∙ p.back ∙ o.back))
           (λ gives. inr (gives ∙ ap Some new_heap)) either)

@@ -10,3 +10,5 @@ pub mod RegionLemmas
 pub mod SavedLemmas
 pub mod TouchedLemmas
 pub mod UndoLemmas
+pub mod PeekLemmas
+pub mod StillLemmas

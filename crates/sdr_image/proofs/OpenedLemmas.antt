@@ -51,7 +51,7 @@ module _ {D : Type 0} (told : D → Option (List ℕ)) (moment : D → ℕ) (may
       Rests told moment may_hold_after new
   rests_same old new q rests sound =
       subst (λ (disk : D). IfTold (told disk)
-          (λ x. HoldsHeap new.frame new.begun x (may_hold_after disk (moment disk))))
+      (λ x. HoldsHeap new.frame new.begun x (may_hold_after disk (moment disk))))
       (sym q.disk)
       (subst (λ (f : Frame). IfTold (told old.disk)
       (λ x. HoldsHeap f new.begun x (may_hold_after old.disk (moment old.disk)))) (sym q.frame)

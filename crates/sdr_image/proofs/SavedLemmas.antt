@@ -117,7 +117,7 @@ module _ (f : Frame) (memory : ℕ) (olds : List Record) (region : List ℕ) (m 
         subst (λ (heap : List ℕ). AtEach moment may_hold_after old new (GivesEither (put_records olds region) heap))
         (ap (put_records news) h.heap ∙ becomes)
         (subst (λ (heap : List ℕ). AtEach moment may_hold_after old new
-            (GivesEither heap (put_records news (heap_of f x))))
+        (GivesEither heap (put_records news (heap_of f x))))
         h.heap (then h.rest (subst (λ (heap : List ℕ). HoldLines heap rising) (sym h.heap) own)))
 
     pub saved_as : (x y : List ℕ) → y ≡ changed f rising news x → HasChanged f olds region x y

@@ -4,3 +4,5 @@ pub mod Opened
 pub mod Opening
 pub mod Saved
 pub mod Undo
+pub mod Peeking
+pub mod Still

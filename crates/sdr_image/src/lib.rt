@@ -24,6 +24,17 @@
 //!
 //! Only tested: what opening makes of each image of a crash in a commit; a fault at each of its calls; the calls
 //! of `format` on a real file (once).
+//!
+//! A heap, looked at and not touched: what its disk gives, put back in memory.
+//!
+//! 1. The head tells where the regions lie. Where no batch is open, the heap region is what the disk gives.
+//! 2. Else the head and the regions are read into a disk in memory, and the open batches are put back there,
+//!    as recovery does it. The disk that was handed in is only read.
+//! 3. What is left is a `Still`: the heap region that opening the disk would give. It can be read, and a
+//!    write to it is refused.
+//!
+//! Proved: `peek` gives the heap that the disk gives, put back in memory (`heap`), `NotFormatted` exactly where
+//! there is none, and only reads the disk (`reads`).
 #![tactic(auto)]
 
 mod changing;
@@ -32,11 +43,15 @@ mod error;
 mod fresh;
 mod image;
 mod opening;
+mod peeking;
 mod region;
 mod saving;
+mod still;
 mod undo;
 mod zeros;
 
 pub use empty::format;
 pub use error::{FormatError, ImageError, ImageShut};
 pub use image::Image;
+pub use peeking::peek;
+pub use still::Still;

@@ -167,7 +167,7 @@ datum_set {element} old new datum kind w = record {
               (heap_blocks w) (omega arith) (around rest is s).opened.stands;
         } in
         subst (λ (zs : List ListElement). BlocksAre new.blocks
-            (list_entries spot.list (row_of spot.row.user zs) ++ rest))
+        (list_entries spot.list (row_of spot.row.user zs) ++ rest))
         (sym (set_split spot.row.elements spot.place y within))
         (subst (λ (es : Entries). BlocksAre new.blocks es) (sym (filled_is spot.list spot.row.user xs y ys rest))
         (subst (λ k. Opened new.blocks spot.list (record (filled spot.list spot.row.user xs y ys) { count = k }) rest) same put).stands);

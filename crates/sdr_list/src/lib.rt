@@ -11,7 +11,7 @@
 //! (`inserted`, `deleted`, `destroyed`, `set`). Ordered insertion and search go by the comparison, for every
 //! collation (`ordered`). At most 35 lines are touched, in a destruction 24 for each block.
 //!
-//! Only tested: lists in order by bytes and by length (`tests/cases`); the orders on keys (`sdr_list_tests`).
+//! Only tested: lists in order by bytes and by length (`tests/cases`); the orders on keys (`test_things`).
 #![tactic(auto)]
 
 mod collation;

@@ -107,6 +107,6 @@ module _ {D : Type 0} (moment : D → ℕ) (may_hold_after : D → ℕ → List 
       AtEach moment may_hold_after old now (GivesEither f x)
   at_closing mid now s only each =
       at_both moment may_hold_after old mid now (GivesEither f x) _ (GivesEither f x) (at_lines mid s) each
-          (λ image e. e)
+      (λ image e. e)
       (λ image t. torn_gate f x image _ o
       (subst (λ (y : List ℕ). Agrees (range 64 1 ∷ []) y image) (only t.whole t.left_before) t.agrees))

@@ -115,7 +115,7 @@ found zero log records place is ends = absurd (none-some records is)
 found (suc fuel) [] records place is ends = absurd (none-some records is)
 found (suc fuel) (gate ∷ log) records place is ends =
     by_gate fuel gate log records place (λ rs p. found fuel (drop (4 + 68 * first_number (take 4 log)) log) rs p)
-        (gate == 0)
+    (gate == 0)
     refl is ends
 
 pub batches_of-closed : (fuel gate : ℕ) (log : List ℕ) → gate ≡ 0 → batches_of (suc fuel) (gate ∷ log) ≡ Some []

@@ -48,7 +48,7 @@ pub names_line-below : (n : ℕ) (records : List Record) (line : ℕ) → are_go
 names_line-below n [] line good is = absurd cc
 names_line-below n (r ∷ records) line good is =
     let g = are_good-cons n r records good in by (r.line == line) refl is g.0
-        (λ e. names_line-below n records line g.2 e)
+    (λ e. names_line-below n records line g.2 e)
   where
     by : (b : Bool) → (r.line == line) ≡ b → (b || names_line records line) ≡ true → r.line < n →
         (names_line records line ≡ true → line < n) → line < n

@@ -199,7 +199,7 @@ module _ {D : Type 0} (moment : D → ℕ) (may_hold_after : D → ℕ → List 
   putting_all now rest none p y is m =
       let s = p.so_far m in
       subst (λ (z : List ℕ). Puts f lines x z (may_hold_after now (moment now))) (same_Some p.y y (sym p.told ∙ is))
-          record {
+      record {
         logged = s.may.logged;
         heap = subst (λ (l : List Record). put_records l (heap_of f p.y) ≡ put_records lines (heap_of f x)) none s.heap;
         log = s.log;

@@ -72,7 +72,7 @@ IsBad-first n count bytes r is bad =
 -- a batch that is empty, or too long for the region
 pub IsWrong-batch : (n : Noted) (bytes : List ℕ) →
     (first_number (take 4 bytes) == 0 || nat_le (length bytes) (4 + 68 * first_number (take 4 bytes))) ≡ true →
-        IsWrong n bytes
+    IsWrong n bytes
 unfolding batches_of
 IsWrong-batch n bytes why zero gate records is_open is good = none-some records is
 IsWrong-batch n bytes why (suc fuel) gate records is_open is good =
@@ -105,7 +105,7 @@ opened bytes fuel gate records is_open is =
     by_end : (b : Bool) → cond b None
         (option_map (λ rest. records_of (first_number (take 4 bytes)) (drop 4 bytes) ++ rest)
         (batches_of fuel (drop (4 + 68 * first_number (take 4 bytes)) bytes))) ≡ Some records →
-            Opened bytes fuel records
+        Opened bytes fuel records
     by_end true e = absurd (none-some records e)
     by_end false e = by_rest (batches_of fuel (drop (4 + 68 * first_number (take 4 bytes)) bytes)) e
 

@@ -51,7 +51,7 @@ pub at_closed : {D : Type 0} (moment : D → ℕ) (may_hold_after : D → ℕ �
     AtEach moment may_hold_after old new (GivesSame x)
 at_closed moment may_hold_after f old mid new x y records left' l p before each =
     at_both moment may_hold_after old mid new (GivesSame x) (GivesEither f y) (GivesSame x) before each
-        (λ image same. same)
+    (λ image same. same)
     (λ image either. ⊎_elim (λ same. same ∙ p.back)
     (λ gives. gives ∙ ap Some p.heap ∙ sym (put_back_of-logs f x records l)) either)
 
@@ -132,13 +132,13 @@ none_closed f x l =
 
     by_gate : (gate fuel : ℕ) (log : List ℕ) (b : Bool) → (gate == 0) ≡ b →
         cond b (Some []) (cond (first_number (take 4 log) == 0 || nat_le (length log)
-            (4 + 68 * first_number (take 4 log))) None
+        (4 + 68 * first_number (take 4 log))) None
         (option_map (λ more. records_of (first_number (take 4 log)) (drop 4 log) ++ more)
         (batches_of fuel (drop (4 + 68 * first_number (take 4 log)) log)))) ≡ Some [] → gate ≡ 0
     by_gate gate fuel log true is e = grind (arith, nat_tests, is)
     by_gate gate fuel log false is e =
         absurd (by_end (first_number (take 4 log)) (drop 4 log)
-            (nat_le (length log) (4 + 68 * first_number (take 4 log)))
+        (nat_le (length log) (4 + 68 * first_number (take 4 log)))
         (first_number (take 4 log) == 0) (batches_of fuel (drop (4 + 68 * first_number (take 4 log)) log)) refl refl e)
 
     shut : (fuel gate : ℕ) (log : List ℕ) → batches_of (suc fuel) (gate ∷ log) ≡ Some [] → gate ≡ 0

@@ -49,12 +49,12 @@ pub record MayOpen (f : Frame) (place : ℕ) (records : List Record) (x : List �
 
 -- the batch is open, behind the others, and opening the disk gives the same heap as before
 pub record OpensBatch (f : Frame) (place : ℕ) (records : List Record) (x y : List ℕ) (left : List ℕ → Type 0) : Type 0
-    where
-  pub is_open : IsOpen f y left
-  pub log : read_log f y ≡ option_map (λ earlier. earlier ++ records) (read_log f x)
-  pub ends : log_end f y ≡ Some (place + batch_size (length records))
-  pub heap : heap_of f y ≡ heap_of f x
-  pub back : GivesSame x y
+  where
+    pub is_open : IsOpen f y left
+    pub log : read_log f y ≡ option_map (λ earlier. earlier ++ records) (read_log f x)
+    pub ends : log_end f y ≡ Some (place + batch_size (length records))
+    pub heap : heap_of f y ≡ heap_of f x
+    pub back : GivesSame x y
 
 -- lines may be put: open batches name each of them
 pub record MayPut (f : Frame) (lines : List Record) (x : List ℕ) (left : List ℕ → Type 0) : Type 0 where

@@ -44,7 +44,7 @@ MakeHash w o key_length buckets =
     RefusedIf w o (is_no_key_length key_length) (refusals.BadKeyLength key_length longest_key)
     (RefusedIf w o (is_no_count buckets) (refusals.BadRow buckets most_buckets)
     (CreatesThing w o (hash_need buckets)
-        (things.Hash (record { key_length = key_length; buckets = buckets; entries = [] }))))
+    (things.Hash (record { key_length = key_length; buckets = buckets; entries = [] }))))
 
 -- The call is refused where the key hasn't the length of the hash's keys, and else goes on.
 abbrev pub OnHash : World → Outcome → ℕ → List ℕ → (Hash → Type 0) → Type 0

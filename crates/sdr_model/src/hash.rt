@@ -5,7 +5,7 @@ ghost use Rattle.sdr_model.specs.HashSteps.{bucket_of, has_key};
 ghost use Rattle.sdr_model.specs.Hashes.{AreByBucket};
 ghost use Rattle.sdr_model.specs.Things.{block_among, entry_block};
 
-use crate::{UsedBlock, HashEntry};
+use crate::{HashEntry, UsedBlock};
 use sdr_base::{Addr, Items, Kind, NoMemory};
 use std::alloc::Global;
 use std::marker::Model;

@@ -40,6 +40,6 @@ pub use name::Name;
 pub use piece::Piece;
 pub use script::{Arg, Args, Script, ScriptStep};
 pub use table::SdrTable;
-pub use things::{UsedBlock, Element, HashEntry, SdrList, Spot, Thing};
+pub use things::{Element, HashEntry, SdrList, Spot, Thing, UsedBlock};
 pub use world::{Parts, World};
 pub use zco::{Capsule, Extent, Part, Subject, ZcoObject, ZcoSource};

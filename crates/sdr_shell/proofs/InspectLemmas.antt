@@ -2,24 +2,24 @@
 use Rattle.std.proofs.Common.{◌≡◌, ◌⊎◌, ℕ, List, Option, Some, Err, inl, inr, subst, sym, arith}
 use Rattle.std.proofs.lemmas.Bool.{false≢true}
 use Rattle.std.specs.Io.KnownBytes.{Appends}
-use Rattle.sdr_audit.specs.Standing.{StandsForWhole}
+use Rattle.sdr_stands.specs.Standing.{StandsForWhole}
 use Rattle.sdr_base.specs.Causes.{Rose}
 use Rattle.sdr_base.specs.Written.{AppendsPart}
-use Rattle.sdr_check.specs.Census.{IsCensus}
-use Rattle.sdr_check.specs.Checked.{HasAuditReason, IsNoWorld, TellsFirst}
-use Rattle.sdr_check.specs.declared.census.Census.{Census}
-use Rattle.sdr_check.specs.declared.error.AuditError.{AuditError}
-use Rattle.sdr_check.specs.declared.error.AuditError.TheVariants as audits
+use Rattle.sdr_audit.specs.Census.{IsCensus}
+use Rattle.sdr_audit.specs.Checked.{HasAuditReason, IsNoWorld, TellsFirst}
+use Rattle.sdr_audit.specs.declared.census.Census.{Census}
+use Rattle.sdr_audit.specs.declared.error.AuditError.{AuditError}
+use Rattle.sdr_audit.specs.declared.error.AuditError.TheVariants as audits
 use Rattle.sdr_disk.specs.Moments.{Reads}
 use Rattle.sdr_disk.specs.Told.{IfTold}
 use Rattle.sdr_disk.specs.declared.disk.Disk.{Ghosts as DiskGhosts}
 use Rattle.sdr_log.specs.Log.{put_back_of}
 use Rattle.sdr_model.specs.World.{World}
-use Rattle.sdr_owner.specs.Owned.{AreBytes}
-use Rattle.sdr_peek.specs.Still.{untouched}
-use Rattle.sdr_read.specs.Standing.{StandsAsTold}
-use Rattle.sdr_read.specs.Told.{world_of}
-use Rattle.sdr_read.specs.ToldPools.{pools_of}
+use Rattle.audit_owners.specs.Owned.{AreBytes}
+use Rattle.sdr_image.specs.Still.{untouched}
+use Rattle.audit_world.specs.Standing.{StandsAsTold}
+use Rattle.audit_world.specs.Told.{world_of}
+use Rattle.audit_world.specs.ToldPools.{pools_of}
 use Rattle.sdr_shell.proofs.ShutLemmas.{by_shut, by_world, shut_not_usage, shut_status}
 use Rattle.sdr_shell.specs.Answers.{Seen, Wrote}
 use Rattle.sdr_shell.specs.Inspecting.{AnswersInspect, GivesThis, HasShown, InspectsTo}
@@ -29,8 +29,8 @@ use Rattle.sdr_shell.specs.declared.status.TheConstants.{DONE, USAGE, OUTPUT_FAU
 use Rattle.sdr_station.specs.Opening.{ExplainsOpen, IsOfAudit}
 use Rattle.sdr_station.specs.declared.error.OpenError.{OpenError}
 use Rattle.sdr_station.specs.declared.error.OpenError.TheVariants as errors
-use Rattle.sdr_world_text.proofs.SmallLemmas.{small_sums}
-use Rattle.sdr_world_text.specs.WorldText.{HasSmallSums, world_text}
+use Rattle.sdr_text_world.proofs.SmallLemmas.{small_sums}
+use Rattle.sdr_text_world.specs.WorldText.{HasSmallSums, world_text}
 
 -- a disk whose heap is this gives the world that the heap tells, and its census
 pub gives_told : (told : Option (List ℕ)) (heap : List ℕ) (world : World) (census : Census) → IfTold told (λ x. put_back_of x ≡ Some heap)

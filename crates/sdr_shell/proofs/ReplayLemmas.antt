@@ -2,19 +2,19 @@
 use Rattle.std.proofs.Common.{◌≡◌, ◌≤◌, ◌⊎◌, ℕ, List, [], ◌++◌, Bool, true, false, not, Some, IsOk, IsErr, refl, sym, subst, inl, inr, arith}
 use Rattle.std.specs.Prelude.{codes}
 use Rattle.std.specs.Io.KnownBytes.{Appends, IsAtEnd}
-use Rattle.sdr_audit.specs.Standing.{StandsForWhole}
+use Rattle.sdr_stands.specs.Standing.{StandsForWhole}
 use Rattle.sdr_base.specs.Causes.{Rose}
 use Rattle.sdr_base.specs.Pools.{Pools}
 use Rattle.sdr_base.specs.Written.{AppendsPart}
 use Rattle.sdr_base.specs.declared.media.Media.{Ghosts as MediaGhosts}
 use Rattle.sdr_disk.specs.declared.disk.Disk.{Ghosts as DiskGhosts}
-use Rattle.sdr_lock.specs.Crash.{is_sound}
+use Rattle.sdr_machine.specs.Crash.{is_sound}
 use Rattle.sdr_log.specs.Log.{put_back_of}
 use Rattle.sdr_model.specs.World.{World}
 use Rattle.sdr_model.specs.declared.event.Leave.{Leave}
 use Rattle.sdr_model.specs.declared.journal.Entry.{Entry}
 use Rattle.sdr_model.specs.declared.script.ScriptStep.{ScriptStep}
-use Rattle.sdr_replay.specs.Playing.{IsPrinted, leave_of}
+use Rattle.sdr_run.specs.Playing.{IsPrinted, leave_of}
 use Rattle.sdr_shell.proofs.ShutLemmas.{by_shut, shut_status}
 use Rattle.sdr_shell.proofs.StillLemmas.{none_refused, spells_none, writes_behind}
 use Rattle.sdr_shell.specs.Answers.{Seen, Wrote}

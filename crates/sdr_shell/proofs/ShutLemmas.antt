@@ -1,6 +1,6 @@
 -- The status of a heap that is opened or not, by the heap that the disk gives.
 use Rattle.std.proofs.Common.{◌≡◌, ◌⊎◌, ℕ, List, Option, None, Some, inl, inr, subst, arith}
-use Rattle.sdr_audit.specs.Standing.{StandsForWhole}
+use Rattle.sdr_stands.specs.Standing.{StandsForWhole}
 use Rattle.sdr_base.specs.Causes.{Rose}
 use Rattle.sdr_log.specs.Log.{put_back_of}
 use Rattle.sdr_shell.specs.Recovering.{GivesWorld, IsByHeap}

@@ -7,7 +7,7 @@ use Rattle.sdr_base.proofs.WrittenLemmas.{rose_later}
 use Rattle.sdr_log.specs.declared.frame.Frame.{Frame}
 use Rattle.sdr_shell.specs.Form.{OnFormat}
 use Rattle.sdr_shell.specs.declared.form.Form.{Form}
-use Rattle.sdr_dry.specs.Schedule.{MediaChange, SomeRun}
+use Rattle.sdr_run.specs.Schedule.{MediaChange, SomeRun}
 use Rattle.sdr_shell.specs.Formatting.{IsFormatStatus}
 use Rattle.sdr_shell.specs.Still.{WritesOut, HadScript, HadBadLine, HadRun, IsDryStatus, IsRefused, NamesBadLine, Tells}
 use Rattle.sdr_words.specs.Script.{input_script}
@@ -16,7 +16,7 @@ use Rattle.sdr_words.specs.declared.error.ScriptError.TheVariants as errors
 use Rattle.sdr_shell.specs.declared.status.TheConstants.{DONE, INPUT_FAULT, OUTPUT_FAULT, DISK_FAULT, REFUSED_LINE, NO_MEMORY, TOO_SMALL}
 use Rattle.sdr_model.specs.declared.script.ScriptStep.{ScriptStep}
 use Rattle.sdr_text.proofs.TextLemmas.{part_later}
-use Rattle.sdr_dry.proofs.ScheduleLemmas.{some_weaker}
+use Rattle.sdr_run.proofs.ScheduleLemmas.{some_weaker}
 
 -- a last line behind a text that was written whole
 pub writes_behind : (old mid new : Option (List ℕ)) (before between now : ℕ) (text line : List ℕ)

@@ -2,12 +2,12 @@
 use Rattle.std.specs.Prelude.{◌≡◌, ℕ, List, ◌⊎◌, Some}
 use Rattle.std.specs.Io.KnownBytes.{Appends}
 use Rattle.std.specs.declared.option.Option.{Option}
-use Rattle.sdr_audit.specs.Standing.{StandsForWhole}
+use Rattle.sdr_stands.specs.Standing.{StandsForWhole}
 use Rattle.sdr_base.specs.Causes.{Rose}
 use Rattle.sdr_base.specs.Pools.{Pools}
 use Rattle.sdr_base.specs.Written.{AppendsPart}
-use Rattle.sdr_check.specs.Census.{IsCensus}
-use Rattle.sdr_check.specs.declared.census.Census.{Census}
+use Rattle.sdr_audit.specs.Census.{IsCensus}
+use Rattle.sdr_audit.specs.declared.census.Census.{Census}
 use Rattle.sdr_disk.specs.Moments.{Reads}
 use Rattle.sdr_disk.specs.Told.{IfTold}
 use Rattle.sdr_disk.specs.declared.disk.Disk.{Ghosts as DiskGhosts}
@@ -19,7 +19,7 @@ use Rattle.sdr_shell.specs.Shutting.{line_shut, status_shut}
 use Rattle.sdr_shell.specs.declared.status.TheConstants.{DONE, OUTPUT_FAULT, NOT_FORMATTED, DAMAGED, NO_MEMORY}
 use Rattle.sdr_station.specs.Opening.{ExplainsOpen}
 use Rattle.sdr_station.specs.declared.error.OpenError.{OpenError}
-use Rattle.sdr_world_text.specs.WorldText.{world_text}
+use Rattle.sdr_text_world.specs.WorldText.{world_text}
 
 -- A disk of these bytes gives a heap that stands for the world, with such blocks.
 pub record GivesThis (world : World) (census : Census) (x : List ℕ) : Type 0 where

@@ -1,24 +1,24 @@
 -- What `replay` answers: by status, what was read, run and printed, and what is left of the disk.
 use Rattle.std.specs.Prelude.{◌≡◌, ◌≤◌, ℕ, Bool, List, [], ◌++◌, ◌⊎◌, Option, Some, IsOk, IsErr, codes, true, false}
 use Rattle.std.specs.Io.KnownBytes.{Appends, IsAtEnd}
-use Rattle.sdr_audit.specs.Standing.{StandsForWhole}
+use Rattle.sdr_stands.specs.Standing.{StandsForWhole}
 use Rattle.sdr_base.specs.Causes.{Rose}
 use Rattle.sdr_base.specs.Pools.{Pools}
 use Rattle.sdr_base.specs.Written.{AppendsPart}
 use Rattle.sdr_base.specs.declared.media.Media.{Ghosts as MediaGhosts}
 use Rattle.sdr_disk.specs.declared.disk.Disk.{Ghosts as DiskGhosts}
-use Rattle.sdr_dry.specs.Schedule.{daemons_of, media_change}
-use Rattle.sdr_lock.specs.Crash.{is_sound}
-use Rattle.sdr_lock.specs.Legal.{IsLegal}
+use Rattle.sdr_run.specs.Schedule.{daemons_of, media_change}
+use Rattle.sdr_machine.specs.Crash.{is_sound}
+use Rattle.sdr_machine.specs.Legal.{IsLegal}
 use Rattle.sdr_log.specs.Log.{put_back_of}
 use Rattle.sdr_model.specs.World.{World}
 use Rattle.sdr_model.specs.declared.event.Leave.{Leave}
 use Rattle.sdr_model.specs.declared.event.Leave.TheVariants as leaves
 use Rattle.sdr_model.specs.declared.journal.Entry.{Entry}
 use Rattle.sdr_model.specs.declared.script.ScriptStep.{ScriptStep}
-use Rattle.sdr_replay.specs.Playing.{Output, Replays, leave_of}
-use Rattle.sdr_replay.specs.Replaying.{IsNotRun, LeavesJournal, ReplaysOn}
-use Rattle.sdr_replay.specs.declared.playing.Ran.{Ran}
+use Rattle.sdr_run.specs.Playing.{Output, Replays, leave_of}
+use Rattle.sdr_run.specs.Replaying.{IsNotRun, LeavesJournal, ReplaysOn}
+use Rattle.sdr_run.specs.declared.playing.Ran.{Ran}
 use Rattle.sdr_shell.specs.Answers.{Seen, Wrote}
 use Rattle.sdr_shell.specs.Shutting.{line_shut, status_shut}
 use Rattle.sdr_shell.specs.Still.{HadScript, IsRefused}

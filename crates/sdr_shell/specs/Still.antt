@@ -3,7 +3,7 @@ use Rattle.std.specs.Prelude.{◌≡◌, ℕ, List, [], ◌++◌, ◌⊎◌, Opt
 use Rattle.std.specs.Io.KnownBytes.{Appends, IsAtEnd}
 use Rattle.sdr_base.specs.Causes.{Rose}
 use Rattle.sdr_base.specs.Written.{AppendsPart}
-use Rattle.sdr_dry.specs.Schedule.{MediaChange, SomeRun}
+use Rattle.sdr_run.specs.Schedule.{MediaChange, SomeRun}
 use Rattle.sdr_words.specs.Script.{input_script}
 use Rattle.sdr_words.specs.declared.error.ScriptError.{ScriptError}
 use Rattle.sdr_words.specs.declared.error.ScriptError.TheVariants as errors

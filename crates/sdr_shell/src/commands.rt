@@ -4,11 +4,11 @@ ghost use Rattle.std.specs.Prelude.{None, Some, [], length};
 ghost use Rattle.std.specs.Io.KnownBytes.{Appends};
 ghost use Rattle.sdr_base.specs.Causes.{Rose};
 ghost use Rattle.sdr_shell.specs.Form.{form_of};
-ghost use Rattle.sdr_dry.specs.Schedule.{HaveFailed, SomeRun, media_change};
+ghost use Rattle.sdr_run.specs.Schedule.{HaveFailed, SomeRun, media_change};
 ghost use Rattle.sdr_shell.specs.Still.{WritesOut, HadRun, IsDone, IsRefused, IsDryStatus, IsStarved};
 ghost use Rattle.sdr_shell.specs.Still.{Tells, line_refused};
 ghost use Rattle.sdr_base.specs.Written.{AppendsPart};
-ghost use Rattle.sdr_replay.specs.Replaying.{IsSettled};
+ghost use Rattle.sdr_run.specs.Replaying.{IsSettled};
 ghost use Rattle.sdr_shell.specs.Words.{AnswersWords};
 
 use crate::RunOutcome;
@@ -23,8 +23,8 @@ use crate::status::{
 };
 use sdr_base::{Media, Sink, Source};
 use sdr_disk::Disk;
-use sdr_dry::{RunError, run};
 use sdr_model::{Journal, ScriptStep};
+use sdr_run::{RunError, run};
 use sdr_text::Line;
 use sdr_words::{ScriptError, read_script};
 use std::alloc::Global;

@@ -10,17 +10,16 @@ ghost use Rattle.sdr_shell.specs.Inspecting.{AnswersInspect, GivesThis};
 ghost use Rattle.sdr_shell.specs.Shutting.{line_shut};
 ghost use Rattle.sdr_shell.specs.declared.status.TheConstants.{DONE, OUTPUT_FAULT, NO_MEMORY};
 ghost use Rattle.sdr_station.specs.Opening.{ExplainsOpen, IsOfAudit, IsOfImage};
-ghost use Rattle.sdr_world_text.specs.WorldText.{HasSmallSums, world_text};
+ghost use Rattle.sdr_text_world.specs.WorldText.{HasSmallSums, world_text};
 
 use crate::shutting::tell_shut;
 use crate::status::{DONE, OUTPUT_FAULT};
+use sdr_audit::{AuditError, Survey, read_survey};
 use sdr_base::Sink;
-use sdr_check::{AuditError, Survey, read_survey};
 use sdr_disk::Disk;
-use sdr_image::ImageError;
-use sdr_peek::peek;
+use sdr_image::{ImageError, peek};
 use sdr_station::OpenError;
-use sdr_world_text::{PrintError, write_world};
+use sdr_text_world::{PrintError, write_world};
 use std::alloc::Global;
 
 // Why a disk's heap wasn't put back in memory.

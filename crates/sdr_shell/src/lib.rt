@@ -12,7 +12,7 @@
 //! it is.
 //!
 //! Only tested: disks in memory that fail at each call in turn; each image of a crash in an end; recoveries that
-//! are stopped at any call (`sdr_script_tests`).
+//! are stopped at any call (`test_shell`).
 #![tactic(auto)]
 
 mod commands;

@@ -1,8 +1,8 @@
 // A replay of the input's schedule on the heap of a disk, and what is said of it.
 ghost use Rattle.std.specs.Prelude.{◌≡◌, ◌≤◌, ◌+◌, [], length};
-ghost use Rattle.sdr_dry.specs.Schedule.{HaveFailed, media_change};
+ghost use Rattle.sdr_run.specs.Schedule.{HaveFailed, media_change};
 ghost use Rattle.sdr_log.specs.Calls.{KeepsDisk};
-ghost use Rattle.sdr_replay.specs.Replaying.{IsSettled};
+ghost use Rattle.sdr_run.specs.Replaying.{IsSettled};
 ghost use Rattle.sdr_shell.specs.Answers.{Wrote, seen};
 ghost use Rattle.sdr_shell.specs.Replaying.{AnswersReplay, RunsOrNot, TellsRan};
 
@@ -13,7 +13,7 @@ use crate::status::{DISK_FAULT, DONE, NO_MEMORY, OUTPUT_FAULT};
 use sdr_base::{Media, Sink, Source};
 use sdr_disk::Disk;
 use sdr_model::{Journal, ScriptStep};
-use sdr_replay::{Ran, replay};
+use sdr_run::{Ran, replay};
 use sdr_words::read_script;
 use std::alloc::Global;
 

@@ -5,8 +5,8 @@ ghost use Rattle.sdr_shell.specs.Shutting.{line_shut, status_shut, why_text};
 
 use crate::last_line::last_line;
 use crate::status::{DAMAGED, DISK_FAULT, NO_MEMORY, NOT_FORMATTED};
+use sdr_audit::Check;
 use sdr_base::Sink;
-use sdr_check::Check;
 use sdr_station::OpenError;
 use sdr_text::Line;
 

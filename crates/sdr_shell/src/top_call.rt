@@ -1,6 +1,6 @@
 // The call that the program makes.
 ghost use Rattle.std.specs.Prelude.{◌≡◌, Some};
-ghost use Rattle.sdr_replay.specs.Replaying.{IsSettled};
+ghost use Rattle.sdr_run.specs.Replaying.{IsSettled};
 ghost use Rattle.sdr_shell.specs.Form.{form_of};
 ghost use Rattle.sdr_shell.specs.Words.{AnswersWords};
 ghost use Rattle.sdr_shell.specs.declared.form.Form.{Form};

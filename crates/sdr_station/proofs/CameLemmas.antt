@@ -7,13 +7,13 @@ use Rattle.sdr_base.specs.declared.media.Media.{Ghosts as MediaGhosts}
 use Rattle.sdr_base.specs.declared.refusal.Refusal.{Refusal}
 use Rattle.sdr_base.specs.declared.stop.Stop.{Stop}
 use Rattle.sdr_base.specs.declared.stop.Stop.TheVariants as stops
-use Rattle.sdr_audit.specs.Standing.{HeapStandsFor}
+use Rattle.sdr_stands.specs.Standing.{HeapStandsFor}
 use Rattle.sdr_heap.specs.Noted.{Held}
 use Rattle.sdr_image.specs.Opened.{IsQuiet, Opened}
-use Rattle.sdr_lock.proofs.GroundLemmas.{keeps_more}
-use Rattle.sdr_lock.specs.Crash.{LeavesBefore}
-use Rattle.sdr_lock.specs.Lapses.{LapsesLast, HasLapseCause}
-use Rattle.sdr_lock.specs.Serving.{Brings, Calls, KeepsGround}
+use Rattle.sdr_machine.proofs.GroundLemmas.{keeps_more}
+use Rattle.sdr_machine.specs.Crash.{LeavesBefore}
+use Rattle.sdr_machine.specs.Lapses.{LapsesLast, HasLapseCause}
+use Rattle.sdr_machine.specs.Serving.{Brings, Calls, KeepsGround}
 use Rattle.sdr_model.specs.Fields.{FitsCall}
 use Rattle.sdr_model.specs.Reading.{is_reading}
 use Rattle.sdr_model.specs.Steps.{Outcome}
@@ -26,13 +26,13 @@ use Rattle.sdr_station.proofs.GivingLemmas.{gives_shown}
 use Rattle.sdr_station.proofs.GroundLemmas.{lapses_of, ground_brought, heap_ground, keeps_read}
 use Rattle.sdr_station.proofs.MediaLemmas.{answered_gap, answered_reads, refused_gap, refused_reads}
 use Rattle.sdr_station.proofs.ServingLemmas.{AsksIn, WorksIn, answers_no_doom, brings_answered, brings_missed, brings_quiet, brings_refused, going_ground, good_in, image_heap, leaves_quiet, no_fault, quiet_of, refused_ground, served_in}
-use Rattle.sdr_answers.specs.Answering.{ComesInEach, IsReady, dooms}
-use Rattle.sdr_served.specs.Giving.{TellsInEach}
-use Rattle.sdr_served.specs.Serving.{IsGood, call_lines}
+use Rattle.step_things.specs.Answering.{ComesInEach, IsReady, dooms}
+use Rattle.step_calls.specs.Giving.{TellsInEach}
+use Rattle.step_calls.specs.Serving.{IsGood, call_lines}
 use Rattle.zco_wire.specs.Stopping.{KeepsTold, past_media, past_stop}
 use Rattle.sdr_station.specs.Closing.{moves_left}
 use Rattle.sdr_station.specs.Giving.{GivesReply, reads_by}
-use Rattle.zco_given.specs.Giving.{may_read}
+use Rattle.step_zco_parts.specs.Giving.{may_read}
 use Rattle.sdr_station.specs.Grounded.{Grounded, IsGround, StandsForBoth, StandsInMemory, StandsSome, StandsWithin, heap_in}
 
 -- what a call came to on a ground

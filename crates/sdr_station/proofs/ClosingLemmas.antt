@@ -1,7 +1,7 @@
 -- A transaction of a heap on an image that is kept or put back.
 use Rattle.std.proofs.Common.{◌≡◌, ◌∙◌, ◌≤◌, ◌⊎◌, ℕ, List, [], false, true, true≢false, Bool, Option, None, Some, Err, refl, sym, ap, subst, inl, inr, arith, length}
 use Rattle.std.specs.Prelude.{replicate, is_some, max}
-use Rattle.sdr_audit.proofs.RestLemmas.{begins, ends}
+use Rattle.sdr_stands.proofs.RestLemmas.{begins, ends}
 use Rattle.sdr_base.specs.KeptHeap.{block_in}
 use Rattle.sdr_base.specs.Causes.{Rose}
 use Rattle.sdr_base.specs.Entries.{Few}
@@ -15,11 +15,11 @@ use Rattle.sdr_heap.proofs.FewLemmas.{block_in-few}
 use Rattle.sdr_heap.specs.Noted.{Held, marked_in}
 use Rattle.sdr_image.specs.Changed.{GivesEither}
 use Rattle.sdr_image.specs.Opened.{Opened, Rests, transaction_of}
-use Rattle.sdr_lock.specs.Crash.{LeavesBefore, LeavesEither, LeavesOr}
-use Rattle.sdr_lock.specs.Demand.{most_lines}
-use Rattle.sdr_lock.specs.Ground.{Ground, HasHeap, State, committed, rolled_back}
-use Rattle.sdr_lock.specs.Serving.{Brings, Commits, KeepsGround, MeetsFault, RollsBack, SameStates}
-use Rattle.sdr_lock.specs.Standing.{GroundState}
+use Rattle.sdr_machine.specs.Crash.{LeavesBefore, LeavesEither, LeavesOr}
+use Rattle.sdr_machine.specs.Demand.{most_lines}
+use Rattle.sdr_machine.specs.Ground.{Ground, HasHeap, State, committed, rolled_back}
+use Rattle.sdr_machine.specs.Serving.{Brings, Commits, KeepsGround, MeetsFault, RollsBack, SameStates}
+use Rattle.sdr_machine.specs.Standing.{GroundState}
 use Rattle.sdr_log.specs.Frame.{room_of}
 use Rattle.sdr_log.specs.Logged.{GivesHeap}
 use Rattle.sdr_station.specs.Closing as closing
@@ -173,7 +173,7 @@ memory_dropped old disk now = record {
 -- what a close that was answered leaves of a ground
 pub record ClosesTo {D M : Type 0} (told : D → Option (List ℕ)) (moment faults : D → ℕ) (may_hold_after : D → ℕ → List ℕ → Type 0)
     (media : MediaGhosts M) (may_keep : Bool) (P : GroundState → GroundState → Type 0) (old new : Grounded D M) : Type
-        0 where
+    0 where
   pub memory : Brings StandsInMemory old new P
   pub brings : Brings (λ g v. StandsForBoth told moment may_hold_after g v) old new P
   pub sound : new.heap.cells.failed ≡ false
@@ -292,7 +292,7 @@ module _ {D M : Type 0} (told : D → Option (List ℕ)) (moment : D → ℕ) (f
   pub closes_kept : (new : Grounded D M) → new ≡ kept_ground old disk now → IsGround moment old → old.stopped ≡ false
       → faults old.heap.cells.disk ≤ faults disk
       → (Rests told moment may_hold_after old.heap.cells → Rests told moment may_hold_after
-          (kept_ground old disk now).heap.cells)
+      (kept_ground old disk now).heap.cells)
       → ((image : List ℕ) → P image → GivesEither old.heap.cells.begun old.heap.cells.bytes image)
       → ClosesTo told moment faults may_hold_after media true Commits old new
   closes_kept new same ground going later rests also =
@@ -303,7 +303,7 @@ module _ {D M : Type 0} (told : D → Option (List ℕ)) (moment : D → ℕ) (f
   -- a transaction that is put back
   pub closes_back : (new : Grounded D M) → new ≡ back_ground old disk now → IsGround moment old → faults old.heap.cells.disk ≤ faults disk
       → (Rests told moment may_hold_after old.heap.cells → Rests told moment may_hold_after
-          (back_ground old disk now).heap.cells)
+      (back_ground old disk now).heap.cells)
       → ((image : List ℕ) → P image → GivesHeap old.heap.cells.begun image) → ClosesTo told moment faults may_hold_after media false RollsBack old new
   closes_back new same ground later rests also =
       subst (λ (n : Grounded D M). ClosesTo told moment faults may_hold_after media false RollsBack old n) (sym same)
@@ -335,7 +335,7 @@ pub meets_fault : {D M : Type 0} (told : D → Option (List ℕ)) (moment faults
     (media : MediaGhosts M) (old new : Grounded D M) (cells : Opened D) (s : Stop) → new.heap.cells.disk ≡ cells.disk → old.heap.cells.failed ≡ false
     → Explains {T = Unit {0}} (transaction_of faults old.heap.cells) (transaction_of faults cells) (Err s)
     → IfRefused {T = Unit {0}} (Err s) (λ _. ⊥) → MeetsFault (heap_ground told moment faults may_hold_after media) old
-        new
+    new
 meets_fault {D} told moment faults may_hold_after media old new cells s same sound explained none = record {
   heap = λ v at. subst (λ (b : Ground). HasHeap b) (sym at.memory.before.base) tt;
   cause = subst (λ (d : D). Rose (faults old.heap.cells.disk) (faults d)) (sym same) (rose s explained none);

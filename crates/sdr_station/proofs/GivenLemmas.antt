@@ -15,8 +15,8 @@ use Rattle.sdr_base.specs.declared.kind.Space.TheVariants as spaces
 use Rattle.sdr_base.specs.declared.moves.Move.{Move}
 use Rattle.sdr_base.specs.declared.refusal.Refusal.{Refusal}
 use Rattle.sdr_base.specs.declared.refusal.Refusal.TheVariants as refusals
-use Rattle.sdr_lock.proofs.StepLemmas.{from_option, from_test}
-use Rattle.sdr_lock.specs.Transaction.{bytes_given}
+use Rattle.sdr_machine.proofs.StepLemmas.{from_option, from_test}
+use Rattle.sdr_machine.specs.Transaction.{bytes_given}
 use Rattle.sdr_model.proofs.FewLemmas.{in_takes_one}
 use Rattle.sdr_model.proofs.PiecesLemmas.{length-spelled}
 use Rattle.sdr_model.proofs.TableLemmas.{row-within}

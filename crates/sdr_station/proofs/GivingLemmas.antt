@@ -1,7 +1,7 @@
 -- The bytes that an answered call gives.
 use Rattle.std.proofs.Common.{◌≡◌, ◌∙◌, ℕ, List, Option, None, Some, false, refl, sym, ap, length}
 use Rattle.std.specs.Prelude.{IfSome}
-use Rattle.sdr_answers.specs.Answering.{dooms}
+use Rattle.step_things.specs.Answering.{dooms}
 use Rattle.sdr_model.specs.Rows.{ByRow}
 use Rattle.sdr_model.specs.Steps.{Outcome}
 use Rattle.sdr_model.specs.Whole.{IsWhole}

@@ -4,11 +4,11 @@ use Rattle.std.specs.Prelude.{replicate, get_or, ⊤}
 use Rattle.sdr_base.specs.declared.line.TheConstants.{WORD}
 use Rattle.sdr_base.specs.declared.media.Media.{Ghosts as MediaGhosts}
 use Rattle.sdr_heap.specs.Noted.{marked_in}
-use Rattle.sdr_lock.proofs.GroundLemmas.{lapses_same}
-use Rattle.sdr_lock.specs.Lapses.{Lapses, LapsesLast}
-use Rattle.sdr_lock.specs.Serving.{Brings, KeepsGround}
-use Rattle.sdr_lock.specs.Standing.{GroundState}
-use Rattle.sdr_lock.specs.declared.has_ground.HasGround.{Ghosts}
+use Rattle.sdr_machine.proofs.GroundLemmas.{lapses_same}
+use Rattle.sdr_machine.specs.Lapses.{Lapses, LapsesLast}
+use Rattle.sdr_machine.specs.Serving.{Brings, KeepsGround}
+use Rattle.sdr_machine.specs.Standing.{GroundState}
+use Rattle.sdr_machine.specs.declared.has_ground.HasGround.{Ghosts}
 use Rattle.sdr_station.specs.CrashNow.{crash_now}
 use Rattle.sdr_station.specs.Grounded.{Grounded, IsGround, Leaves, OpensAs, StandsForBoth, StandsInMemory}
 

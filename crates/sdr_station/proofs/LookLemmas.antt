@@ -1,7 +1,7 @@
 -- A look at a ticket on a ground.
 use Rattle.std.proofs.Common.{◌≡◌, ◌∙◌, ◌≤◌, ℕ, List, [], Bool, true, false, true≢false, Option, None, Result, Err, refl, sym, ap, subst, length, arith}
 use Rattle.std.proofs.lemmas.List.{append-nil, append_cancel_left}
-use Rattle.sdr_audit.specs.Standing.{HeapStandsFor}
+use Rattle.sdr_stands.specs.Standing.{HeapStandsFor}
 use Rattle.sdr_base.proofs.MovesLemmas.{Moves-none}
 use Rattle.sdr_base.specs.KeptHeap.{KeepsRegion}
 use Rattle.sdr_base.specs.Moves.{KeepsSome, MovesPools}
@@ -14,19 +14,19 @@ use Rattle.sdr_base.specs.declared.stop.Stop.{Stop}
 use Rattle.sdr_base.specs.declared.stop.Stop.TheVariants as stops
 use Rattle.sdr_heap.specs.Noted.{Held}
 use Rattle.sdr_image.specs.Opened.{IsQuiet, Opened}
-use Rattle.sdr_lock.specs.Crash.{LeavesBefore}
-use Rattle.sdr_lock.specs.Demand.{most_lines}
-use Rattle.sdr_lock.specs.Ground.{Ground, State}
-use Rattle.sdr_lock.specs.Serving.{Brings, Shows, SameStates, shown_in}
-use Rattle.sdr_lock.specs.Standing.{GroundState}
+use Rattle.sdr_machine.specs.Crash.{LeavesBefore}
+use Rattle.sdr_machine.specs.Demand.{most_lines}
+use Rattle.sdr_machine.specs.Ground.{Ground, State}
+use Rattle.sdr_machine.specs.Serving.{Brings, Shows, SameStates, shown_in}
+use Rattle.sdr_machine.specs.Standing.{GroundState}
 use Rattle.sdr_log.specs.Frame.{room_of}
 use Rattle.sdr_log.specs.declared.frame.Frame.{Frame}
 use Rattle.sdr_station.proofs.ClosingLemmas.{dropped_ground, within_of}
 use Rattle.sdr_station.proofs.GroundLemmas.{heap_ground}
 use Rattle.sdr_station.proofs.ServingLemmas.{image_heap}
 use Rattle.sdr_station.specs.Grounded.{Grounded, HasStood, HoldsWorld, IsBefore, IsGround, Leaves, StandsAtRest, StandsForBoth, StandsInMemory, StandsWithin, heap_in}
-use Rattle.zco_granted.proofs.GoodLemmas.{good_of}
-use Rattle.zco_granted.specs.Answering.{IsGood, Sees}
+use Rattle.step_zco.proofs.AccountGoodLemmas.{good_of}
+use Rattle.step_zco.specs.AccountAnswering.{IsGood, Sees}
 
 -- what stands within a transaction holds its world
 within_holds : {D : Type 0} {h : Held (Opened D)} {shown : List ℕ} {s : State} → StandsWithin h shown s → HoldsWorld h s.world
@@ -187,7 +187,7 @@ leaves_later {D} told moment faults may_hold_after media old mid new disk same l
         later = omega (arith, e.later, same);
         each = λ m image ge le l.
             e.each m image ge (omega (arith, le, same))
-                (subst (λ (d : D). Leaves told may_hold_after d m image) disk l);
+            (subst (λ (d : D). Leaves told may_hold_after d m image) disk l);
         past = λ m image le l. e.past m image le (subst (λ (d : D). Leaves told may_hold_after d m image) disk l);
       };
 }

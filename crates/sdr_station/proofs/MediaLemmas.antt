@@ -4,8 +4,8 @@ use Rattle.sdr_base.specs.declared.media.Media.{Ghosts as MediaGhosts}
 use Rattle.sdr_base.specs.declared.refusal.Refusal.{Refusal}
 use Rattle.sdr_base.specs.declared.refusal.Refusal.TheVariants as refusals
 use Rattle.sdr_base.specs.declared.stop.Stop.TheVariants as stops
-use Rattle.sdr_lock.specs.Lapses.{Lapses, HasLapseCause}
-use Rattle.sdr_lock.specs.Ground.{MayMissMedia}
+use Rattle.sdr_machine.specs.Lapses.{Lapses, HasLapseCause}
+use Rattle.sdr_machine.specs.Ground.{MayMissMedia}
 use Rattle.sdr_model.specs.Reading.{reads_media}
 use Rattle.sdr_model.specs.Step.{is_answer}
 use Rattle.sdr_model.specs.World.{World}
@@ -15,7 +15,7 @@ use Rattle.sdr_model.specs.declared.answer.Reply.TheVariants as replies
 use Rattle.sdr_model.specs.declared.call.Call.{Call}
 use Rattle.sdr_station.proofs.GroundLemmas.{lapses_of}
 use Rattle.sdr_station.specs.Giving.{reads_by}
-use Rattle.zco_given.specs.Giving.{MissesMedia, may_read}
+use Rattle.step_zco_parts.specs.Giving.{MissesMedia, may_read}
 
 -- a reply that answers tells of no gap
 pub answered_misses : (w : World) (call : Call) (reply : Reply) → is_answer reply ≡ true → MayMissMedia w call reply

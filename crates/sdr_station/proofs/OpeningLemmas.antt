@@ -1,22 +1,22 @@
 -- A heap that was opened.
 use Rattle.std.proofs.Common.{◌≡◌, ◌∙◌, ◌≤◌, ℕ, List, [], false, true, Option, Some, refl, sym, ap, subst, length}
 use Rattle.std.specs.Prelude.{replicate}
-use Rattle.sdr_audit.specs.Standing.{StandsForWhole}
-use Rattle.sdr_check.specs.declared.error.AuditError.{AuditError}
-use Rattle.sdr_check.specs.declared.error.AuditError.TheVariants as audits
+use Rattle.sdr_stands.specs.Standing.{StandsForWhole}
+use Rattle.sdr_audit.specs.declared.error.AuditError.{AuditError}
+use Rattle.sdr_audit.specs.declared.error.AuditError.TheVariants as audits
 use Rattle.sdr_disk.specs.Told.{Both}
 use Rattle.sdr_image.proofs.OpenedLemmas.{rests_same}
 use Rattle.sdr_image.specs.Opened.{IsQuiet, Opened}
 use Rattle.sdr_image.specs.Opening.{IsOpened, UnlessFault}
 use Rattle.sdr_image.specs.declared.error.ImageError.{ImageError}
 use Rattle.sdr_image.specs.declared.error.ImageError.TheVariants as images
-use Rattle.sdr_lock.specs.Ground.{Ground, State, resting}
+use Rattle.sdr_machine.specs.Ground.{Ground, State, resting}
 use Rattle.sdr_log.specs.Calls.{PutsBack}
 use Rattle.sdr_log.specs.Frame.{room_of}
 use Rattle.sdr_log.specs.declared.frame.Frame.{Frame}
-use Rattle.sdr_read.specs.Standing.{StandsAsTold}
-use Rattle.sdr_read.specs.Told.{world_of}
-use Rattle.sdr_read.specs.ToldPools.{pools_of}
+use Rattle.audit_world.specs.Standing.{StandsAsTold}
+use Rattle.audit_world.specs.Told.{world_of}
+use Rattle.audit_world.specs.ToldPools.{pools_of}
 use Rattle.sdr_station.proofs.ClosingLemmas.{within_of}
 use Rattle.sdr_station.proofs.StoodLemmas.{stood_of}
 use Rattle.sdr_station.specs.Grounded.{Grounded, IsGround, StandsAtRest, StandsInMemory}
@@ -26,7 +26,7 @@ use Rattle.sdr_station.specs.declared.error.OpenError.{OpenError}
 -- an image that was opened, and for whose bytes a world was found to stand, stands for it
 pub open_stands : {D M : Type 0} (told : D → Option (List ℕ)) (moment : D → ℕ) (may_hold_after : D → ℕ → List ℕ → Type 0) (disk : D) (files : M) (i j : Opened D)
     (count spare : ℕ) → IsOpened told moment may_hold_after disk i → IsQuiet i j → j.bytes ≡ i.bytes → j.touched
-        ≡ i.touched
+    ≡ i.touched
     → StandsAsTold i.bytes
     → IsOpen {M = M} told moment may_hold_after disk (record {
       heap = record { cells = j; size = length j.bytes; marks = replicate count false; moves = []; spare = spare };

@@ -1,7 +1,7 @@
 -- A world as a transaction leaves it.
 use Rattle.std.proofs.Common.{◌≡◌, ◌∙◌, ℕ, refl, sym, ap}
-use Rattle.sdr_laws.proofs.WholeLaws.{whole_same}
-use Rattle.sdr_lock.specs.Ground.{State, rolled_back}
+use Rattle.law_steps.proofs.WholeLaws.{whole_same}
+use Rattle.sdr_machine.specs.Ground.{State, rolled_back}
 use Rattle.sdr_model.specs.Fields.{FitsFields}
 use Rattle.sdr_model.specs.Whole.{IsWhole}
 use Rattle.sdr_model.specs.World.{World, at_rest}

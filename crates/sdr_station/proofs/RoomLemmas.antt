@@ -5,9 +5,9 @@ use Rattle.std.specs.Prelude.{slice_get, slice_index, ⊤}
 use Rattle.sdr_base.specs.declared.moves.Move.{Move}
 use Rattle.sdr_base.specs.declared.moves.Move.TheVariants.{Gave}
 use Rattle.sdr_base.specs.declared.refusal.Refusal.TheVariants as refusals
-use Rattle.sdr_laws.proofs.RowShapes.{row_shape}
-use Rattle.sdr_laws.proofs.Shapes.{Shape}
-use Rattle.sdr_lock.specs.Ground.{Ground, Replied, State, StepsOn}
+use Rattle.law_steps.proofs.RowShapes.{row_shape}
+use Rattle.law_steps.proofs.Shapes.{Shape}
+use Rattle.sdr_machine.specs.Ground.{Ground, Replied, State, StepsOn}
 use Rattle.sdr_model.specs.ListSteps.{as_list}
 use Rattle.sdr_model.specs.Reading.{is_reading}
 use Rattle.sdr_model.specs.HashSteps.{as_hash, has_key}
@@ -35,7 +35,7 @@ use Rattle.sdr_model.specs.declared.zco.ZcoSource.{ZcoSource}
 use Rattle.sdr_station.proofs.StoodLemmas.{clones_few, cut_few, elements_few, entries_few, gone_few}
 use Rattle.sdr_station.specs.Grounded.{HasStood}
 use Rattle.sdr_station.specs.Rooming.{MovesAtMost}
-use Rattle.zco_bond_answers.proofs.LinesLemmas.{bonded_few}
+use Rattle.step_zco_parts.proofs.LinesLemmas.{bonded_few}
 
 -- a call that stops on its way has no more moves than it would have had
 stops_fewer : (reply : Reply) (call : Call) (all moves : List Move) → StopsWith reply call all moves → length moves ≤ length all

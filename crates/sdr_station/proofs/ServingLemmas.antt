@@ -1,6 +1,6 @@
 -- A call that a heap on an image has answered, as a step of the machine.
 use Rattle.std.proofs.Common.{◌≡◌, ◌∙◌, ◌≤◌, ◌+◌, ◌⊎◌, ℕ, List, [], Bool, true, false, true≢false, not, Option, None, Some, Result, Ok, Err, inl, inr, refl, sym, ap, subst, length, arith}
-use Rattle.sdr_audit.specs.Standing.{HeapStandsFor}
+use Rattle.sdr_stands.specs.Standing.{HeapStandsFor}
 use Rattle.sdr_base.proofs.MovesLemmas.{Moves-none}
 use Rattle.sdr_base.specs.KeptHeap.{KeepsRegion}
 use Rattle.sdr_base.specs.Transaction.{Explains}
@@ -17,15 +17,15 @@ use Rattle.sdr_image.proofs.OpenedLemmas.{rests_same}
 use Rattle.sdr_image.specs.Opened.{IsQuiet, Opened, transaction_of}
 use Rattle.sdr_model.specs.declared.answer.Reply.{Reply}
 use Rattle.sdr_model.specs.declared.call.Call.{Call}
-use Rattle.sdr_laws.proofs.FieldLaws.{fields_fit}
-use Rattle.sdr_laws.proofs.WholeLaws.{whole_kept}
-use Rattle.sdr_lock.specs.Agreeing.{AgreesWith}
-use Rattle.sdr_lock.specs.Crash.{LeavesBefore}
-use Rattle.sdr_lock.specs.Demand.{Demand, MayFillLog, demand_after}
-use Rattle.sdr_lock.specs.Ground.{Ground, MayMissMedia, State, Steps, StepsOn}
-use Rattle.sdr_lock.specs.Serving.{Brings, Calls}
-use Rattle.sdr_lock.specs.Standing.{GroundState}
-use Rattle.sdr_lock.specs.Transaction.{bytes_given}
+use Rattle.law_steps.proofs.FieldLaws.{fields_fit}
+use Rattle.law_steps.proofs.WholeLaws.{whole_kept}
+use Rattle.sdr_machine.specs.Agreeing.{AgreesWith}
+use Rattle.sdr_machine.specs.Crash.{LeavesBefore}
+use Rattle.sdr_machine.specs.Demand.{Demand, MayFillLog, demand_after}
+use Rattle.sdr_machine.specs.Ground.{Ground, MayMissMedia, State, Steps, StepsOn}
+use Rattle.sdr_machine.specs.Serving.{Brings, Calls}
+use Rattle.sdr_machine.specs.Standing.{GroundState}
+use Rattle.sdr_machine.specs.Transaction.{bytes_given}
 use Rattle.sdr_log.specs.Frame.{room_of}
 use Rattle.sdr_log.specs.declared.frame.Frame.{Frame}
 use Rattle.sdr_base.specs.declared.refusal.Refusal.{Refusal}
@@ -39,17 +39,17 @@ use Rattle.sdr_model.specs.World.{World}
 use Rattle.sdr_model.specs.declared.answer.Answer.TheVariants as answers
 use Rattle.sdr_model.specs.declared.answer.Reply.TheVariants as replies
 use Rattle.sdr_model.specs.declared.event.Event.TheVariants as events
-use Rattle.sdr_served.proofs.DemandLemmas.{asks_more, enough, reading_lines}
-use Rattle.sdr_served.proofs.GivingLemmas.{media_lines}
-use Rattle.sdr_served.proofs.GoodLemmas.{good_of}
-use Rattle.sdr_served.proofs.NextLemmas.{next_kept}
+use Rattle.step_calls.proofs.DemandLemmas.{asks_more, enough, reading_lines}
+use Rattle.step_calls.proofs.GivingLemmas.{media_lines}
+use Rattle.step_calls.proofs.GoodLemmas.{good_of}
+use Rattle.step_keyed.proofs.NextLemmas.{next_kept}
 use Rattle.sdr_station.proofs.StoodLemmas.{small_in, stood_of}
 use Rattle.sdr_station.proofs.GroundLemmas.{heap_ground}
 use Rattle.sdr_station.proofs.MediaLemmas.{answered_misses, refused_misses}
 use Rattle.sdr_station.specs.CrashNow.{crash_now}
-use Rattle.sdr_answers.specs.Answering.{Aim, Answered, ComesInEach, IsReady, dooms}
-use Rattle.sdr_served.specs.Giving.{TellsInEach}
-use Rattle.sdr_served.specs.Serving.{IsGood, call_lines}
+use Rattle.step_things.specs.Answering.{Aim, Answered, ComesInEach, IsReady, dooms}
+use Rattle.step_calls.specs.Giving.{TellsInEach}
+use Rattle.step_calls.specs.Serving.{IsGood, call_lines}
 use Rattle.zco_wire.specs.Stopping.{past_media, past_stop}
 use Rattle.sdr_station.specs.Closing.{moves_left}
 use Rattle.sdr_station.specs.Grounded.{Grounded, HasStood, Leaves, StandsAtRest, StandsForBoth, StandsInMemory, StandsWithin, heap_in}

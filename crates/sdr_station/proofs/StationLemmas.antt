@@ -1,16 +1,16 @@
 -- What a station does with its ground.
 use Rattle.std.proofs.Common.{◌≡◌, ◌∙◌, ◌&&◌, nat_le, is_none, Bool, true, false, true≢false, not, if◌then◌else◌, Option, None, Some, refl, sym, ap, subst}
 use Rattle.std.specs.Option.{option_map_or}
-use Rattle.sdr_lock.specs.Closing.{close_of}
-use Rattle.sdr_lock.specs.Crash.{LeavesBefore, LeavesOr, is_kept, commits_in}
+use Rattle.sdr_machine.specs.Closing.{close_of}
+use Rattle.sdr_machine.specs.Crash.{LeavesBefore, LeavesOr, is_kept, commits_in}
 use Rattle.sdr_base.specs.Refusal.{refusal_number}
 use Rattle.sdr_base.specs.declared.refusal.Reason.{Reason}
 use Rattle.sdr_base.specs.declared.refusal.Reason.TheVariants as reasons
-use Rattle.sdr_lock.specs.Nesting.{closing, doomed_for, noted}
-use Rattle.sdr_lock.specs.Serving.{Brings, RollsBack, Settles}
-use Rattle.sdr_lock.specs.Standing.{GroundState}
-use Rattle.sdr_lock.specs.declared.has_ground.HasGround.{Ghosts}
-use Rattle.sdr_lock.specs.declared.nesting.Nesting.{Nesting}
+use Rattle.sdr_machine.specs.Nesting.{closing, doomed_for, noted}
+use Rattle.sdr_machine.specs.Serving.{Brings, RollsBack, Settles}
+use Rattle.sdr_machine.specs.Standing.{GroundState}
+use Rattle.sdr_machine.specs.declared.has_ground.HasGround.{Ghosts}
+use Rattle.sdr_machine.specs.declared.nesting.Nesting.{Nesting}
 use Rattle.sdr_model.specs.Reading.{is_reading}
 use Rattle.sdr_model.specs.declared.answer.Close.{Close}
 use Rattle.sdr_model.specs.declared.answer.Close.TheVariants as closes
@@ -18,7 +18,7 @@ use Rattle.sdr_model.specs.declared.answer.Reply.{Reply}
 use Rattle.sdr_model.specs.declared.answer.Reply.TheVariants as replies
 use Rattle.sdr_model.specs.declared.call.Call.{Call}
 use Rattle.sdr_model.specs.declared.event.Event.TheVariants as events
-use Rattle.sdr_answers.specs.Answering.{dooms}
+use Rattle.step_things.specs.Answering.{dooms}
 
 -- what isn't kept is put back
 pub settles_back : {T : Type 0} {stands : T → GroundState → Type 0} {old new : T} (close : Close) → is_kept close

@@ -2,14 +2,14 @@
 use Rattle.std.proofs.Common.{◌≡◌, ◌≤◌, ◌*◌, ℕ, List, Option, Some, refl, length, subst, arith}
 use Rattle.std.proofs.lemmas.List.{length-map}
 use Rattle.std.specs.Prelude.{IfSome}
-use Rattle.sdr_answers.proofs.ListLemmas.{IsSmall, few_elements}
-use Rattle.sdr_audit.proofs.ChangeLemmas.{apart}
+use Rattle.step_things.proofs.ListLemmas.{IsSmall, few_elements}
+use Rattle.sdr_stands.proofs.ChangeLemmas.{apart}
 use Rattle.sdr_base.proofs.FewLemmas.{region_small}
 use Rattle.sdr_base.specs.KeptHeap.{KeepsRegion}
 use Rattle.sdr_base.specs.Pools.{Pools}
 use Rattle.sdr_heap.specs.Noted.{Held}
 use Rattle.sdr_image.specs.Opened.{Opened}
-use Rattle.sdr_lock.specs.Ground.{State}
+use Rattle.sdr_machine.specs.Ground.{State}
 use Rattle.sdr_model.specs.ListSteps.{as_list}
 use Rattle.sdr_model.specs.HashSteps.{as_hash}
 use Rattle.sdr_model.specs.RowMoves.{clone_moves_of, destroyed_blocks, elements_in, entries_in, stripped_blocks}
@@ -20,11 +20,11 @@ use Rattle.sdr_model.specs.declared.things.Element.{Element}
 use Rattle.sdr_model.specs.declared.things.HashEntry.{HashEntry}
 use Rattle.sdr_model.specs.declared.things.Thing.{Thing}
 use Rattle.sdr_model.specs.declared.things.Thing.TheVariants as things
-use Rattle.sdr_served.proofs.HashLemmas.{few_entries}
+use Rattle.step_keyed.proofs.HashLemmas.{few_entries}
 use Rattle.sdr_station.specs.Grounded.{HasStood, StandsWithin, heap_in}
-use Rattle.zco_answers.proofs.DestroyedFew.{destroyed_few}
-use Rattle.zco_cut_answers.proofs.StrippedFew.{stripped_few}
-use Rattle.zco_part_answers.proofs.ClonedFew.{cloned_few}
+use Rattle.step_zco.proofs.DestroyedFew.{destroyed_few}
+use Rattle.step_zco_parts.proofs.StrippedFew.{stripped_few}
+use Rattle.step_zco_parts.proofs.ClonedFew.{cloned_few}
 
 -- a heap region that keeps a heap is of no more bytes than are allowed, with few blocks in use
 pub small_in : {D : Type 0} (h : Held (Opened D)) {pools : Pools} → KeepsRegion h.size h.cells.bytes pools → IsSmall (heap_in h)

@@ -1,10 +1,10 @@
 -- Room for whatever a call may come to.
 use Rattle.std.proofs.Common.{◌≡◌, ◌≤◌, ◌⊎◌, ℕ, List, ap, inl, inr, length, min, refl, subst, arith}
 use Rattle.sdr_base.specs.declared.moves.Move.{Move}
-use Rattle.sdr_lock.specs.Ground.{Ground, State, StepsOn}
-use Rattle.sdr_lock.specs.Room.{HoldsAny}
-use Rattle.sdr_lock.specs.Transaction.{bytes_given}
-use Rattle.sdr_lock.specs.declared.tells.Room.{Room}
+use Rattle.sdr_machine.specs.Ground.{Ground, State, StepsOn}
+use Rattle.sdr_machine.specs.Room.{HoldsAny}
+use Rattle.sdr_machine.specs.Transaction.{bytes_given}
+use Rattle.sdr_machine.specs.declared.tells.Room.{Room}
 use Rattle.sdr_model.specs.Dry.{StepsDry, StopsReading}
 use Rattle.sdr_model.specs.Step.{StopsWith}
 use Rattle.sdr_model.specs.Steps.{Outcome}

@@ -1,6 +1,6 @@
 -- What a call gives of bytes.
 use Rattle.std.specs.Prelude.{◌≡◌, ℕ, Bool, false, List, length, take, drop, Option, None, Some, IfSome, MatchOption}
-use Rattle.sdr_lock.specs.Standing.{GroundState}
+use Rattle.sdr_machine.specs.Standing.{GroundState}
 use Rattle.sdr_base.specs.declared.refusal.Refusal.TheVariants as refusals
 use Rattle.sdr_model.specs.Reading.{reads_media}
 use Rattle.sdr_model.specs.declared.answer.Reply.{Reply}

@@ -1,6 +1,6 @@
 -- A heap on an image as the ground of a lock: what it stands for.
 use Rattle.std.specs.Prelude.{◌≡◌, ◌≤◌, ◌*◌, ℕ, Bool, true, false, List, length, Option, Some}
-use Rattle.sdr_audit.specs.Standing.{HeapStandsFor, StandsForWhole}
+use Rattle.sdr_stands.specs.Standing.{HeapStandsFor, StandsForWhole}
 use Rattle.sdr_base.specs.Entries.{Few}
 use Rattle.sdr_base.specs.KeptHeap.{KeepsRegion, block_in, root_in}
 use Rattle.sdr_base.specs.Objects.{Heap}
@@ -9,9 +9,9 @@ use Rattle.sdr_base.specs.declared.line.TheConstants.{LINE, MOST_LINES}
 use Rattle.sdr_disk.specs.Told.{IfTold}
 use Rattle.sdr_heap.specs.Noted.{Held, marked_in}
 use Rattle.sdr_image.specs.Opened.{Opened, Rests}
-use Rattle.sdr_lock.specs.Demand.{most_lines, no_demand}
-use Rattle.sdr_lock.specs.Ground.{Ground, State}
-use Rattle.sdr_lock.specs.Standing.{GroundState}
+use Rattle.sdr_machine.specs.Demand.{most_lines, no_demand}
+use Rattle.sdr_machine.specs.Ground.{Ground, State}
+use Rattle.sdr_machine.specs.Standing.{GroundState}
 use Rattle.sdr_log.specs.Frame.{room_of}
 use Rattle.sdr_log.specs.Log.{put_back_of}
 use Rattle.sdr_model.specs.Fields.{FitsFields}

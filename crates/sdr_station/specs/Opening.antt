@@ -1,27 +1,27 @@
 -- When a heap is opened.
 use Rattle.std.specs.Prelude.{◌≡◌, ℕ, List, [], false, true, ⊤, Option, None, Some, Result, Ok, Err}
-use Rattle.sdr_audit.specs.Standing.{StandsForWhole}
+use Rattle.sdr_stands.specs.Standing.{StandsForWhole}
 use Rattle.sdr_base.specs.Causes.{Rose}
 use Rattle.sdr_base.specs.Parts.{part}
 use Rattle.sdr_base.specs.Pools.{Pools}
 use Rattle.sdr_base.specs.declared.line.TheConstants.{LINE}
-use Rattle.sdr_check.specs.Checked.{IsWrongFirst}
-use Rattle.sdr_check.specs.declared.error.AuditError.{AuditError}
-use Rattle.sdr_check.specs.declared.error.AuditError.TheVariants as audits
-use Rattle.sdr_check.specs.declared.error.Check.{Check}
+use Rattle.sdr_audit.specs.Checked.{IsWrongFirst}
+use Rattle.sdr_audit.specs.declared.error.AuditError.{AuditError}
+use Rattle.sdr_audit.specs.declared.error.AuditError.TheVariants as audits
+use Rattle.sdr_audit.specs.declared.error.Check.{Check}
 use Rattle.sdr_disk.specs.Told.{Both, IfTold}
 use Rattle.sdr_image.specs.Opening.{MayBeOpened}
 use Rattle.sdr_image.specs.declared.error.ImageError.{ImageError}
 use Rattle.sdr_image.specs.declared.error.ImageError.TheVariants as images
-use Rattle.sdr_lock.specs.Ground.{Ground, State, resting}
-use Rattle.sdr_lock.specs.Standing.{standing_at}
+use Rattle.sdr_machine.specs.Ground.{Ground, State, resting}
+use Rattle.sdr_machine.specs.Standing.{standing_at}
 use Rattle.sdr_log.specs.Calls.{PutsBack}
 use Rattle.sdr_log.specs.Frame.{frame_of, room_of}
 use Rattle.sdr_log.specs.Log.{put_back_of}
 use Rattle.sdr_log.specs.declared.frame.Frame.{Frame}
 use Rattle.sdr_model.specs.World.{World}
-use Rattle.sdr_read.specs.Told.{world_of}
-use Rattle.sdr_read.specs.ToldPools.{pools_of}
+use Rattle.audit_world.specs.Told.{world_of}
+use Rattle.audit_world.specs.ToldPools.{pools_of}
 use Rattle.sdr_station.specs.Grounded.{Grounded, StandsForBoth, StandsInMemory}
 use Rattle.sdr_station.specs.declared.error.OpenError.{OpenError}
 use Rattle.sdr_station.specs.declared.error.OpenError.TheVariants as errors

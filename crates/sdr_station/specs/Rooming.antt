@@ -2,8 +2,8 @@
 use Rattle.std.specs.Prelude.{◌≡◌, ◌≤◌, ◌+◌, ◌/◌, ℕ, length, Result, Ok, Err, MatchOption}
 use Rattle.sdr_base.specs.declared.stop.Stop.{Stop}
 use Rattle.sdr_base.specs.declared.stop.Stop.TheVariants as stops
-use Rattle.sdr_lock.specs.Ground.{Replied, Steps}
-use Rattle.sdr_lock.specs.Standing.{GroundState}
+use Rattle.sdr_machine.specs.Ground.{Replied, Steps}
+use Rattle.sdr_machine.specs.Standing.{GroundState}
 use Rattle.sdr_model.specs.Step.{StepTo}
 use Rattle.sdr_model.specs.Steps.{Outcome}
 use Rattle.sdr_model.specs.World.{World}

@@ -3,14 +3,14 @@ use Rattle.std.specs.Prelude.{◌≡◌, ◌==◌, ℕ, Bool, true, false, ⊤, 
 use Rattle.sdr_base.specs.declared.refusal.Refusal.TheVariants as refusals
 use Rattle.sdr_base.specs.declared.stop.Stop.{Stop}
 use Rattle.sdr_base.specs.declared.stop.Stop.TheVariants as stops
-use Rattle.sdr_lock.specs.Crash.{LeavesOr, is_kept}
-use Rattle.sdr_lock.specs.Lapses.{HasLapseCause}
-use Rattle.sdr_lock.specs.Nesting.{Inner, closing, deepened, nested, noted, unbegun}
+use Rattle.sdr_machine.specs.Crash.{LeavesOr, is_kept}
+use Rattle.sdr_machine.specs.Lapses.{HasLapseCause}
+use Rattle.sdr_machine.specs.Nesting.{Inner, closing, deepened, nested, noted, unbegun}
 use Rattle.sdr_image.specs.Opened.{IsQuiet}
-use Rattle.sdr_lock.specs.Serving.{Brings, Calls, KeepsGround, MeetsFault, Settles, SameStates, shown_in}
-use Rattle.sdr_lock.specs.Standing.{GroundState}
-use Rattle.sdr_lock.specs.declared.has_ground.HasGround.{Ghosts}
-use Rattle.sdr_lock.specs.declared.nesting.Nesting.{Nesting}
+use Rattle.sdr_machine.specs.Serving.{Brings, Calls, KeepsGround, MeetsFault, Settles, SameStates, shown_in}
+use Rattle.sdr_machine.specs.Standing.{GroundState}
+use Rattle.sdr_machine.specs.declared.has_ground.HasGround.{Ghosts}
+use Rattle.sdr_machine.specs.declared.nesting.Nesting.{Nesting}
 use Rattle.sdr_model.specs.declared.answer.Answer.{Answer}
 use Rattle.sdr_model.specs.declared.answer.Answer.TheVariants as answers
 use Rattle.sdr_model.specs.declared.answer.Close.{Close}

@@ -1,6 +1,6 @@
 -- How many bytes a call may give.
 use Rattle.std.specs.Prelude.{◌≤◌, ℕ, length}
-use Rattle.sdr_lock.specs.Transaction.{bytes_given}
+use Rattle.sdr_machine.specs.Transaction.{bytes_given}
 use Rattle.sdr_model.specs.Step.{StepTo}
 use Rattle.sdr_model.specs.Steps.{Outcome}
 use Rattle.sdr_model.specs.Whole.{IsWhole}

@@ -1,5 +1,5 @@
 // Why a heap isn't opened.
-use sdr_check::Check;
+use sdr_audit::Check;
 
 /// Why a heap isn't opened.
 #[derive(Clone, Copy, Debug, PartialEq, Eq)]

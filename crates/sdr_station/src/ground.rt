@@ -4,14 +4,14 @@ ghost use Rattle.std.specs.Prelude.{IfErr, IfOk, IsErrOf, IsOk, OnErr, OnOk};
 ghost use Rattle.sdr_disk.specs.Moments.{AtEach};
 ghost use Rattle.sdr_disk.specs.Told.{IfTold};
 ghost use Rattle.sdr_image.specs.Opening.{MayBeOpened};
-ghost use Rattle.sdr_lock.specs.Crash.{LeavesBefore, LeavesEither};
-ghost use Rattle.sdr_lock.specs.Lapses.{HasLapseCause};
-ghost use Rattle.sdr_lock.specs.Serving.{Brings, Calls, Commits, KeepsGround, MeetsFault, RollsBack, Shows, SameStates};
+ghost use Rattle.sdr_machine.specs.Crash.{LeavesBefore, LeavesEither};
+ghost use Rattle.sdr_machine.specs.Lapses.{HasLapseCause};
+ghost use Rattle.sdr_machine.specs.Serving.{Brings, Calls, Commits, KeepsGround, MeetsFault, RollsBack, Shows, SameStates};
 ghost use Rattle.sdr_image.specs.Opened.{IsQuiet};
-ghost use Rattle.sdr_lock.specs.Standing.{GroundState};
+ghost use Rattle.sdr_machine.specs.Standing.{GroundState};
 ghost use Rattle.sdr_log.specs.Calls.{KeepsDisk};
 ghost use Rattle.sdr_log.specs.Logged.{GivesSame};
-ghost use Rattle.sdr_answers.specs.Answering.{dooms};
+ghost use Rattle.step_things.specs.Answering.{dooms};
 ghost use Rattle.sdr_station.specs.Grounded.{IsBefore, StandsForBoth, StandsInMemory};
 ghost use Rattle.sdr_station.specs.Giving.{GivesReply, reads_by};
 ghost use Rattle.sdr_station.specs.Opening.{ExplainsOpen, IsOfAudit, IsOfImage, IsOpen, LeavesBytes, disk_of};
@@ -19,19 +19,19 @@ ghost use Rattle.sdr_station.specs.Opening.{media_of};
 
 use crate::closing::{cancel, commit, forget_moves, moment_since};
 use crate::error::{OpenError, Shut};
-use sdr_answers::Page;
+use sdr_audit::{AuditError, check};
 use sdr_base::{Media, Move, Stop};
-use sdr_check::{AuditError, check};
 use sdr_disk::Disk;
 use sdr_heap::Heap;
 use sdr_image::{Image, ImageError};
-use sdr_lock::{Fault, Halt, HasGround, Backing};
+use sdr_machine::{Backing, Fault, Halt, HasGround};
 use sdr_model::{Answer, Call, Reply};
-use sdr_served::answer;
 use std::alloc::Global;
 use std::marker::Model;
+use step_calls::answer;
+use step_things::Page;
+use step_zco::look;
 use zco_acct::{Notice, Notify};
-use zco_granted::look;
 
 /// A heap on an image as the ground of a lock.
 #[derive(Drop)]

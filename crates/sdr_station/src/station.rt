@@ -3,8 +3,8 @@ ghost use Rattle.std.specs.Prelude.{◌≡◌, ◌≤◌, ◌<◌, ◌+◌, ◌/
 ghost use Rattle.sdr_disk.specs.Moments.{AtEach};
 ghost use Rattle.sdr_disk.specs.Told.{IfTold};
 ghost use Rattle.sdr_image.specs.Opening.{MayBeOpened};
-ghost use Rattle.sdr_lock.specs.Crash.{LeavesBefore, LeavesOr, is_kept, commits_in};
-ghost use Rattle.sdr_lock.specs.Nesting.{cancelled, closing, ended, unbegun};
+ghost use Rattle.sdr_machine.specs.Crash.{LeavesBefore, LeavesOr, is_kept, commits_in};
+ghost use Rattle.sdr_machine.specs.Nesting.{cancelled, closing, ended, unbegun};
 ghost use Rattle.sdr_log.specs.Calls.{KeepsDisk};
 ghost use Rattle.sdr_log.specs.Logged.{GivesSame};
 ghost use Rattle.sdr_station.specs.Giving.{Fills, GivesReply};
@@ -15,13 +15,13 @@ ghost use Rattle.sdr_station.specs.Stationed.{closed_as, disk_under, media_under
 
 use crate::HeapGround;
 use crate::error::Shut;
-use sdr_answers::PAGE;
 use sdr_base::{Media, Move, Reason, Refusal, Stop};
 use sdr_disk::Disk;
-use sdr_lock::{Fault, HasGround, Nesting, Backing};
+use sdr_machine::{Backing, Fault, HasGround, Nesting};
 use sdr_model::{Answer, Call, Close, Event, Reply};
 use std::alloc::Global;
 use std::marker::Model;
+use step_things::PAGE;
 use zco_acct::{Notice, Notify};
 
 /// What an end, a cancel or an exit came to.

@@ -1,17 +1,17 @@
 // What a heap on an image tells of its calls.
 ghost use Rattle.std.specs.Prelude.{◌≤◌, ◌+◌, ◌/◌, IfOk, IsOk};
-ghost use Rattle.sdr_lock.specs.Room.{HoldsAny};
-ghost use Rattle.sdr_lock.specs.Standing.{GroundState};
+ghost use Rattle.sdr_machine.specs.Room.{HoldsAny};
+ghost use Rattle.sdr_machine.specs.Standing.{GroundState};
 ghost use Rattle.sdr_station.specs.Telling.{BytesAtMost};
 
 use crate::HeapGround;
 use crate::station::most_moves;
-use sdr_answers::PAGE;
 use sdr_base::{Media, Move, NoMemory};
 use sdr_disk::Disk;
-use sdr_lock::{HasGround, Room, Tells};
+use sdr_machine::{HasGround, Room, Tells};
 use sdr_model::Call;
 use sdr_model::limits::{LONGEST_NAME, LONGEST_STRING};
+use step_things::PAGE;
 use zco_acct::Notify;
 
 // How many bytes a call gives at most.

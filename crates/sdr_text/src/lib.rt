@@ -7,7 +7,7 @@
 //! Proved: `write_answer` writes `line_text` of each answer, whole, or a part from the front if the sink failed
 //! (`ok`, `err`, `cause`). It takes no memory.
 //!
-//! Only tested: the text of each answer, reason and refusal (`sdr_text_tests`).
+//! Only tested: the text of each answer, reason and refusal (`test_text`).
 #![tactic(auto)]
 
 mod answer;

@@ -213,8 +213,13 @@ step_is earlier line (first ∷ fields) step e =
     let daemon = bind_some (as_daemon first) _ step e in
     let named = bind_some (name_and_rest fields) _ step daemon.2 in
     let said = bind_some (verb_and_args (is_bound_by earlier daemon.0) named.0.1) _ step named.2 in
-    let made : ScriptStep = record { line = line; daemon = daemon.0; name = named.0.0; verb = said.0.0;
-        args = said.0.1 } in
+    let made : ScriptStep = record {
+      line = line;
+      daemon = daemon.0;
+      name = named.0.0;
+      verb = said.0.0;
+      args = said.0.1;
+    } in
     let is : made ≡ step = cc (said.2) in
     let numbers = daemon_is first daemon.0 daemon.1 in
     let parts = said_is (is_bound_by earlier daemon.0) named.0.1 said.0 said.1 in

@@ -103,7 +103,12 @@ impl Bindings {
 
     /// Binds the name of a step, where it has one, to what its answer gives. Want of memory leaves
     /// all as before.
-    pub fn bind(&mut self, alloc: Global, step: &ScriptStep, answer: &Answer) -> Result<(), NoMemory>
+    pub fn bind(
+        &mut self,
+        alloc: Global,
+        step: &ScriptStep,
+        answer: &Answer,
+    ) -> Result<(), NoMemory>
         ensures ok { OnOk result (self.new ≡ bound self.old step.now answer.now) }
         ensures err { OnErr result (self.new ≡ self.old) }
     {

@@ -11,7 +11,7 @@
 //! canonical line of a step is read as that step (`canonical_lines_are_read`).
 //!
 //! Only tested: good and bad inputs, with the first refused line; the event of each statement; what a name holds
-//! (`sdr_text_tests`).
+//! (`test_text`).
 #![tactic(auto)]
 
 mod arguments;

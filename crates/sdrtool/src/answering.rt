@@ -1,6 +1,6 @@
 // The call of `top` that answers a form.
 ghost use Rattle.std.specs.Prelude.{◌≡◌, Some};
-ghost use Rattle.sdr_replay.specs.Replaying.{IsSettled};
+ghost use Rattle.sdr_run.specs.Replaying.{IsSettled};
 ghost use Rattle.sdr_shell.specs.Form.{form_of};
 ghost use Rattle.sdr_shell.specs.declared.form.Form.{Form};
 ghost use Rattle.sdrtool.specs.Answered.{IsAnswered};
@@ -9,8 +9,8 @@ use crate::CANNOT_OPEN;
 use crate::notes::{note_forms, note_loss, note_no_heap, note_unopened};
 use sdr_base::{Media, NoGate, Sink, Source, write_all};
 use sdr_disk::{Disk, MemoryDisk};
-use sdr_files::{FileDisk, Place, hold, make_disk, open_disk, place_of, view_disk};
 use sdr_shell::{Form, NO_MEMORY, NOT_FORMATTED, top};
+use sdr_system::{FileDisk, Place, hold, make_disk, open_disk, place_of, view_disk};
 use sdr_words::{ScriptError, read_script};
 use std::fs::File;
 use std::io;
@@ -91,7 +91,7 @@ fn open_for<R: Files<File = File> + AllocGlobal>(
 }
 
 // The status of a form on the file of a path, where it can be opened.
-#[tactic(auto, using(sdr_files::specs::Untold::untold))]
+#[tactic(auto, using(sdr_system::specs::Untold::untold))]
 fn answer_on_file<
     R: Threads + Wait + Sync + AllocGlobal + Eprint + Files<File = File>,
     M: Media + Send + Drop,

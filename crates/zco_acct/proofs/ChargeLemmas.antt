@@ -55,7 +55,7 @@ used number amounts [] t ys none is =
 used number amounts (x ∷ xs) t ys none is =
     elim (has_number number x) as (λ v. cond v (Some x) (find (has_number number) xs) ≡ None →
     cond v (record x { left = minus x.left amounts } ∷ (xs ++ (t ∷ ys)))
-        (x ∷ tickets_covered number amounts (xs ++ (t ∷ ys)))
+    (x ∷ tickets_covered number amounts (xs ++ (t ∷ ys)))
     ≡ x ∷ (xs ++ (record t { left = minus t.left amounts } ∷ ys))) [
       | true ↦ λ k. let d : Some x ≡ None = k in cc
       | false ↦ λ k. ap (λ (l : List Ticket). x ∷ l) (used number amounts xs t ys k is)
@@ -86,7 +86,7 @@ stands_charged : (old mid : Heap) (acct : Acct) (number : ℕ) (amounts : Amount
     BlocksAre mid.blocks (queue_entries acct (charged tickets number amounts) ++ rest)
 stands_charged old mid acct number amounts tickets None is u rest s =
     subst (λ (b : Blocks). BlocksAre b (queue_entries acct (charged tickets number amounts) ++ rest))
-        (sym (heap_blocks u))
+    (sym (heap_blocks u))
     (subst (λ (ts : List Ticket). BlocksAre old.blocks (queue_entries acct ts ++ rest))
     (sym (ap (λ b. cond b tickets (tickets_covered number amounts tickets)) (eq-eqb number 0 is))) s)
 stands_charged old mid acct number amounts tickets (Some found) is u rest s =

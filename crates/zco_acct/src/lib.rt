@@ -12,7 +12,7 @@
 //! BadTicket, NotAwarded, Queue, NoSpace (`charged`, `refused`). Occupancies and maxima are told and set
 //! (`given`, `set`). At most 5 lines are touched (`works`).
 //!
-//! Only tested: occupancies and maxima (`tests/cases`); that the callback is called (`sdr_station_tests`).
+//! Only tested: occupancies and maxima (`tests/cases`); that the callback is called (`test_things`).
 #![tactic(auto)]
 
 mod account;

@@ -149,7 +149,7 @@ module _ {text : Text} {old one : Heap} {source : ℕ} (m : MakesSource text old
               let given : new ≡ with_given three c.addr = g ∙ ap (λ (n : ℕ). with_given three n) p.at_text in
               subst (λ n. BlocksAre new.blocks ((chained gap.next (front ++ (first_bytes extent source n ∷ [])) ++ (S' ++ R)) ++ rest)) e
               (subst (λ (b : Blocks). BlocksAre b ((F ++ (S' ++ R)) ++ rest))
-                  (sym (given_blocks c.addr three new given))
+              (sym (given_blocks c.addr three new given))
               (went three.blocks c.addr (capsule_block 0 next c) (F ++ (S' ++ R)) rest
               (attached_then rest (subst (λ (es : Entries). BlocksAre old.blocks es) (append_assoc (chained gap.next front) C rest) s))));
         }

@@ -219,7 +219,7 @@ module _ {acct : Acct} {gap : Gap} {front : List ExtentRow} {rows : List Capsule
           subst (λ (es : Entries). BlocksAre new.blocks es) (append_assoc X B (H ++ (S ++ rest)))
           ((t.bonds E next here (place_there seen.bytes)).kept (H ++ (S ++ rest)) one) in
           let three : BlocksAre new.blocks (X ++ (H ++ (B ++ (S ++ rest)))) = swapped new.blocks X B H (S ++ rest) two
-              in
+          in
           let four : BlocksAre new.blocks ((X ++ H) ++ (S ++ (B ++ rest))) =
           swapped new.blocks (X ++ H) B S rest
           (subst (λ (es : Entries). BlocksAre new.blocks es) (sym (append_assoc X H (B ++ (S ++ rest)))) three) in

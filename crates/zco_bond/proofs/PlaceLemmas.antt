@@ -16,7 +16,7 @@ use Rattle.sdr_base.proofs.LayoutLemmas.{length-layout}
 use Rattle.sdr_base.proofs.LinkedLemmas.{linked-append}
 use Rattle.sdr_base.proofs.ObjectsLemmas.{with_block-apart}
 use Rattle.sdr_base.proofs.StandingLemmas.{came}
-use Rattle.zco_cut.specs.Linking.{LinksAfter}
+use Rattle.zco_strip.specs.Linking.{LinksAfter}
 use Rattle.zco_bond.specs.Bonded.{chained, first_bytes}
 use Rattle.zco_bond.specs.Placing.{InsertsExtent}
 use Rattle.zco_bond.specs.declared.gap.Gap.{Gap}

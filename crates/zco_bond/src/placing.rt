@@ -10,9 +10,9 @@ ghost use Rattle.zco_bond.specs.Rows.{RowStops};
 use crate::gap::Gap;
 use crate::text::{Text, make_source};
 use sdr_base::{Acct, Addr, Kind, Objects, Stop, take_words};
-use zco_cut::link_after;
 use zco_obj::{LONGEST_CAPSULE, TEXT_FROM};
 use zco_ref::attach;
+use zco_strip::link_after;
 
 // Makes an extent at a place, of the first bytes of a source, so many.
 fn insert_extent<O: Objects>(o: &mut O, source: Addr, bytes: u64, gap: Gap) -> Result<Addr, Stop>

@@ -34,7 +34,7 @@ focused side object row rows rest =
 -- an object is opened at a side
 pub opened : {blocks : Blocks} (side : Side) (object : ℕ) (row : ObjectRow) (rest : Entries) →
     BlocksAre blocks (object_entries object row ++ rest) →
-        BlocksAre blocks (focused side object row (capsules side row) rest)
+    BlocksAre blocks (focused side object row (capsules side row) rest)
 opened {blocks} sides.Headers object row rest s =
     let H = capsule_entries row.headers in
     let X = extent_entries row.extents in
@@ -91,7 +91,7 @@ first_linked : {old new : Heap} (side : Side) (object prev next : ℕ) → prev 
 unfolding linked
 first_linked {old} {new} side object prev next z w row last was [] e rest s =
     subst (λ (ws : List ℕ). BlocksAre new.blocks
-        ((object, record { kind = kinds.Object; bytes = layout ws [] }) ∷ rest))
+    ((object, record { kind = kinds.Object; bytes = layout ws [] }) ∷ rest))
     (set_first side row was last next)
     (word_set old.blocks new.blocks object kinds.Object (ends_words side row was last) [] (first_field side) next [] rest
     (heap_blocks w) (first_below side row was last) s)
@@ -145,7 +145,7 @@ links_on {old} {new} side object next prev n w = record {
   links = λ row first last. record {
     kept = λ rest s.
         subst (λ (v : Bool). BlocksAre new.blocks
-            ((object, ends_block side row first (if v then prev else last)) ∷ rest))
+        ((object, ends_block side row first (if v then prev else last)) ∷ rest))
         (sym (ne_eqb next 0 n))
         (subst (λ (b : Blocks). BlocksAre b ((object, ends_block side row first last) ∷ rest)) (sym (heap_blocks w)) s);
   };

@@ -94,7 +94,7 @@ times-charged : (q : ℕ) (acct : Acct) (number : ℕ) (amounts : Amounts) (tick
     times q (queue_entries acct (charged tickets number amounts)) ≡ times q (queue_entries acct tickets)
 times-charged q acct number amounts tickets =
     elim (number == 0) as (λ v. times q
-        (queue_entries acct (if v then tickets else tickets_covered number amounts tickets))
+    (queue_entries acct (if v then tickets else tickets_covered number amounts tickets))
     ≡ times q (queue_entries acct tickets)) [
       | true ↦ refl
       | false ↦ times-used q acct number amounts 0 0 tickets

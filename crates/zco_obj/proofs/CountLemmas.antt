@@ -185,7 +185,7 @@ module _ (acct : Acct) (s : NamedSource) (n k : ℕ) (enough : n + 1 + k ≤ cou
       ap (λ (r : SourceRow). if goes_next (less_uses acct n s.source) then blocks_left r.medium r.subject s.bytes
       else tied_entries s.addr (detached acct (less_uses acct n s.source)) s.bytes) (less_row acct n s.source)
       ∙ ap (λ t. if goes_next (less_uses acct n s.source) then blocks_left s.source.row.medium s.source.row.subject
-          s.bytes
+      s.bytes
       else tied_entries s.addr t s.bytes) (less_more acct n s.source)
       ∙ ap (λ v. if v then blocks_left s.source.row.medium s.source.row.subject s.bytes
       else tied_entries s.addr (less_uses acct (n + 1) s.source) s.bytes) goes_now

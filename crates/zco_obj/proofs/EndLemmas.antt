@@ -54,7 +54,7 @@ charges_whole : (row : ObjectRow) (ss : List NamedSource) → plus (parts_amount
 charges_whole row ss =
     same_amounts (λ space. amount (parts_amounts row ss) space + amount (heap_amounts 72) space)
     (λ space. charge_of (in_space spaces.Heap 72 space) (extent_row_charge ss space) (capsule_row_charge space) row)
-        (λ space.
+    (λ space.
     let p = amount_by (λ (z : Space). charge_of 0 (extent_row_charge ss z) (capsule_row_charge z) row) space in
     let h = amount_by (in_space spaces.Heap 72) space in omega (arith, p, h))
 

@@ -128,7 +128,7 @@ last_set {old} {new} object added w row first last part rest s =
 first_linked : {old mid new : Heap} (object last added : ℕ) → last ≡ 0 → mid ≡ with_word old object 2 added →
     new ≡ with_word mid object 1 added → (row : ObjectRow) (part : ℕ) (rows : List ExtentRow) → last ≡ last_of extent_addr 0 rows →
     (rest : Entries) → BlocksAre old.blocks
-        (spanned object row (first_of extent_addr 0 rows) last part 0 rows ++ rest) →
+    (spanned object row (first_of extent_addr 0 rows) last part 0 rows ++ rest) →
     BlocksAre new.blocks (spanned object row (first_of extent_addr added rows) added part added rows ++ rest)
 unfolding linked
 first_linked {old} {mid} {new} object last added z l w row part [] e rest s =
@@ -140,7 +140,7 @@ first_linked {old} object last added z l w row part (x ∷ xs) e rest s =
 next_linked : {old mid new : Heap} (object last added : ℕ) → last ≢ 0 → mid ≡ with_word old object 2 added →
     new ≡ with_word mid last 3 added → (row : ObjectRow) (part : ℕ) (rows : List ExtentRow) → last ≡ last_of extent_addr 0 rows →
     (rest : Entries) → BlocksAre old.blocks
-        (spanned object row (first_of extent_addr 0 rows) last part 0 rows ++ rest) →
+    (spanned object row (first_of extent_addr 0 rows) last part 0 rows ++ rest) →
     BlocksAre new.blocks (spanned object row (first_of extent_addr added rows) added part added rows ++ rest)
 next_linked object last added n l w row part [] e rest s = absurd (n e)
 next_linked {old} {mid} {new} object last added n l w row part (x ∷ xs) e rest s =

@@ -167,7 +167,7 @@ module _ {object : ℕ} (number : ℕ) {old : Heap} (piece : ExtentPiece) (have 
         -- the object, the source and the raw object are there once it was made
         made_stands : {row : ObjectRow} {tickets : List Ticket} {bytes : List ℕ} → KeepsWithRaw old object row tickets piece.of 0 bytes →
             (rest : Entries) → BlocksAre mid.blocks
-                (object_entries object row ++ (raw_entries piece.of 0 bytes ++ rest)) →
+            (object_entries object row ++ (raw_entries piece.of 0 bytes ++ rest)) →
             BlocksAre src.blocks
             (object_entries object row ++ (counted_entries source (taking_over piece.of bytes) ++ (raw_entries piece.of source bytes ++ rest)))
         made_stands {row} {tickets} {bytes} k rest s =

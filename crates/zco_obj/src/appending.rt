@@ -58,7 +58,12 @@ pub fn append_extent<O: Objects>(
 }
 
 // Puts a part of a source behind an object's extents, and charges the object's account for it.
-fn append_source<O: Objects>(o: &mut O, object: Addr, ticket: u64, piece: ExtentPiece) -> Result<(), Stop>
+fn append_source<O: Objects>(
+    o: &mut O,
+    object: Addr,
+    ticket: u64,
+    piece: ExtentPiece,
+) -> Result<(), Stop>
     requires kept { KeepsSome (O.keeps o.old) }
     requires spare { 1 ≤ (O.heap o.old).spare }
     requires some { SomeWithSource (O.heap o.old) object piece.of }
@@ -79,7 +84,12 @@ fn append_source<O: Objects>(o: &mut O, object: Addr, ticket: u64, piece: Extent
 
 // Puts a part of a raw object behind an object's extents, whose account is charged for it. A source
 // takes the raw object over before.
-fn append_raw<O: Objects>(o: &mut O, object: Addr, ticket: u64, piece: ExtentPiece) -> Result<(), Stop>
+fn append_raw<O: Objects>(
+    o: &mut O,
+    object: Addr,
+    ticket: u64,
+    piece: ExtentPiece,
+) -> Result<(), Stop>
     requires kept { KeepsSome (O.keeps o.old) }
     requires spare { 2 ≤ (O.heap o.old).spare }
     requires object { IsKind ((O.heap o.old).blocks object) kinds.Object }

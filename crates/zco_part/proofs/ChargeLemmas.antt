@@ -119,7 +119,7 @@ more_charged ss done p s charge more in_space e m =
     let b : amount more space ≡ sum_by (λ (q : ExtentPiece). bytes_charge (source_space s) q.bytes space) (filled p) =
     ap (λ (x : Amounts). amount x space) m
     ∙ amount_by (λ (z : Space). sum_by (λ (q : ExtentPiece). bytes_charge (source_space s) q.bytes z) (filled p))
-        space in
+    space in
     let c = same space in
     let d = sum_by-append (piece_charge ss space) done (filled p) in omega (arith, a, b, c, d))
   where

@@ -256,7 +256,7 @@ module _ {copy first : ℕ} {span now : Span} {old heap : Heap} {cursor i : ℕ}
         has =
             subst (λ (q : ExtentPiece). HasCopied copy acct addrs (f.walk.done ++ filled q) xs ss c.rest new) is_here
             (subst (λ (qs : List ExtentPiece). HasCopied copy acct addrs (f.walk.done ++ qs) xs ss c.rest new)
-                (sym e') has);
+            (sym e') has);
       }
 
     pub pair_there : SomeCopy copy old first span → SomeWholePair heap.blocks copy p.of

@@ -37,7 +37,7 @@ pub record DestroysSource (addr : ℕ) (old new : Heap) : Type 0 where
   pub may : MayGo (old.blocks addr)
   pub does : (source : CountedSource) (bytes : List ℕ) → KeepsTied old.blocks addr source bytes →
       MatchBool (uses_of source == 0) (SourceGoes addr source bytes old new)
-          (Becomes addr source (flagged source) old new)
+      (Becomes addr source (flagged source) old new)
 
 -- it is refused as of the wrong kind: the block is of another, or the source has taken over a raw object
 abbrev pub IsWrong : Option Block → ℕ → ℕ → ℕ → Type 0

@@ -79,7 +79,7 @@ module _ {acct : Acct} {new : Ticket} {place : Place} {addr : ℕ} {old mid : He
   pub opened : {tickets : List Ticket} → KeepsQueue old acct tickets → (p : IsPlace new tickets place) → (rest : Entries) →
       BlocksAre old.blocks (queue_entries acct tickets ++ rest) →
       QueueChain mid acct p.before (first_of block_of 0 p.behind)
-          (from_it acct new place.next addr p.before p.behind rest)
+      (from_it acct new place.next addr p.before p.behind rest)
   opened {tickets} k p rest s =
       let xs = p.before in
       let ys = p.behind in

@@ -86,7 +86,7 @@ module _ {acct : Acct} (found_one : Found) {old mid last : Heap}
     (e : LinksLast acct found_one.next found_one.previous mid last) where
   linked_past : {test : Ticket → Bool} {tickets : List Ticket} → KeepsQueue old acct tickets →
       (f : IsFirst test tickets found_one) → (rest : Entries) → BlocksAre old.blocks
-          (queue_entries acct tickets ++ rest) →
+      (queue_entries acct tickets ++ rest) →
       QueueChain mid acct f.before found_one.next (from_it acct f.before found_one.ticket f.behind rest)
   linked_past k f rest s =
       l.links f.before found_one.ticket.block (from_it acct f.before found_one.ticket f.behind rest) f.at_previous

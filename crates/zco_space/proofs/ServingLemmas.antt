@@ -82,7 +82,7 @@ module _ {old now : Heap} {acct : Acct} {m taken : Amounts} {cursor count i : �
       BlocksAre now.blocks (queue_entries acct (w.done ++ (e.ticket ∷ e.behind)) ++ rest)
   stands_now e rest s =
       subst (λ (l : List Ticket). BlocksAre now.blocks (queue_entries acct (w.done ++ l) ++ rest)) e.is
-          (w.stands rest s)
+      (w.stands rest s)
 
   pub cursor_is : (e : HasFirst w.left) → cursor ≡ e.ticket.block
   cursor_is e = w.at_cursor ∙ ap (first_of block_of 0) e.is

@@ -17,7 +17,7 @@ use Rattle.sdr_base.specs.declared.stop.Stop.TheVariants as stops
 use Rattle.sdr_base.proofs.LayoutLemmas.{length-layout}
 use Rattle.sdr_gather.specs.Gathering.{GivesPiece, HasGiven}
 use Rattle.sdr_gather.proofs.GatheringLemmas.{file_given, item_given, known_given}
-use Rattle.sdr_lock.specs.Ground.{lies_with_media}
+use Rattle.sdr_machine.specs.Ground.{lies_with_media}
 use Rattle.sdr_model.specs.Pieces.{media_bytes, piece_length}
 use Rattle.sdr_model.specs.declared.piece.Piece.{Piece}
 use Rattle.sdr_model.specs.declared.piece.Piece.TheVariants as pieces

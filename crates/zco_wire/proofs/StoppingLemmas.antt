@@ -14,7 +14,7 @@ use Rattle.sdr_base.proofs.WrittenLemmas.{rose_later}
 use Rattle.sdr_gather.specs.Gathering.{Gathering}
 use Rattle.sdr_gather.specs.declared.gathering.Gap.TheVariants as gaps
 use Rattle.sdr_gather.proofs.GatheringLemmas.{gathering-gap, gathering-start}
-use Rattle.sdr_lock.specs.Agreeing.{IsFirstShort}
+use Rattle.sdr_machine.specs.Agreeing.{IsFirstShort}
 use Rattle.sdr_model.specs.declared.piece.Piece.{Piece}
 use Rattle.zco_wire.specs.Stopping.{KeepsTold, StopsPiece, StopsPieces, past_media, past_stop}
 

@@ -19,12 +19,12 @@ ahead at room = cut_pieces at.skip (room - at.given)
 -- These pieces were gone over: behind the bytes given before stand those of these pieces, and what is to be given of others behind
 -- them is the rest of what was to be given of all.
 pub record GoesOverPieces (told : Option Told) (over : List Piece) (old new : Cursor) (into into' : List ℕ) : Type 0
-    where
-  pub bytes : List ℕ
-  pub given : new.given ≡ old.given + length bytes
-  pub room : new.given ≤ length into
-  pub stand : take new.given into' ≡ take old.given into ++ bytes
-  pub gathers : (others : List Piece) → Gathering told (ahead old (length into) (over ++ others)) (ahead new (length into) others) bytes
+  where
+    pub bytes : List ℕ
+    pub given : new.given ≡ old.given + length bytes
+    pub room : new.given ≤ length into
+    pub stand : take new.given into' ≡ take old.given into ++ bytes
+    pub gathers : (others : List Piece) → Gathering told (ahead old (length into) (over ++ others)) (ahead new (length into) others) bytes
 
 -- whichever header or trailer stands there, it was gone over
 pub record GoesOverHead (found : Option Block) (old new : Cursor) (into into' : List ℕ) : Type 0 where

@@ -12,7 +12,7 @@ use Rattle.sdr_base.specs.declared.stop.Stop.{Stop}
 use Rattle.sdr_base.specs.declared.stop.Stop.TheVariants as stops
 use Rattle.sdr_gather.specs.Gathering.{IsGapIn, IsGapOf, OfMedia}
 use Rattle.sdr_gather.specs.declared.gathering.Gap.TheVariants as gaps
-use Rattle.sdr_lock.specs.Ground.{lies_with_media}
+use Rattle.sdr_machine.specs.Ground.{lies_with_media}
 use Rattle.sdr_model.specs.Limits.{longest_read}
 use Rattle.sdr_model.specs.declared.piece.Piece.{Piece}
 use Rattle.zco_obj.specs.declared.extent.ExtentPiece.{ExtentPiece as Range}

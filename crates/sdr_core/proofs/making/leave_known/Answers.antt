@@ -1,7 +1,7 @@
 use Rattle.std.proofs.Common.{[], ◌≡◌, ◌∙◌, ◌&&◌, not, false, ap, refl}
-use Rattle.sdr_lock.specs.Core.{has_left, log_after, under}
-use Rattle.sdr_lock.specs.Roll.{number_of}
-use Rattle.sdr_lock.specs.Serving.{made_with}
+use Rattle.sdr_machine.specs.Core.{has_left, log_after, under}
+use Rattle.sdr_machine.specs.Roll.{number_of}
+use Rattle.sdr_machine.specs.Serving.{made_with}
 use Rattle.sdr_core.proofs.LeaveNotes.{leave_after, leave_kept, leave_outside, leave_room, leave_waits}
 use Rattle.sdr_core.proofs.RunLemmas.{makes, steps_leave}
 use Rattle.sdr_core.specs.Logging.{log_of}

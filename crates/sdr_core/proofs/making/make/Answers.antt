@@ -1,6 +1,6 @@
 use Rattle.std.proofs.Common.{◌≡◌, ◌∙◌, None, ap, inl, refl, subst, sym}
-use Rattle.sdr_lock.specs.Roll.{daemon_of}
-use Rattle.sdr_lock.specs.Serving.{machine_at}
+use Rattle.sdr_machine.specs.Roll.{daemon_of}
+use Rattle.sdr_machine.specs.Serving.{machine_at}
 use Rattle.sdr_core.proofs.LeaveLemmas.{unknown_same}
 use Rattle.sdr_core.proofs.RunLemmas.{makes, steps_unknown}
 use Rattle.sdr_core.specs.Logging.{HasRoomFor, leaves_ahead, log_of}

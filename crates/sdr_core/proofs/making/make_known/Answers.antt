@@ -1,8 +1,8 @@
 use Rattle.std.proofs.Common.{◌∙◌, ◌&&◌, not, ap, refl, subst, sym}
-use Rattle.sdr_lock.specs.Core.{has_left, log_after}
-use Rattle.sdr_lock.specs.Machine.{Made}
-use Rattle.sdr_lock.specs.Roll.{number_of}
-use Rattle.sdr_lock.specs.Serving.{machine_at, made_by, made_with}
+use Rattle.sdr_machine.specs.Core.{has_left, log_after}
+use Rattle.sdr_machine.specs.Machine.{Made}
+use Rattle.sdr_machine.specs.Roll.{number_of}
+use Rattle.sdr_machine.specs.Serving.{machine_at, made_by, made_with}
 use Rattle.sdr_core.proofs.RunLemmas.{makes, steps_known}
 use Rattle.sdr_core.proofs.StepLemmas.{noted_said, step_closes, step_fits}
 use Rattle.sdr_core.specs.Drafting.{FitsIn}

@@ -1,7 +1,7 @@
 use Rattle.std.proofs.Common.{◌≡◌, ◌<◌, length, sym, ap, ◌∙◌, subst, IfOk}
 use Rattle.sdr_base.specs.Causes.{Rose}
 use Rattle.sdr_base.specs.Media.{GivesFrom, file_bytes}
-use Rattle.sdr_lock.specs.Ground.{lies_with_media}
+use Rattle.sdr_machine.specs.Ground.{lies_with_media}
 use Rattle.sdr_model.specs.Pieces.{piece_length}
 use Rattle.sdr_model.specs.declared.piece.Piece.TheVariants as pieces
 use Rattle.sdr_gather.specs.Gathering.{HasGiven, OfMedia}

@@ -2,7 +2,7 @@ use Rattle.std.proofs.Common.{rules, ◌≡◌, ◌∙◌, Some, ap, is_some, re
 use Rattle.sdr_disk.specs.Pending.{IsSynced}
 use Rattle.sdr_shell.specs.Formatting.{HasFormatted}
 use Rattle.sdr_shell.specs.Answers.{AnswersDry, AnswersFormat, seen}
-use Rattle.sdr_dry.specs.Schedule.{media_change}
+use Rattle.sdr_run.specs.Schedule.{media_change}
 use Rattle.sdr_shell.specs.Form.{form_of, OnFormat}
 use Rattle.sdr_shell.specs.declared.form.Form.TheVariants.{Dry, Format, Inspect, Recover, Replay}
 use Rattle.sdr_shell.specs.Inspecting.{AnswersInspect}

@@ -1,4 +1,4 @@
-use Rattle.sdr_check.specs.declared.reading.Survey.{Survey}
+use Rattle.sdr_audit.specs.declared.reading.Survey.{Survey}
 use Rattle.sdr_shell.proofs.InspectLemmas.{gives_told, small_told, unsound_explained}
 use Rattle.sdr_shell.proofs.inspecting.survey_disk.Goals as goal
 

@@ -1,5 +1,5 @@
 use Rattle.std.proofs.Common.{◌≡◌, ◌∙◌, None, Some, arith, subst, sym}
-use Rattle.sdr_lock.specs.Leaving.{served_daemon}
+use Rattle.sdr_machine.specs.Leaving.{served_daemon}
 use Rattle.sdr_core.proofs.LeavingLemmas.{holders_more, holders_none, lasts_on, leave_fewer, leave_many, served_may}
 use Rattle.sdr_core.proofs.core_run.Core.+holders_leave.Goals as goal
 

@@ -1,4 +1,4 @@
-use Rattle.sdr_lock.specs.Holders.{holders}
+use Rattle.sdr_machine.specs.Holders.{holders}
 use Rattle.sdr_core.proofs.core_run.Core.+holders_leave.Given as goal
 
 abbrev pub decreases-holders_leave : goal.decreases-holders_leave

@@ -1,5 +1,5 @@
 use Rattle.std.proofs.Common.{ℕ, List, subst, sym}
-use Rattle.sdr_lock.specs.Leaving.{LeaveInTurn}
+use Rattle.sdr_machine.specs.Leaving.{LeaveInTurn}
 use Rattle.sdr_core.proofs.LeavingLemmas.{first_of, none_of, turn_more, turn_none}
 use Rattle.sdr_core.specs.Leaving.{RunLeads}
 use Rattle.sdr_core.proofs.core_run.Core.+leave_in_turn.Goals as goal

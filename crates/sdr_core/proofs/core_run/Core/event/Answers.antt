@@ -1,5 +1,5 @@
 use Rattle.std.proofs.Common.{inl, subst, sym}
-use Rattle.sdr_lock.specs.Roll.{MayDraw, held_by}
+use Rattle.sdr_machine.specs.Roll.{MayDraw, held_by}
 use Rattle.sdr_core.specs.CoreKept.{LoggedLock}
 use Rattle.sdr_core.proofs.CoreLemmas.{core_after, core_either, core_spoken, core_stands}
 use Rattle.sdr_core.proofs.core_run.Core.event.Goals as goal

@@ -1,5 +1,5 @@
 use Rattle.std.proofs.Common.{subst, sym}
-use Rattle.sdr_lock.specs.Legal.{IsLegal}
+use Rattle.sdr_machine.specs.Legal.{IsLegal}
 use Rattle.sdr_core.proofs.RunLemmas.{keeps_legal}
 use Rattle.sdr_core.specs.Logging.{log_of}
 use Rattle.sdr_core.proofs.core_run.Core.journal.Goals as goal

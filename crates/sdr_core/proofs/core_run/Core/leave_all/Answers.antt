@@ -1,8 +1,8 @@
 use Rattle.std.proofs.Common.{◌≡◌, ◌∙◌, ◌++◌, ℕ, List, ap, arith, filter, length, map, not, subst}
-use Rattle.sdr_lock.proofs.HolderLemmas.{holders_few}
-use Rattle.sdr_lock.specs.Leaving.{LeaveInTurn, staying}
-use Rattle.sdr_lock.specs.Roll.{Roll}
-use Rattle.sdr_lock.specs.declared.daemon.Daemon.{Daemon}
+use Rattle.sdr_machine.proofs.HolderLemmas.{holders_few}
+use Rattle.sdr_machine.specs.Leaving.{LeaveInTurn, staying}
+use Rattle.sdr_machine.specs.Roll.{Roll}
+use Rattle.sdr_machine.specs.declared.daemon.Daemon.{Daemon}
 use Rattle.sdr_core.proofs.LeavingLemmas.{all_leave, staying_few}
 use Rattle.sdr_core.specs.Leaving.{RunLeads}
 use Rattle.sdr_core.proofs.core_run.Core.leave_all.Goals as goal

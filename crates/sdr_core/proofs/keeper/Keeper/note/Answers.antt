@@ -1,5 +1,5 @@
 use Rattle.std.proofs.Common.{◌∙◌, ◌≡◌, ◌++◌, ◌∷◌, [], ap, subst, sym}
-use Rattle.sdr_lock.specs.Core.{was_outside, said_by, with_said, without_work}
+use Rattle.sdr_machine.specs.Core.{was_outside, said_by, with_said, without_work}
 use Rattle.sdr_model.specs.declared.journal.What.TheVariants as whats
 use Rattle.sdr_core.proofs.KeeperLemmas.{apart_either, closed_log}
 use Rattle.sdr_core.proofs.SpokenLemmas.{apart-said, apart-without}

@@ -1,8 +1,8 @@
 use Rattle.std.proofs.Common.{◌∙◌, ◌≡◌, ◌++◌, ◌∷◌, [], ap, refl, subst, sym}
-use Rattle.sdr_lock.specs.Core.{said_by, with_said}
+use Rattle.sdr_machine.specs.Core.{said_by, with_said}
 use Rattle.sdr_model.specs.declared.event.Event.TheVariants as events
 use Rattle.sdr_model.specs.declared.journal.What.TheVariants as whats
-use Rattle.sdr_runs.proofs.WorkLemmas.{said_more}
+use Rattle.law_runs.proofs.WorkLemmas.{said_more}
 use Rattle.sdr_core.proofs.KeeperLemmas.{closed_log, runs_apart}
 use Rattle.sdr_core.proofs.SpokenLemmas.{apart-without, without_work-with_said}
 use Rattle.sdr_core.proofs.StepLemmas.{closes_other}

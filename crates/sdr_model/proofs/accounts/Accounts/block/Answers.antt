@@ -10,7 +10,7 @@ returns-in-Some c =
     let accounts = c.args.self.now in
     ap (λ o. option_or o (block_among c.args.addr (map block_for_ticket accounts.outbound.tickets))) c.in-Some.ensures
     ∙ sym (find-append _ (map block_for_ticket accounts.inbound.tickets)
-        (map block_for_ticket accounts.outbound.tickets))
+    (map block_for_ticket accounts.outbound.tickets))
 
 pub returns-in-None : goal.returns-in-None
 returns-in-None c =
@@ -18,4 +18,4 @@ returns-in-None c =
     c.block-in-None.ensures
     ∙ ap (λ o. option_or o (block_among c.args.addr (map block_for_ticket accounts.outbound.tickets))) c.in-None.ensures
     ∙ sym (find-append _ (map block_for_ticket accounts.inbound.tickets)
-        (map block_for_ticket accounts.outbound.tickets))
+    (map block_for_ticket accounts.outbound.tickets))

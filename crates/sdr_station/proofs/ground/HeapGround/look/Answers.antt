@@ -1,6 +1,6 @@
 -- A ticket is seen in the world before the transaction, once changes that were made in it are dropped.
 use Rattle.std.proofs.Common.{None, ap, subst}
-use Rattle.sdr_lock.specs.Serving.{Shows}
+use Rattle.sdr_machine.specs.Serving.{Shows}
 use Rattle.sdr_station.proofs.ClosingLemmas.{brings_failed}
 use Rattle.sdr_station.proofs.LookLemmas.{before_idle, leaves_later, shows_failed, shows_later}
 use Rattle.sdr_station.proofs.ServingLemmas.{leaves_quiet}
@@ -20,7 +20,7 @@ returns-then-self-clause-any_moment g c =
 pub returns-then-branch-clause-memory : goal.returns-then-branch-clause-memory
 returns-then-branch-clause-memory g c =
     shows_later {S = StandsInMemory} c.args.self.now c.roll_back_for_look.new.self c.see-then-branch.new.self
-        c.args.ticket
+    c.args.ticket
     c.see-then-branch.result c.in_ok-roll_back_for_look.ensures.memory c.see-then-branch.ensures.shown
 
 pub returns-then-branch-clause-shown : goal.returns-then-branch-clause-shown
@@ -43,5 +43,5 @@ returns-clause-memory g c =
 pub returns-clause-shown : goal.returns-clause-shown
 returns-clause-shown g c =
     shows_failed g.D.Disk.bytes g.D.Disk.moment g.D.Disk.may_hold_after c.args.self.now c.roll_back_for_look.new.self
-        c.args.ticket
+    c.args.ticket
     (c.in_ok-roll_back_for_look.ensures.failed c.if-branch.false)

@@ -4,8 +4,8 @@ use Rattle.sdr_base.specs.Transaction.{Explains}
 use Rattle.sdr_base.specs.declared.stop.Stop.{Stop}
 use Rattle.sdr_heap.specs.Noted.{Held}
 use Rattle.sdr_image.specs.Opened.{Opened, Rests, transaction_of}
-use Rattle.sdr_lock.specs.Crash.{LeavesBefore}
-use Rattle.sdr_lock.specs.Serving.{RollsBack}
+use Rattle.sdr_machine.specs.Crash.{LeavesBefore}
+use Rattle.sdr_machine.specs.Serving.{RollsBack}
 use Rattle.sdr_station.proofs.ClosingLemmas.{ClosesTo, back_ground, closes_back, leaves_back}
 use Rattle.sdr_station.proofs.GroundLemmas.{heap_ground}
 use Rattle.sdr_station.specs.Grounded.{Grounded}

@@ -4,8 +4,8 @@ use Rattle.sdr_base.specs.Transaction.{Explains}
 use Rattle.sdr_base.specs.declared.stop.Stop.{Stop}
 use Rattle.sdr_heap.specs.Noted.{Held}
 use Rattle.sdr_image.specs.Opened.{Opened, Rests, transaction_of}
-use Rattle.sdr_lock.specs.Crash.{LeavesBefore}
-use Rattle.sdr_lock.specs.Serving.{SameStates}
+use Rattle.sdr_machine.specs.Crash.{LeavesBefore}
+use Rattle.sdr_machine.specs.Serving.{SameStates}
 use Rattle.sdr_station.proofs.ClosingLemmas.{ClosesTo, closes_dropped, dropped_ground, leaves_back}
 use Rattle.sdr_station.proofs.GroundLemmas.{heap_ground}
 use Rattle.sdr_station.proofs.LookLemmas.{before_dropped}

@@ -2,8 +2,8 @@ use Rattle.std.specs.Prelude.{max}
 use Rattle.std.proofs.Common.{◌≡◌, ◌∙◌, true, ap, false, refl, subst}
 use Rattle.sdr_heap.specs.Noted.{Held}
 use Rattle.sdr_image.specs.Opened.{Opened, Rests}
-use Rattle.sdr_lock.specs.Crash.{LeavesEither}
-use Rattle.sdr_lock.specs.Serving.{Commits, MeetsFault}
+use Rattle.sdr_machine.specs.Crash.{LeavesEither}
+use Rattle.sdr_machine.specs.Serving.{Commits, MeetsFault}
 use Rattle.sdr_station.proofs.ClosingLemmas.{ClosesTo, closes_kept, kept_ground, leaves_either, meets_fault}
 use Rattle.sdr_station.proofs.GroundLemmas.{heap_ground}
 use Rattle.sdr_station.specs.Grounded.{Grounded}

@@ -1,7 +1,7 @@
 -- A ticket is seen in the heap in memory, which stays.
 use Rattle.std.proofs.Common.{◌∙◌, refl, sym, ap, subst}
 use Rattle.sdr_image.specs.Opened.{IsQuiet}
-use Rattle.sdr_lock.specs.Serving.{Brings, Shows}
+use Rattle.sdr_machine.specs.Serving.{Brings, Shows}
 use Rattle.sdr_station.proofs.LookLemmas.{keeps_before_look, looked_ground, looked_quiet, looks_never, queues_before_look, shows_seen}
 use Rattle.sdr_station.proofs.ServingLemmas.{brings_quiet}
 use Rattle.sdr_station.specs.Grounded.{Grounded, IsBefore, StandsForBoth, StandsInMemory}

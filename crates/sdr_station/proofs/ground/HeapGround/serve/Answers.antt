@@ -45,7 +45,7 @@ returns-in-Ok g c =
       restored = c.self.inside.restored;
     } in
     let came = came_answered b m f l n _ c.self.invariant going c.args.call.now c.in-Ok.ensures.fits
-        c.clear_moves.new.self
+    c.clear_moves.new.self
     c.clear_moves.ensures.none c.answer.new.o c.answer.new.media c.in-Ok.ensures.media c.answer.new.page reply c.in-Ok.ensures.comes c.in-Ok.ensures.works
     c.in-Ok.ensures.tells c.in-Ok.ensures.unread in
     let at : CameTo b m f l n c.args.call.now reply c.args.self.now new =
@@ -151,7 +151,7 @@ invariant_of-self g c =
     let n = g.M.Media in
     let going = ap (λ (o : Grounded D M). o.stopped) c.self.view_is ∙ c.requires.going in
     let came = came_answered b m f l n _ c.self.invariant going c.args.call.now c.in-Ok.ensures.fits
-        c.clear_moves.new.self
+    c.clear_moves.new.self
     c.clear_moves.ensures.none c.answer.new.o c.answer.new.media c.in-Ok.ensures.media c.answer.new.page c.in-Ok.reply c.in-Ok.ensures.comes
     c.in-Ok.ensures.works c.in-Ok.ensures.tells c.in-Ok.ensures.unread in
     came.is_ground

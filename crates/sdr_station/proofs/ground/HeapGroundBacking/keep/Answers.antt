@@ -1,4 +1,4 @@
-use Rattle.sdr_lock.proofs.GroundLemmas as ground
+use Rattle.sdr_machine.proofs.GroundLemmas as ground
 use Rattle.sdr_station.proofs.GroundLemmas.{heap_ground}
 use Rattle.sdr_station.proofs.ground.HeapGroundBacking.keep.Goals as goal
 

@@ -1,5 +1,5 @@
 use Rattle.std.proofs.Common.{◌∙◌, ap, sym, subst}
-use Rattle.sdr_lock.specs.Nesting.{closing}
+use Rattle.sdr_machine.specs.Nesting.{closing}
 use Rattle.sdr_model.specs.declared.answer.Close.{Close}
 use Rattle.sdr_station.proofs.GroundLemmas.{heap_ground}
 use Rattle.sdr_station.specs.Stationed.{Closes, Stationed}

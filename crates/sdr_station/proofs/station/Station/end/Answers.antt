@@ -1,6 +1,6 @@
 use Rattle.std.proofs.Common.{subst}
-use Rattle.sdr_lock.proofs.GroundLemmas.{leaves_or, leaves_same}
-use Rattle.sdr_lock.specs.Crash.{LeavesOr, commits_in}
+use Rattle.sdr_machine.proofs.GroundLemmas.{leaves_or, leaves_same}
+use Rattle.sdr_machine.specs.Crash.{LeavesOr, commits_in}
 use Rattle.sdr_model.specs.declared.event.Event.TheVariants as events
 use Rattle.sdr_station.proofs.GroundLemmas.{heap_ground}
 use Rattle.sdr_station.specs.Stationed.{Stationed}

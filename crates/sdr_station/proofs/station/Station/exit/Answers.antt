@@ -1,6 +1,6 @@
 use Rattle.std.proofs.Common.{Bool, subst}
-use Rattle.sdr_lock.proofs.GroundLemmas.{leaves_same}
-use Rattle.sdr_lock.specs.Crash.{LeavesBefore, LeavesOr}
+use Rattle.sdr_machine.proofs.GroundLemmas.{leaves_same}
+use Rattle.sdr_machine.specs.Crash.{LeavesBefore, LeavesOr}
 use Rattle.sdr_station.proofs.GroundLemmas.{heap_ground}
 use Rattle.sdr_station.proofs.StationLemmas.{exit_keeps_none}
 use Rattle.sdr_station.specs.Stationed.{Stationed}

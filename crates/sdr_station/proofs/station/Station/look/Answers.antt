@@ -1,7 +1,7 @@
 -- What a ground shows of a ticket is told.
 use Rattle.std.proofs.Common.{◌≡◌, ◌∙◌, ℕ, Bool, false, true≢false, Option, None, Some, refl, sym, ap, subst}
 use Rattle.std.specs.Prelude.{is_some}
-use Rattle.sdr_lock.proofs.WorkLemmas.{on_none}
+use Rattle.sdr_machine.proofs.WorkLemmas.{on_none}
 use Rattle.sdr_station.specs.Grounded.{Grounded}
 use Rattle.sdr_station.specs.Stationed.{IsTicketTold, LooksAt, StaysLooked, Stationed}
 use Rattle.sdr_station.proofs.station.Station.look.Goals as goal

@@ -1,5 +1,5 @@
 use Rattle.std.proofs.Common.{ap}
-use Rattle.sdr_lock.specs.declared.nesting.Nesting.{Nesting}
+use Rattle.sdr_machine.specs.declared.nesting.Nesting.{Nesting}
 use Rattle.sdr_station.proofs.station.Station.open.Goals as goal
 
 pub invariant_of-result : goal.invariant_of-result

@@ -1,5 +1,5 @@
 use Rattle.std.proofs.Common.{◌≡◌, ◌∙◌, ℕ, ap, arith, refl, subst, sym}
-use Rattle.sdr_lock.proofs.WorkLemmas.{on_none}
+use Rattle.sdr_machine.proofs.WorkLemmas.{on_none}
 use Rattle.sdr_station.proofs.RoomLemmas.{steps_at_most}
 use Rattle.sdr_station.specs.Grounded.{HasStood}
 use Rattle.sdr_station.specs.Stationed.{Stationed}

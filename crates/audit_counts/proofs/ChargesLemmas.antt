@@ -1,0 +1,67 @@
+-- Sums of charges.
+use Rattle.std.proofs.Common.{◌≡◌, ◌<◌, ◌+◌, ◌*◌, ◌-◌, ◌^◌, ℕ, List, get_or, length, sum_by, take, arith, ap, ◌∙◌}
+use Rattle.std.proofs.lemmas.List.FromFn.{sum_by-map-range_with_len_more}
+use Rattle.std.proofs.lemmas.List.Sums.{sum_by_more}
+use Rattle.sdr_base.specs.Cells.{IsRegionSize}
+use Rattle.sdr_base.specs.KeptHeap.{block_in}
+use Rattle.sdr_base.specs.declared.account.Acct.{Acct}
+use Rattle.sdr_base.specs.declared.kind.Space.{Space}
+use Rattle.sdr_base.specs.declared.kind.Space.TheVariants as spaces
+use Rattle.audit_owners.specs.Places.{places}
+use Rattle.audit_counts.specs.Occupied.{capsule_charge_at, charge_at, charges_by, extent_charge_at, left_at, medium_space}
+use Rattle.sdr_model.specs.Amounts.{in_space}
+use Rattle.audit_owners.proofs.BlockLemmas.{few_bytes}
+use Rattle.audit_owners.specs.View.{View, length_of, word_of}
+
+-- the same amounts have the same sums
+pub charges_same : (f g : Space → ℕ) → ((space : Space) → f space ≡ g space) → charges_by f ≡ charges_by g
+charges_same f g same = ap charges_by (λ i space. same space i)
+
+module _ (heap : View) (of : Space → ℕ) (xs : List ℕ) (i d : ℕ) (less : i < length xs) where
+  -- the charge of one more extent
+  pub extent_more : (from bytes : ℕ) (space : Space) → from ≡ word_of (heap.blocks (get_or xs i d)) 0 → space ≡ medium_space (heap.blocks from) →
+      bytes ≡ word_of (heap.blocks (get_or xs i d)) 2 → (other : Space) →
+      (of other + sum_by (extent_charge_at heap other) (take i xs)) + in_space space bytes other + in_space spaces.Heap 32 other
+      ≡ of other + sum_by (extent_charge_at heap other) (take (i + 1) xs)
+  extent_more from bytes space from_is space_is bytes_is other =
+      let more = sum_by_more (extent_charge_at heap other) xs i d less in
+      let b = heap.blocks (get_or xs i d) in
+      let charge : in_space space bytes other ≡ in_space (medium_space (heap.blocks (word_of b 0))) (word_of b 2)
+      other =
+      ap (λ (s : Space). in_space s bytes other) (space_is ∙ ap (λ (n : ℕ). medium_space (heap.blocks n)) from_is)
+      ∙ ap (λ (n : ℕ). in_space (medium_space (heap.blocks (word_of b 0))) n other) bytes_is in
+      omega (arith, more, charge)
+
+  -- and of one more header or trailer
+  pub capsule_more : (bytes : ℕ) → ((other : Space) → in_space spaces.Heap bytes other ≡ capsule_charge_at heap other (get_or xs i d)) → (other : Space) →
+      (of other + sum_by (capsule_charge_at heap other) (take i xs)) + in_space spaces.Heap bytes other
+      ≡ of other + sum_by (capsule_charge_at heap other) (take (i + 1) xs)
+  capsule_more bytes is other =
+      let more = sum_by_more (capsule_charge_at heap other) xs i d less in
+      let charge = is other in
+      omega (arith, more, charge)
+
+  -- what is left of one more ticket
+  pub left_more : (file bulk here : ℕ) → file ≡ word_of (heap.blocks (get_or xs i d)) 7 → bulk ≡ word_of (heap.blocks (get_or xs i d)) 8 →
+      here ≡ word_of (heap.blocks (get_or xs i d)) 9 → (other : Space) →
+      ((of other + sum_by (left_at heap other) (take i xs)) + in_space spaces.File file other) + in_space spaces.Bulk bulk other + in_space spaces.Heap here other
+      ≡ of other + sum_by (left_at heap other) (take (i + 1) xs)
+  left_more file bulk here file_is bulk_is here_is spaces.File =
+      let more = sum_by_more (left_at heap spaces.File) xs i d less in omega (arith, more, file_is)
+  left_more file bulk here file_is bulk_is here_is spaces.Bulk =
+      let more = sum_by_more (left_at heap spaces.Bulk) xs i d less in omega (arith, more, bulk_is)
+  left_more file bulk here file_is bulk_is here_is spaces.Heap =
+      let more = sum_by_more (left_at heap spaces.Heap) xs i d less in omega (arith, more, here_is)
+
+-- what the block at one more place charges
+pub charge_more : (heap : View) (words : ℕ) (account : Acct) (number : ℕ) (space : Space) →
+    sum_by (charge_at heap words account space) (places (number + 1))
+    ≡ sum_by (charge_at heap words account space) (places number) + charge_at heap words account space (8 * number)
+charge_more heap words account number space =
+    sum_by-map-range_with_len_more (charge_at heap words account space) (λ word. 8 * word) 0 number number (omega arith)
+
+-- the words for its text fit a number
+pub few_text : (x : List ℕ) (addr bytes text : ℕ) → IsRegionSize (length x) → bytes ≡ length_of (block_in x addr) → text ≡ bytes - 8 → 15 + text < 2 ^ 61
+few_text x addr bytes text region is text_is =
+    let few = few_bytes x addr region in
+    omega (arith, few, is, text_is)

@@ -1,0 +1,25 @@
+use Rattle.std.proofs.Common.{◌≡◌, ◌+◌, ◌*◌, ◌∙◌, ◌/◌, ℕ, List, length, sum_by, arith, ap, subst, sym}
+use Rattle.audit_counts.proofs.CountsLemmas.{uses_push, whole_slice}
+use Rattle.audit_counts.specs.Counts.{uses_at}
+use Rattle.audit_owners.specs.Places.{places}
+use Rattle.audit_counts.specs.Numbers.{AreTold}
+use Rattle.audit_owners.specs.View.{view_in}
+use Rattle.audit_counts.proofs.counts.counts_of.Goals as goal
+
+pub loop-number-preserved : goal.loop-number-preserved
+loop-number-preserved c =
+    let heap = view_in c.args.heap.now in
+    let words : ℕ = length c.args.heap.now / 8 in
+    let number = c.loop-number.number in
+    let old = c.loop-number.counts.items in
+    let new = c.count_object.new.counts in
+    let same : length new ≡ length old = omega arith in
+    let whole = whole_slice new old c.loop-number.counts.len same (omega arith) in
+    record {
+      long = ap (λ (l : List ℕ). length l) whole ∙ same ∙ c.loop-number.invariant.long;
+      told =
+          uses_push heap words c.args.account number _
+          (subst (AreTold (λ from. sum_by (uses_at heap words c.args.account from) (places number) + uses_at heap words c.args.account from (8 * number))) (sym whole)
+          (c.in_ok-count_object.ensures (λ from. sum_by (uses_at heap words c.args.account from) (places number))
+          (subst (AreTold (λ from. sum_by (uses_at heap words c.args.account from) (places number))) (sym c.deref_mut.ensures.value) c.loop-number.invariant.told)));
+    }

@@ -1,0 +1,176 @@
+// What is occupied in an account.
+ghost use Rattle.std.specs.Prelude.{◌≡◌, ◌≤◌, ◌<◌, ◌+◌, ◌*◌, ◌/◌, ◌==◌, ℕ, length, sum_by, IfOk};
+ghost use Rattle.sdr_base.specs.Cells.{IsRegionSize};
+ghost use Rattle.sdr_base.specs.KeptHeap.{block_in};
+ghost use Rattle.sdr_base.specs.declared.control.TheConstants.{OUTBOUND};
+ghost use Rattle.sdr_base.specs.declared.kind.Space.{Space};
+ghost use Rattle.sdr_base.specs.declared.line.TheConstants.{WORD};
+ghost use Rattle.audit_counts.specs.Counted.{wrong_occupancy, wrong_occupancy_in};
+ghost use Rattle.audit_counts.specs.Occupied.{capsule_charge_at, charges_by, extent_charge_at, charge_at, left_at, occupancy_in, medium_space};
+ghost use Rattle.sdr_model.specs.Amounts.{in_space};
+ghost use Rattle.audit_owners.specs.Owners.{account_word};
+ghost use Rattle.audit_owners.specs.View.{view_in};
+
+use crate::charges::Charges;
+use crate::counts::is_object_of;
+use audit_owners::{Owner, length_of, members, root, word};
+use sdr_base::control::{BULK_OCCUPANCY, FILE_OCCUPANCY, HEAP_OCCUPANCY, INBOUND, OUTBOUND};
+use sdr_base::layout::{capsule, extent, source, ticket};
+use sdr_base::{Acct, Addr, NoMemory, Space, WORD};
+use std::alloc::Global;
+
+// What an object fills, and an extent.
+const OBJECT: u64 = 72;
+
+const EXTENT: u64 = 32;
+
+// The space that the bytes of the source at an address are in.
+fn space_of(heap: &[u8], addr: Addr) -> Space
+    requires region { IsRegionSize (length heap.now) }
+    ensures { result ≡ medium_space (block_in heap.now addr) }
+{
+    match word(heap, addr, source::MEDIUM) {
+        1 => Space::File,
+        2 => Space::Bulk,
+        _ => Space::Heap,
+    }
+}
+
+// These charges and those of extents.
+fn with_extents(heap: &[u8], charges: Charges, extents: &[Addr]) -> Charges
+    requires region { IsRegionSize (length heap.now) }
+    ensures { (of : Space → ℕ) → charges ≡ charges_by of →
+        result ≡ charges_by (λ space.
+        of space + sum_by (extent_charge_at (view_in heap.now) space) extents.now) }
+{
+    let mut charges = charges;
+    for addr in extents {
+        let space = space_of(heap, word(heap, *addr, extent::SOURCE));
+        let bytes = word(heap, *addr, extent::LENGTH);
+        charges = charges.with(space, bytes).with(Space::Heap, EXTENT);
+    }
+    charges
+}
+
+// The bytes of the words that the header or trailer at an address fills.
+fn capsule_bytes(heap: &[u8], addr: Addr) -> u64
+    requires region { IsRegionSize (length heap.now) }
+    ensures { (space : Space) → in_space Space.Heap result space ≡ capsule_charge_at (view_in heap.now) space addr }
+{
+    let text = length_of(heap, addr).saturating_sub(WORD * capsule::WORDS);
+    8 * ((15 + text) / 8)
+}
+
+// These charges and those of headers or trailers.
+fn with_capsules(heap: &[u8], charges: Charges, capsules: &[Addr]) -> Charges
+    requires region { IsRegionSize (length heap.now) }
+    ensures { (of : Space → ℕ) → charges ≡ charges_by of →
+        result ≡ charges_by (λ space.
+        of space + sum_by (capsule_charge_at (view_in heap.now) space) capsules.now) }
+{
+    let mut charges = charges;
+    for addr in capsules {
+        charges = charges.with(Space::Heap, capsule_bytes(heap, *addr));
+    }
+    charges
+}
+
+// Adds the charges of the object at `addr`, if it is one of this account.
+fn with_object(
+    alloc: Global,
+    heap: &[u8],
+    charges: Charges,
+    account: Acct,
+    addr: Addr,
+) -> Result<Charges, NoMemory>
+    requires region { IsRegionSize (length heap.now) }
+    ensures { (of : Space → ℕ) → charges ≡ charges_by of →
+        IfOk result (λ sum. sum ≡ charges_by (λ space.
+        of space + charge_at (view_in heap.now) (length heap.now / WORD) account space addr)) }
+{
+    if !is_object_of(heap, account, addr) {
+        return Ok(charges);
+    }
+    let extents = members(alloc, heap, Owner::Extents(addr))?;
+    let headers = members(alloc, heap, Owner::Headers(addr))?;
+    let trailers = members(alloc, heap, Owner::Trailers(addr))?;
+    let charges = charges.with(Space::Heap, OBJECT);
+    let charges = with_extents(heap, charges, &extents);
+    let charges = with_capsules(heap, charges, &headers);
+    Ok(with_capsules(heap, charges, &trailers))
+}
+
+// These charges and what is left of tickets.
+fn with_left(heap: &[u8], charges: Charges, tickets: &[Addr]) -> Charges
+    requires region { IsRegionSize (length heap.now) }
+    ensures { (of : Space → ℕ) → charges ≡ charges_by of →
+        result ≡ charges_by (λ space.
+        of space + sum_by (left_at (view_in heap.now) space) tickets.now) }
+{
+    let mut charges = charges;
+    for addr in tickets {
+        charges = charges
+            .with(Space::File, word(heap, *addr, ticket::LEFT_FILE))
+            .with(Space::Bulk, word(heap, *addr, ticket::LEFT_BULK))
+            .with(Space::Heap, word(heap, *addr, ticket::LEFT_HEAP));
+    }
+    charges
+}
+
+// What is occupied in an account.
+fn occupied(alloc: Global, heap: &[u8], account: Acct) -> Result<Charges, NoMemory>
+    requires region { IsRegionSize (length heap.now) }
+    ensures { IfOk result (λ sum. sum ≡ charges_by
+        (occupancy_in (view_in heap.now) (length heap.now / WORD) account)) }
+{
+    let mut charges = Charges::none();
+    for number in 0..heap.len() as u64 / WORD {
+        charges = with_object(alloc, heap, charges, account, WORD * number)?;
+    }
+    let tickets = members(alloc, heap, Owner::Queue(account))?;
+    Ok(with_left(heap, charges, &tickets))
+}
+
+/// The control word with which those of an account begin.
+pub fn account_word(account: Acct) -> u64
+    ensures is { result ≡ account_word account }
+    ensures most { result ≤ OUTBOUND }
+{
+    match account {
+        Acct::Inbound => INBOUND,
+        Acct::Outbound => OUTBOUND,
+    }
+}
+
+// The place of the first control word of an account that tells a wrong occupancy.
+fn wrong_in(alloc: Global, heap: &[u8], account: Acct) -> Result<Option<u64>, NoMemory>
+    requires region { IsRegionSize (length heap.now) }
+    ensures { IfOk result (λ place. place ≡ wrong_occupancy_in (view_in heap.now)
+        (length heap.now / WORD) account) }
+{
+    let charges = occupied(alloc, heap, account)?;
+    let begin = account_word(account);
+    if charges.file != Some(root(heap, begin + FILE_OCCUPANCY)) {
+        return Ok(Some(WORD * (begin + FILE_OCCUPANCY)));
+    }
+    if charges.bulk != Some(root(heap, begin + BULK_OCCUPANCY)) {
+        return Ok(Some(WORD * (begin + BULK_OCCUPANCY)));
+    }
+    if charges.heap != Some(root(heap, begin + HEAP_OCCUPANCY)) {
+        return Ok(Some(WORD * (begin + HEAP_OCCUPANCY)));
+    }
+    Ok(None)
+}
+
+/// The place of the first control word that doesn't tell what is occupied of a space in an account: what its objects charge, and what
+/// is left of its tickets. `None` where there is none.
+pub fn wrong_occupancy(alloc: Global, heap: &[u8]) -> Result<Option<u64>, NoMemory>
+    requires region { IsRegionSize (length heap.now) }
+    ensures { IfOk result (λ place. place ≡ wrong_occupancy (view_in heap.now)
+        (length heap.now / WORD)) }
+{
+    match wrong_in(alloc, heap, Acct::Inbound)? {
+        Some(place) => Ok(Some(place)),
+        None => wrong_in(alloc, heap, Acct::Outbound),
+    }
+}

@@ -1,0 +1,11 @@
+-- No block so far breaks the rule.
+use Rattle.std.proofs.Common.{◌≡◌, ◌/◌, length}
+use Rattle.std.specs.Prelude.{None}
+use Rattle.sdr_base.specs.declared.line.TheConstants.{WORD}
+use Rattle.audit_owners.specs.Keyed.{keeps_key_rule}
+use Rattle.audit_owners.specs.Places.{first_failing}
+use Rattle.audit_owners.specs.View.{view_in}
+use Rattle.audit_owners.proofs.key_rules.first_broken.Given as goal
+
+abbrev pub invariant-loop-number : goal.invariant-loop-number
+invariant-loop-number l = first_failing (keeps_key_rule (view_in l.heap) (length l.heap / WORD) l.rule) l.number ≡ None

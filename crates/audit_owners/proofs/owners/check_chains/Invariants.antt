@@ -1,0 +1,8 @@
+-- The chains of the blocks before this word are right, and their blocks are marked.
+use Rattle.audit_owners.specs.Owners.{owners_of}
+use Rattle.audit_owners.specs.View.{view_in}
+use Rattle.audit_owners.specs.Walking.{HasWalked}
+use Rattle.audit_owners.proofs.owners.check_chains.Given as goal
+
+abbrev pub invariant-loop-number : goal.invariant-loop-number
+invariant-loop-number l = HasWalked (view_in l.heap) (owners_of (view_in l.heap) l.number) l.marks

@@ -1,0 +1,26 @@
+use Rattle.std.proofs.Common.{◌∙◌, ◌-◌, ℕ, length, min, ap, sym}
+use Rattle.std.specs.Prelude.{Option, Some}
+use Rattle.sdr_base.specs.declared.kind.Kind.{Kind}
+use Rattle.audit_owners.proofs.RegionLemmas.{found_clear, found_free, found_nowhere, found_used}
+use Rattle.audit_owners.proofs.region.find.Goals as goal
+
+pub returns-in_default : goal.returns-in_default
+returns-in_default c = sym (found_nowhere c.args.heap.now c.args.addr (sym c.leader_place.ensures ∙ c.in_default.is))
+
+pub returns-then-not-has_start_bit : goal.returns-then-not-has_start_bit
+returns-then-not-has_start_bit c =
+    sym (found_clear c.args.heap.now c.args.addr c.in-Some.place (sym c.leader_place.ensures ∙ c.in-Some.is)
+    (sym c.has_start_bit.ensures ∙ c.if-not-has_start_bit.true))
+
+pub returns-in-None : goal.returns-in-None
+returns-in-None c =
+    sym (found_free c.args.heap.now c.args.addr c.in-Some.place (sym c.leader_place.ensures ∙ c.in-Some.is)
+    (sym c.has_start_bit.ensures ∙ c.if-not-has_start_bit.false) (sym c.leader_kind.ensures ∙ c.in-None.is))
+
+pub returns-in-Some-leader_kind : goal.returns-in-Some-leader_kind
+returns-in-Some-leader_kind c =
+    let told : ℕ → Option (Kind × ℕ) = λ (n : ℕ). Some (c.in-Some-leader_kind.kind, n) in
+    ap told
+    (c.min-count.ensures ∙ ap (λ (n : ℕ). min n (length c.args.heap.now - c.args.addr)) c.leader_length.ensures)
+    ∙ sym (found_used c.args.heap.now c.args.addr c.in-Some.place c.in-Some-leader_kind.kind (sym c.leader_place.ensures ∙ c.in-Some.is)
+    (sym c.has_start_bit.ensures ∙ c.if-not-has_start_bit.false) (sym c.leader_kind.ensures ∙ c.in-Some-leader_kind.is))

@@ -1,0 +1,15 @@
+pub mod Entries
+pub mod Keyed
+pub mod Members
+pub mod Places
+pub mod Texts
+pub mod Chains
+pub mod Examples
+pub mod Linking
+pub mod Marks
+pub mod Owned
+pub mod Owners
+pub mod Reading
+pub mod Rules
+pub mod View
+pub mod Walking

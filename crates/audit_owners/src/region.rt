@@ -1,0 +1,129 @@
+// A heap region in memory: its control words, and its blocks in use.
+ghost use Rattle.std.specs.Prelude.{◌≡◌, ◌≤◌, ◌<◌, ◌+◌, ◌*◌, ◌/◌, ◌==◌, length};
+ghost use Rattle.sdr_base.specs.Blocks.{kind_length};
+ghost use Rattle.sdr_base.specs.Cells.{IsRegionSize};
+ghost use Rattle.sdr_base.specs.KeptHeap.{block_in, leader_place, root_in};
+ghost use Rattle.sdr_base.specs.Kinds.{kind_of};
+ghost use Rattle.sdr_base.specs.Stored.{leader_kind, leader_length, number_at, start_bit};
+ghost use Rattle.sdr_base.specs.declared.line.TheConstants.{START_BITS, WORD};
+ghost use Rattle.audit_owners.specs.View.{is_kind, length_of, word_of};
+
+use byteorder::{BigEndian, ByteOrder};
+use sdr_base::control::{CONTROL_WORDS, FIRST_NAME, HIGH, LOW, START};
+use sdr_base::{Addr, Kind, START_BITS, WORD};
+
+// The number in the word at a place, in bytes.
+fn number_at(heap: &[u8], place: u64) -> u64
+    requires { place + WORD ≤ length heap.now }
+    ensures { result ≡ number_at place heap.now }
+{
+    let place = place as usize;
+    BigEndian::read_u64(&heap[place..place + 8])
+}
+
+/// The control word of this number, of those that belong to what blocks keep, and 0 for any other.
+pub fn root(heap: &[u8], word: u64) -> u64
+    requires region { IsRegionSize (length heap.now) }
+    ensures { result ≡ root_in heap.now word }
+{
+    if FIRST_NAME <= word && word < CONTROL_WORDS {
+        number_at(heap, WORD * word)
+    } else {
+        0
+    }
+}
+
+// Whether the start bit of a word is set.
+fn has_start_bit(heap: &[u8], word: u64) -> bool
+    requires { START_BITS + word / 8 < length heap.now }
+    ensures { result ≡ (start_bit word heap.now == 1) }
+{
+    (heap[(START_BITS + word / 8) as usize] >> (7 - word % 8)) % 2 == 1
+}
+
+// The kind in the leader at a place, `None` where the block is free.
+fn leader_kind(heap: &[u8], place: u64) -> Option<Kind>
+    requires { place < length heap.now }
+    ensures { result ≡ kind_of (leader_kind place heap.now) }
+{
+    Kind::of(heap[place as usize])
+}
+
+// The length in bytes in the leader at a place.
+fn leader_length(heap: &[u8], place: u64) -> u64
+    requires { place + WORD ≤ length heap.now }
+    ensures { result ≡ leader_length place heap.now }
+{
+    let place = place as usize;
+    u64::from(BigEndian::read_u32(&heap[place + 4..place + 8]))
+}
+
+// Where the leader of a block at an address would stand, `None` where no block may begin there.
+fn leader_place(heap: &[u8], addr: Addr) -> Option<u64>
+    requires region { IsRegionSize (length heap.now) }
+    ensures { result ≡ leader_place heap.now addr }
+{
+    let start = number_at(heap, WORD * START);
+    if addr % WORD != 0 || addr <= start || addr >= heap.len() as u64 {
+        return None;
+    }
+    let low = number_at(heap, WORD * LOW);
+    if addr - WORD < low {
+        return Some(addr - WORD);
+    }
+    let high = number_at(heap, WORD * HIGH);
+    let place = addr.saturating_sub(2 * WORD);
+    if high <= place { Some(place) } else { None }
+}
+
+/// The kind of the block in use at an address, and how many bytes it has, `None` where none begins there.
+pub fn find(heap: &[u8], addr: Addr) -> Option<(Kind, u64)>
+    requires region { IsRegionSize (length heap.now) }
+    ensures { result ≡ kind_length (block_in heap.now addr) }
+{
+    let Some(place) = leader_place(heap, addr) else {
+        return None;
+    };
+    if !has_start_bit(heap, place / WORD) {
+        return None;
+    }
+    let count = leader_length(heap, place).min(heap.len() as u64 - addr);
+    match leader_kind(heap, place) {
+        None => None,
+        Some(kind) => Some((kind, count)),
+    }
+}
+
+/// Whether a block of this kind is in use at an address.
+pub fn is_kind(heap: &[u8], addr: Addr, kind: Kind) -> bool
+    requires region { IsRegionSize (length heap.now) }
+    ensures { result ≡ is_kind kind (block_in heap.now addr) }
+{
+    match find(heap, addr) {
+        None => false,
+        Some((found, _)) => found.number() == kind.number(),
+    }
+}
+
+/// How many bytes the block in use at an address has, 0 where none begins there.
+pub fn length_of(heap: &[u8], addr: Addr) -> u64
+    requires region { IsRegionSize (length heap.now) }
+    ensures { result ≡ length_of (block_in heap.now addr) }
+{
+    match find(heap, addr) {
+        None => 0,
+        Some((_, count)) => count,
+    }
+}
+
+/// The number in a word of the block in use at an address, counted from 0, and 0 where there is no such word.
+pub fn word(heap: &[u8], addr: Addr, field: u64) -> u64
+    requires region { IsRegionSize (length heap.now) }
+    ensures { result ≡ word_of (block_in heap.now addr) field }
+{
+    if field < length_of(heap, addr) / WORD {
+        number_at(heap, addr + WORD * field)
+    } else {
+        0
+    }
+}

@@ -1,0 +1,23 @@
+use Rattle.std.proofs.Common.{◌∷◌, [], ◌++◌, ap, sym, ◌∙◌, refl, subst}
+use Rattle.mem_store.specs.Store.{AreTouched, begun_at, now_at, place_at, saving}
+use Rattle.mem_store.specs.declared.place.Stays.TheVariants as stays
+use Rattle.mem_store.proofs.StoreLemmas.{thing_at, things_at-kept, touched-push, unsaved}
+use Rattle.mem_store.proofs.store.Store.touch.Goals as goal
+
+pub invariant_of-self-3 : goal.invariant_of-self-3
+invariant_of-self-3 c =
+    subst (AreTouched c.save.new.places.entries)
+    (ap (λ xs. xs ++ c.args.addr ∷ []) (sym c.in_ok-reserve.ensures.items) ∙ sym c.push_reserved.ensures.items)
+    (touched-push _ _ c.args.addr (saving c.in_ok-begun.begun) c.in_ok-save.ensures.saved c.self.inside.touched.items refl c.self.invariant)
+
+pub returns-clause-begun : goal.returns-clause-begun
+returns-clause-begun c =
+    things_at-kept _ _ c.args.addr (saving c.in_ok-begun.begun) c.in_ok-save.ensures.saved begun_at
+    (c.in_ok-begun.ensures ∙ c.get.ensures ∙ thing_at now_at c.self.inside.places.entries c.args.addr
+    ∙ sym (unsaved stays.Begun (place_at c.self.inside.places.entries c.args.addr) (sym c.is_saved.ensures ∙ c.if-is_saved.false)))
+    ∙ ap (λ s. s.begun) c.self.view_is
+
+pub returns-clause-now : goal.returns-clause-now
+returns-clause-now c =
+    things_at-kept _ _ c.args.addr (saving c.in_ok-begun.begun) c.in_ok-save.ensures.saved now_at refl
+    ∙ ap (λ s. s.now) c.self.view_is

@@ -1,0 +1,92 @@
+// What is at an address, now and at the begin of a transaction.
+ghost use Rattle.std.specs.Prelude.{◌≡◌, OnErr, OnOk};
+ghost use Rattle.std.specs.Option.{option_and_then, option_copied, option_map};
+ghost use Rattle.mem_store.specs.Store.{ChangesAt, now_at, place_at, saved_at, saving, settled, with_thing};
+
+use sdr_base::{Addr, NoMemory};
+use sdr_model::Thing;
+use std::collections::BTreeMap;
+use std::mem;
+
+/// What is at an address, and what was there at the begin of the open transaction.
+#[derive(Drop)]
+pub struct Place {
+    /// What was there at the begin, where the address was touched since.
+    begun: Option<Option<Thing>>,
+    /// What is there now.
+    thing: Option<Thing>,
+}
+
+/// Which of both stays when a transaction is over.
+#[derive(Clone, Copy)]
+pub(crate) enum Stays {
+    Now,
+    Begun,
+}
+
+impl Place {
+    /// What is there now.
+    pub fn current(&self) -> Option<&Thing>
+        ensures { option_copied result ≡ self.now.thing }
+    {
+        self.thing.as_ref()
+    }
+}
+
+/// Whether what was at an address at the begin is kept.
+pub(crate) fn is_saved(places: &BTreeMap<u64, Place>, addr: Addr) -> bool
+    ensures { result ≡ saved_at places.now.entries addr }
+{
+    places.get(&addr).is_some_and(|place| place.begun.is_some())
+}
+
+/// Keeps this as what was at an address at the begin. Want of memory leaves all as before.
+pub(crate) fn save(
+    places: &mut BTreeMap<u64, Place>,
+    addr: Addr,
+    begun: Option<Thing>,
+) -> Result<(), NoMemory>
+    ensures saved { OnOk result (ChangesAt places.old.entries places.new.entries addr (saving begun)) }
+    ensures same { OnErr result (places.new.entries ≡ places.old.entries) }
+{
+    match places.get_mut(&addr) {
+        Some(place) => place.begun = Some(begun),
+        None => {
+            places.insert(
+                addr,
+                Place {
+                    begun: Some(begun),
+                    thing: None,
+                },
+            )?;
+        }
+    }
+    Ok(())
+}
+
+/// Puts a thing, or nothing, at an address that has a place, and hands out what was there.
+pub(crate) fn swap(
+    places: &mut BTreeMap<u64, Place>,
+    addr: Addr,
+    thing: Option<Thing>,
+) -> Option<Thing>
+    ensures was { result ≡ option_and_then now_at (place_at places.old.entries addr) }
+    ensures now { ChangesAt places.old.entries places.new.entries addr (option_map (with_thing thing)) }
+{
+    let place = places.get_mut(&addr)?;
+    mem::replace(&mut place.thing, thing)
+}
+
+/// Lets one of both stay at an address.
+pub(crate) fn settle(places: &mut BTreeMap<u64, Place>, addr: Addr, stays: Stays)
+    ensures { ChangesAt places.old.entries places.new.entries addr (option_map (settled stays)) }
+{
+    if let Some(place) = places.get_mut(&addr) {
+        match stays {
+            Stays::Now => place.begun = None,
+            Stays::Begun => if let Some(begun) = place.begun.take() {
+                place.thing = begun;
+            },
+        }
+    }
+}

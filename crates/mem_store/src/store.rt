@@ -1,0 +1,160 @@
+// The things of a world in the making, which can be put back to what they were at the begin.
+ghost use Rattle.std.specs.Prelude.{◌≡◌, ℕ, IfOk, OnOk, OnErr, IsSome, Some, None, Contains, []};
+ghost use Rattle.std.specs.FinMap as map;
+ghost use Rattle.std.specs.Option.{option_copied};
+ghost use Rattle.sdr_model.specs.Things.{with_at};
+ghost use Rattle.mem_store.specs.Store.{things_in, things_of};
+
+use crate::place::{Place, Stays, is_saved, save, settle, swap};
+use sdr_base::{Addr, NoMemory};
+use sdr_model::Thing;
+use std::alloc::Global;
+use std::collections::BTreeMap;
+use std::collections::btree_map::Iter;
+use std::marker::Model;
+
+/// The things of a world by their addresses, now and at the begin of the open transaction. A thing is
+/// copied once in a transaction, when its address is first touched.
+#[derive(Drop)]
+pub struct Store {
+    alloc: Global,
+    places: BTreeMap<u64, Place>,
+    /// The addresses that were touched since the begin.
+    touched: Vec<Addr>,
+}
+
+impl Model for Store {
+    ghost use Rattle.mem_store.specs.Store as store;
+
+    ghost Value = { store.Store };
+
+    ghost coded = { store.coded_store };
+
+    ghost view = { λ s. record {
+      begun = store.things_at store.begun_at s.places.entries;
+      now = store.things_at store.now_at s.places.entries;
+      touched = s.touched.items;
+    } };
+
+    ghost invariant = { λ s. store.AreTouched s.places.entries s.touched.items };
+}
+
+// A copy of what is at an address.
+fn copied(alloc: Global, thing: Option<&Thing>) -> Result<Option<Thing>, NoMemory>
+    ensures { IfOk result (λ copy. copy ≡ option_copied thing.entry) }
+{
+    match thing {
+        Some(thing) => Ok(Some(thing.copied(alloc)?)),
+        None => Ok(None),
+    }
+}
+
+impl Store {
+    /// No things. It takes no memory.
+    pub fn new(alloc: Global) -> Store
+        ensures { result ≡ record { begun = map.empty; now = map.empty; touched = [] } }
+    {
+        Store {
+            alloc,
+            places: BTreeMap::new(alloc),
+            touched: Vec::new(alloc),
+        }
+    }
+
+    /// The thing at an address.
+    #[tactic(auto, using(crate::proofs::StoreLemmas::thing_at))]
+    pub fn get(&self, addr: Addr) -> Option<&Thing>
+        ensures { option_copied result ≡ map.get self.now.now addr }
+    {
+        self.places.get(&addr)?.current()
+    }
+
+    /// The places of the things, by rising address.
+    pub fn places(&self) -> Iter<'_, u64, Place>
+        ensures { things_in result ≡ map.entries self.now.now }
+    {
+        self.places.iter()
+    }
+
+    /// Takes note that an address is touched, and copies what is there. Where it was touched before, this takes
+    /// no memory.
+    pub fn touch(&mut self, addr: Addr) -> Result<(), NoMemory>
+        ensures begun { self.new.begun ≡ self.old.begun }
+        ensures now { self.new.now ≡ self.old.now }
+        ensures touched { OnOk result (Contains self.new.touched addr) }
+        ensures others { (other : ℕ) → Contains self.old.touched other →
+            Contains self.new.touched other }
+    {
+        if is_saved(&self.places, addr) {
+            return Ok(());
+        }
+        self.touched.reserve(1)?;
+        let begun = copied(self.alloc, self.get(addr))?;
+        save(&mut self.places, addr, begun)?;
+        self.touched.push_reserved(addr);
+        Ok(())
+    }
+
+    // Puts a thing, or nothing, at an address that was touched, and hands out what was there.
+    #[tactic(auto, using(crate::proofs::StoreLemmas::thing_at))]
+    fn swap(&mut self, addr: Addr, thing: Option<Thing>) -> Option<Thing>
+        requires touched { Contains self.old.touched addr }
+        ensures was { result ≡ map.get self.old.now addr }
+        ensures now { self.new.now ≡ with_at self.old.now addr thing }
+        ensures begun { self.new.begun ≡ self.old.begun }
+        ensures touched { self.new.touched ≡ self.old.touched }
+    {
+        swap(&mut self.places, addr, thing)
+    }
+
+    /// Puts a thing, or nothing, at an address that was touched.
+    pub fn put(&mut self, addr: Addr, thing: Option<Thing>)
+        requires touched { Contains self.old.touched addr }
+        ensures now { self.new.now ≡ with_at self.old.now addr thing }
+        ensures begun { self.new.begun ≡ self.old.begun }
+        ensures touched { self.new.touched ≡ self.old.touched }
+    {
+        self.swap(addr, thing);
+    }
+
+    /// Takes out the thing at an address, to be changed and put back. Want of memory leaves all as before.
+    pub fn take(&mut self, addr: Addr) -> Result<Thing, NoMemory>
+        requires some { IsSome (map.get self.old.now addr) }
+        ensures taken { IfOk result (λ thing. map.get self.old.now addr ≡ Some thing) }
+        ensures without { OnOk result (self.new.now ≡ map.remove self.old.now addr) }
+        ensures touched { OnOk result (Contains self.new.touched addr) }
+        ensures others { (other : ℕ) → Contains self.old.touched other →
+            Contains self.new.touched other }
+        ensures begun { self.new.begun ≡ self.old.begun }
+        ensures same { OnErr result (self.new.now ≡ self.old.now) }
+    {
+        self.touch(addr)?;
+        match self.swap(addr, None) {
+            Some(thing) => Ok(thing),
+            None => unreachable!(),
+        }
+    }
+
+    // Lets the things of one of both times stay.
+    fn settle(&mut self, stays: Stays)
+        ensures { let things = things_of stays self.old in self.new ≡ record { begun = things; now = things; touched = [] } }
+    {
+        while let Some(addr) = self.touched.pop() {
+            settle(&mut self.places, addr, stays);
+        }
+    }
+
+    /// Takes the things now as those to begin from.
+    pub fn keep(&mut self)
+        ensures { self.new ≡ record { begun = self.old.now; now = self.old.now; touched = [] } }
+    {
+        self.settle(Stays::Now);
+    }
+
+    /// Rolls the things back to what they were at the begin.
+    pub fn roll_back(&mut self)
+        ensures { self.new ≡ record { begun = self.old.begun; now = self.old.begun; touched = [] } }
+    {
+        self.settle(Stays::Begun);
+    }
+}

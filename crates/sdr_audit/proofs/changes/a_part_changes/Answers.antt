@@ -1,5 +1,0 @@
-use Rattle.sdr_audit.proofs.ChangeLemmas.{part_becomes}
-use Rattle.sdr_audit.proofs.changes.a_part_changes.Goals as goal
-
-pub returns : goal.returns
-returns c = part_becomes

@@ -1,5 +1,0 @@
-use Rattle.sdr_audit.proofs.TiesLemmas.{same_ties}
-use Rattle.sdr_audit.proofs.parts.alike_things_tie_alike.Goals as goal
-
-pub returns : goal.returns
-returns c = same_ties

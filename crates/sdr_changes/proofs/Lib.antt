@@ -1,2 +1,0 @@
-pub mod BondedLemmas
-pub mod ComponentLemmas

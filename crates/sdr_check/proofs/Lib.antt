@@ -1,4 +1,0 @@
-pub mod CensusLemmas
-pub mod CheckLemmas
-pub mod LawLemmas
-pub mod StandLemmas

@@ -1,7 +1,0 @@
-pub mod CallingLemmas
-pub mod ChargeLemmas
-pub mod KeepsLemmas
-pub mod NamedLemmas
-pub mod PassLemmas
-pub mod RunLemmas
-pub mod SumBounds

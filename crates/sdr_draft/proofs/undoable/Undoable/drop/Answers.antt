@@ -1,9 +1,0 @@
-use Rattle.std.proofs.Common.{sym, subst₂}
-use Rattle.sdr_undo.specs.Owners.{AllOwnInside}
-use Rattle.sdr_undo.proofs.OwnersLemmas.{OwnInside-remove}
-use Rattle.sdr_draft.proofs.undoable.Undoable.drop.Goals as goal
-
-pub invariant_of-self : goal.invariant_of-self
-invariant_of-self c =
-    subst₂ (AllOwnInside c.self.inside.owners _) (sym c.put.ensures.begun) (sym c.put.ensures.now)
-    (record { begun = c.self.invariant.begun; now = OwnInside-remove _ _ _ c.args.addr c.self.invariant.now })

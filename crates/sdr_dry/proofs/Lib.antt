@@ -1,4 +1,0 @@
-mod GreetingExample
-pub mod GapLemmas
-pub mod MediaLemmas
-pub mod ScheduleLemmas

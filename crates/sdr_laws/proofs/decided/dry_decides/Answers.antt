@@ -1,8 +1,0 @@
-use Rattle.sdr_laws.proofs.DecidedLemmas.{dry_decides, dry_decides_but_bytes}
-use Rattle.sdr_laws.proofs.decided.dry_decides.Goals as goal
-
-pub returns-clause-same : goal.returns-clause-same
-returns-clause-same c = dry_decides
-
-pub returns-clause-but_bytes : goal.returns-clause-but_bytes
-returns-clause-but_bytes c = dry_decides_but_bytes

@@ -1,5 +1,0 @@
-use Rattle.sdr_laws.proofs.KeyOrders.{key_order_total}
-use Rattle.sdr_laws.proofs.orders.key_orders_are_total.Goals as goal
-
-pub returns : goal.returns
-returns c = key_order_total

@@ -1,8 +1,0 @@
-use Rattle.sdr_laws.proofs.StepLemmas.{refused_leaves, refused_moves}
-use Rattle.sdr_laws.proofs.refused.refused_leaves.Goals as goal
-
-pub returns-clause-world : goal.returns-clause-world
-returns-clause-world c = refused_leaves
-
-pub returns-clause-moves : goal.returns-clause-moves
-returns-clause-moves c = refused_moves

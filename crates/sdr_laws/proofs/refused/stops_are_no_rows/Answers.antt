@@ -1,5 +1,0 @@
-use Rattle.sdr_laws.proofs.StepLemmas.{row_is_no_stop}
-use Rattle.sdr_laws.proofs.refused.stops_are_no_rows.Goals as goal
-
-pub returns : goal.returns
-returns c = row_is_no_stop

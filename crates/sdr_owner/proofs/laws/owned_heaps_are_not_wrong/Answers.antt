@@ -1,5 +1,0 @@
-use Rattle.sdr_owner.proofs.LawLemmas.{not_wrong}
-use Rattle.sdr_owner.proofs.laws.owned_heaps_are_not_wrong.Goals as goal
-
-pub returns : goal.returns
-returns c heap words place owned wrong = not_wrong heap words place owned wrong

@@ -1,7 +1,0 @@
-use Rattle.std.proofs.Common.{refl}
-use Rattle.sdr_base.specs.Stored.{start_bit}
-use Rattle.sdr_owner.proofs.region.has_start_bit.Goals as goal
-
-pub returns : goal.returns
-unfolding start_bit
-returns c = refl

@@ -1,2 +1,0 @@
-pub mod PeekLemmas
-pub mod StillLemmas

@@ -1,2 +1,0 @@
-pub mod Peeking
-pub mod Still

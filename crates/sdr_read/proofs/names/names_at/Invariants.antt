@@ -1,7 +1,0 @@
-use Rattle.std.proofs.Common.{◌≡◌, map, take}
-use Rattle.sdr_owner.specs.View.{view_in}
-use Rattle.sdr_read.specs.Told.{name_told}
-use Rattle.sdr_read.proofs.names.names_at.Given as goal
-
-abbrev pub invariant-loop-addr : goal.invariant-loop-addr
-invariant-loop-addr l = l.names ≡ map (name_told (view_in l.heap)) (take l.addr-index l.addrs)

@@ -1,6 +1,0 @@
--- The pools are told.
-use Rattle.sdr_read.proofs.ToldPoolsLemmas.{pools_are}
-use Rattle.sdr_read.proofs.pools.heaps_tell_their_pools.Goals as goal
-
-pub returns : goal.returns
-returns c bytes P keeps = pools_are bytes P keeps

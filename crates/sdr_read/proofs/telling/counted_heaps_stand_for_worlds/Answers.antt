@@ -1,5 +1,0 @@
-use Rattle.sdr_read.proofs.WorldLemmas.{stands_so}
-use Rattle.sdr_read.proofs.telling.counted_heaps_stand_for_worlds.Goals as goal
-
-pub returns : goal.returns
-returns c bytes counted = stands_so bytes counted

@@ -1,7 +1,0 @@
-use Rattle.std.proofs.Common.{◌≡◌, ◌/◌, length}
-use Rattle.sdr_owner.specs.View.{view_in}
-use Rattle.sdr_read.specs.Told.{entries_up_to}
-use Rattle.sdr_read.proofs.things.entries_in.Given as goal
-
-abbrev pub invariant-loop-bucket : goal.invariant-loop-bucket
-invariant-loop-bucket l = l.entries ≡ entries_up_to (view_in l.heap) (length l.heap / 8) l.addr l.bucket

@@ -1,5 +1,0 @@
-use Rattle.sdr_region.proofs.ExactLemmas.{sound_or_wrong}
-use Rattle.sdr_region.proofs.region.sound_regions_are_not_wrong.Goals as goal
-
-pub returns : goal.returns
-returns c bytes why place sound wrong = sound_or_wrong bytes sound why place wrong

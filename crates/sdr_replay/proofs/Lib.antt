@@ -1,2 +1,0 @@
-pub mod PlayingLemmas
-pub mod ReplayingLemmas

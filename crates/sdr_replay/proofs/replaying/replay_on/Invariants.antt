@@ -1,6 +1,0 @@
-use Rattle.sdr_replay.specs.Replaying.{begins_on}
-use Rattle.sdr_replay.proofs.replaying.replay_on.Given as goal
-
--- the heap that was just opened
-abbrev pub ghosts-play : goal.ghosts-play
-ghosts-play g a = record { begins = begins_on g.M.Media g.J.HandedIn.was a.script.now a.base }

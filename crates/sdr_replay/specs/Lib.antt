@@ -1,4 +1,0 @@
-pub mod Handed
-pub mod Playing
-pub mod Replaying
-pub mod Running

@@ -1,0 +1,5 @@
+pub mod Schedule
+pub mod Handed
+pub mod Playing
+pub mod Replaying
+pub mod Running

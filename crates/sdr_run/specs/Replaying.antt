@@ -1,0 +1,87 @@
+-- A schedule that runs on the heap of a disk.
+use Rattle.std.specs.Prelude.{◌≡◌, ◌≤◌, ◌<◌, ℕ, List, Option, true, false, not, length, min}
+use Rattle.sdr_base.specs.Causes.{Rose}
+use Rattle.sdr_base.specs.Media.{Told}
+use Rattle.sdr_base.specs.declared.media.Media.{Ghosts as MediaGhosts}
+use Rattle.sdr_core.specs.CoreKept.{RunStart}
+use Rattle.sdr_disk.specs.Moments.{AtEach}
+use Rattle.sdr_disk.specs.Told.{IfTold}
+use Rattle.sdr_disk.specs.declared.disk.Disk.{Ghosts as DiskGhosts}
+use Rattle.sdr_run.specs.Schedule.{daemons_of, media_change}
+use Rattle.sdr_image.specs.Opening.{MayBeOpened}
+use Rattle.sdr_machine.specs.Crash.{IsCrashSafe, OpensAfter, OpensTo, done_by, is_sound}
+use Rattle.sdr_machine.specs.Ground.{State}
+use Rattle.sdr_machine.specs.Legal.{IsAfter, IsLegal}
+use Rattle.sdr_log.specs.Calls.{KeepsDisk}
+use Rattle.sdr_log.specs.Logged.{GivesSame}
+use Rattle.sdr_model.specs.declared.journal.Entry.{Entry}
+use Rattle.sdr_model.specs.declared.script.ScriptStep.{ScriptStep}
+use Rattle.sdr_run.specs.Handed.{HandedDisk}
+use Rattle.sdr_run.specs.Playing.{Output, RunsScript}
+use Rattle.sdr_run.specs.declared.playing.Ran.{Ran}
+use Rattle.sdr_station.specs.Grounded.{Grounded, OpensAs}
+use Rattle.sdr_station.specs.Opening.{ExplainsOpen, IsOpen, LeavesBytes, first_on}
+use Rattle.sdr_station.specs.declared.error.OpenError.{OpenError}
+
+-- nothing is pending on a disk that is handed in, or in lines alone that its open batches name
+abbrev pub IsSettled : {D : Type 0} → DiskGhosts D → D → Type 0
+IsSettled d disk = IfTold (d.bytes disk) (λ x. MayBeOpened x (d.may_hold_after disk (d.moment disk)))
+
+-- a run of the script's daemons begins with the world on the heap that was opened, no later than its disk was handed in
+abbrev pub begins_on : {D M : Type 0} → MediaGhosts M → HandedDisk → List ScriptStep → Grounded D M → RunStart
+begins_on m was script g =
+    record { told = m.told g.media; daemons = daemons_of script; first = first_on g; start = min was.moment g.moment; faults = was.faults }
+
+-- what a schedule has come to, on this
+abbrev pub with_base : {S T : Type 0} → Ran S → T → Ran T
+with_base ran base =
+    record { journal = ran.journal; base = base; failed = ran.failed; starved = ran.starved; printing = ran.printing }
+
+-- What a run with this journal, from the world on a heap and where media tell this, leaves of the disk that was handed in.
+pub record LeavesJournal {D : Type 0} (d : DiskGhosts D) (told : Option Told) (daemons : List ℕ) (first : State) (journal : List Entry)
+    (old new : D) : Type 0 where
+  -- the disk is as long, and tells its bytes if it did
+  pub keeps : KeepsDisk d.size d.bytes old new
+  -- at each moment of the call a crash leaves the state after some first entries, and all that are done
+  pub any_moment : IfTold (d.bytes old) (λ _.
+      IsCrashSafe d.moment d.may_hold_after (OpensAfter OpensAs told daemons first journal) (d.moment old) journal new)
+  -- none was done before the call
+  pub early : IfTold (d.bytes old) (λ _. (m : ℕ) → m < d.moment old → done_by m journal ≡ 0)
+  -- unless the disk failed in an entry, all of them are done by now, nothing is pending, and a crash now leaves the state after all
+  pub all : is_sound journal ≡ true → IfTold (d.bytes old) (λ _. (m : ℕ) → d.moment new ≤ m → done_by m journal ≡ length journal)
+  pub settled : is_sound journal ≡ true → IsSettled d new
+  pub durable : is_sound journal ≡ true → IfTold (d.bytes old) (λ _.
+      (image : List ℕ) → d.may_hold_after new (d.moment new) image
+      → OpensTo OpensAs (λ s. IsAfter told daemons first journal (length journal) s) image)
+  -- the disk failed in an entry only where its count of faults rose, and the count has not fallen
+  pub later : d.faults old ≤ d.faults new
+  pub cause : is_sound journal ≡ false → Rose (d.faults old) (d.faults new)
+
+-- The heap of the disk was opened with these media, and the schedule was run on it.
+pub record ReplaysOn {D M : Type 0} (d : DiskGhosts D) (m : MediaGhosts M) (disk : D) (files : M) (script : List ScriptStep) (out out' : Output)
+    (ran : Ran (D × M)) : Type 0 where
+  -- what was opened
+  pub ground : Grounded D M
+  pub with_media : ground.media ≡ files
+  pub open_so : IsOpen d.bytes d.moment d.may_hold_after disk ground
+  -- the answers that were printed and the journal are those of the run of the script, from the world on it
+  pub replays : RunsScript (media_change m.told m.faults m.short files ran.base.1) (first_on ground) script out out' ran
+  -- the journal is legal
+  pub legal : IsLegal (m.told files) (daemons_of script) (first_on ground) ran.journal
+  -- what a crash leaves is told by the journal
+  pub leaves : LeavesJournal d (m.told files) (daemons_of script) (first_on ground) ran.journal disk ran.base.0
+  -- the disk failed just where it did in an entry
+  pub failed : ran.failed ≡ not (is_sound ran.journal)
+
+-- No schedule was run on the disk, for this reason.
+pub record IsNotRun {D : Type 0} (d : DiskGhosts D) (disk disk' : D) (cause : OpenError) : Type 0 where
+  -- why its heap wasn't opened, or that there was no memory for a run
+  pub why : ExplainsOpen (d.bytes disk) (d.faults disk) (d.faults disk') cause
+  -- the disk is as long, and tells its bytes if it did: the same, where it gives no heap; and the open batches are put back, where
+  -- the heap is damaged
+  pub keeps : KeepsDisk d.size d.bytes disk disk'
+  pub bytes : LeavesBytes (d.bytes disk) (d.bytes disk') cause
+  -- at each moment of the call a crash leaves what gives the same heap, or none as before
+  pub any_moment : IfTold (d.bytes disk) (λ x. AtEach d.moment d.may_hold_after disk disk' (GivesSame x))
+  -- no count of faults has fallen
+  pub later : d.faults disk ≤ d.faults disk'

@@ -1,0 +1,107 @@
+// A schedule that runs on the heap of a disk.
+ghost use Rattle.std.specs.Prelude.{◌≡◌, ◌≤◌, IfErr, IfOk, is_some, length};
+ghost use Rattle.sdr_run.specs.Handed.{handed_as};
+ghost use Rattle.sdr_run.specs.Playing.{output};
+ghost use Rattle.sdr_run.specs.Replaying.{IsNotRun, IsSettled, ReplaysOn, with_base};
+
+use crate::handed::{Handed, HandedIn};
+use crate::playing::{Ran, play};
+use sdr_base::{Media, Sink};
+use sdr_disk::Disk;
+use sdr_model::ScriptStep;
+use sdr_station::{HeapGround, OpenError, Shut};
+use std::alloc::Global;
+use std::marker::Brand;
+use zco_acct::{Compares, Notice};
+
+// What a schedule has come to, with the disk of the heap on which it ran, and its media.
+fn with_parts<D: Disk, M: Media, J: HandedIn>(
+    ran: Ran<HeapGround<Handed<D, J>, M, Compares>>,
+) -> Ran<(D, M)>
+    ensures same { result ≡ with_base ran result.base }
+    ensures disk { result.base.0 ≡ ran.base.heap.cells.disk }
+    ensures size { D.size result.base.0 ≡ J.was.size }
+    ensures tells { is_some (D.bytes result.base.0) ≡ J.was.tells }
+    ensures seen { D.moment result.base.0 ≤ ran.base.moment }
+    ensures media { result.base.1 ≡ ran.base.media }
+{
+    let Ran {
+        journal,
+        base,
+        failed,
+        starved,
+        printing,
+    } = ran;
+    let (disk, media) = base.into_parts();
+    Ran {
+        journal,
+        base: (disk.into_disk(), media),
+        failed,
+        starved,
+        printing,
+    }
+}
+
+// Plays a script on the heap of a disk.
+fn replay_on<D: Disk, M: Media, J: HandedIn, K: Sink>(
+    alloc: Global,
+    script: &[ScriptStep],
+    disk: D,
+    media: M,
+    out: &mut K,
+) -> Result<Ran<(D, M)>, Shut<D, M>>
+    requires few { length script.now ≤ 1_048_577 }
+    requires settled { IsSettled D.Disk disk }
+    requires handed { J.was ≡ handed_as D.Disk disk }
+    ensures ran { IfOk result (ReplaysOn D.Disk M.Media disk media script.now
+        (output K.taken K.faults out.old) (output K.taken K.faults out.new)) }
+    ensures shut { IfErr result (λ shut. IsNotRun D.Disk disk shut.disk shut.why) }
+    ensures unread { IfErr result (λ shut. shut.media ≡ media) }
+    ensures same { IfErr result (λ _. out.new ≡ out.old) }
+    ensures later { K.faults out.old ≤ K.faults out.new }
+{
+    let held = Handed::<D, J>::new(disk);
+    let ground = match HeapGround::open(alloc, held, media, Notice::new(Compares)) {
+        Ok(ground) => ground,
+        Err(Shut { why, disk, media }) => {
+            return Err(Shut {
+                why,
+                disk: disk.into_disk(),
+                media,
+            });
+        }
+    };
+    match play::<HeapGround<Handed<D, J>, M, Compares>, Brand, K>(alloc, script, ground, out) {
+        Ok(ran) => Ok(with_parts(ran)),
+        Err(ground) => {
+            let (disk, media) = ground.into_parts();
+            Err(Shut {
+                why: OpenError::NoMemory,
+                disk: disk.into_disk(),
+                media,
+            })
+        }
+    }
+}
+
+/// Makes the steps of a script in order on the heap of a disk, whose sources name these media, and prints the line
+/// of each answer. Where the heap isn't opened, or memory is wanting before the first step, nothing is printed, and
+/// the cause comes with the disk and the media: not formatted, damaged, a disk fault, or want of memory.
+pub fn replay<D: Disk, M: Media, K: Sink>(
+    alloc: Global,
+    script: &[ScriptStep],
+    disk: D,
+    media: M,
+    out: &mut K,
+) -> Result<Ran<(D, M)>, Shut<D, M>>
+    requires few { length script.now ≤ 1_048_577 }
+    requires settled { IsSettled D.Disk disk }
+    ensures ran { IfOk result (ReplaysOn D.Disk M.Media disk media script.now
+        (output K.taken K.faults out.old) (output K.taken K.faults out.new)) }
+    ensures shut { IfErr result (λ shut. IsNotRun D.Disk disk shut.disk shut.why) }
+    ensures unread { IfErr result (λ shut. shut.media ≡ media) }
+    ensures same { IfErr result (λ _. out.new ≡ out.old) }
+    ensures later { K.faults out.old ≤ K.faults out.new }
+{
+    replay_on::<D, M, Brand, K>(alloc, script, disk, media, out)
+}

@@ -1,5 +1,0 @@
-use Rattle.sdr_runs.proofs.ChoiceLemmas.{run_decides}
-use Rattle.sdr_runs.proofs.decided.runs_decide.Goals as goal
-
-pub returns : goal.returns
-returns c = run_decides

@@ -1,5 +1,0 @@
-use Rattle.sdr_runs.proofs.StalledRow.{stalled_row}
-use Rattle.sdr_runs.proofs.rows.all_have_stalled.Goals as goal
-
-pub returns : goal.returns
-returns c = stalled_row

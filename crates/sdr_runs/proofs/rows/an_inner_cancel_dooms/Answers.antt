@@ -1,5 +1,0 @@
-use Rattle.sdr_runs.proofs.DoomedRow.{doomed_row}
-use Rattle.sdr_runs.proofs.rows.an_inner_cancel_dooms.Goals as goal
-
-pub returns : goal.returns
-returns c = doomed_row

@@ -1,5 +1,0 @@
-use Rattle.sdr_runs.proofs.DeepRow.{deep_row}
-use Rattle.sdr_runs.proofs.rows.depth_sixty_four.Goals as goal
-
-pub returns : goal.returns
-returns c = deep_row

@@ -1,5 +1,0 @@
-use Rattle.sdr_runs.proofs.FaultedRow.{faulted_row}
-use Rattle.sdr_runs.proofs.rows.the_first_sync_fails.Goals as goal
-
-pub returns : goal.returns
-returns c = faulted_row

@@ -1,0 +1,10 @@
+pub mod ChangeLemmas
+pub mod ExampleLemmas
+pub mod FreshLemmas
+pub mod GroupLemmas
+pub mod PartLemmas
+pub mod RestLemmas
+pub mod RootsLemmas
+pub mod ShapeLemmas
+pub mod ThingShapes
+pub mod TiesLemmas

@@ -1,0 +1,5 @@
+pub mod Example
+pub mod Rows
+pub mod Shape
+pub mod Standing
+pub mod Ties

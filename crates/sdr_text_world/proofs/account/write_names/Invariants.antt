@@ -1,0 +1,13 @@
+use Rattle.std.proofs.Common.{◌≤◌, length}
+use Rattle.sdr_base.proofs.WrittenLemmas.{GoesOut}
+use Rattle.sdr_text_world.specs.AccountText.{names_text}
+use Rattle.sdr_text_world.proofs.account.write_names.Given as goal
+
+abbrev pub invariant-loop-entry : goal.invariant-loop-entry
+invariant-loop-entry g l = record {
+  goes : GoesOut (g.K.Sink.taken l.fn.out) (g.K.Sink.taken l.out) (names_text l.fn.entries) (names_text l.rest);
+  later : g.K.Sink.faults l.fn.out ≤ g.K.Sink.faults l.out;
+}
+
+abbrev pub decreases-loop-entry : goal.decreases-loop-entry
+decreases-loop-entry g l = length l.rest

@@ -1,0 +1,23 @@
+use Rattle.std.proofs.Common.{◌≡◌, ◌∙◌, ◌++◌, OnErr, ap, subst}
+use Rattle.std.proofs.KnownBytes.{Appends-trans}
+use Rattle.sdr_base.specs.Written.{AppendsPart}
+use Rattle.sdr_base.specs.declared.account.Acct.TheVariants as accts
+use Rattle.sdr_model.specs.declared.accounts.Accounts.{Accounts}
+use Rattle.sdr_text_world.proofs.PartLemmas.{part_behind}
+use Rattle.sdr_text_world.specs.AccountText.{names_text, tickets_text}
+use Rattle.sdr_text_world.specs.WorldText.{queues_text}
+use Rattle.sdr_text_world.proofs.world.write_queues.Goals as goal
+
+pub returns-clause-err : goal.returns-clause-err
+returns-clause-err g c =
+    let inbound = tickets_text accts.Inbound c.as_slice.result.now in
+    let outbound = tickets_text accts.Outbound c.as_slice-2.result.now in
+    let e = c.as_slice.ensures ∙ ap (λ (a : Accounts). a.inbound.tickets) c.accounts-accounts.ensures in
+    let f = c.as_slice-2.ensures ∙ ap (λ (a : Accounts). a.outbound.tickets) c.accounts-accounts.ensures in
+    let h = c.as_slice-3.ensures ∙ c.names.ensures in
+    let same : inbound ++ outbound ++ names_text c.as_slice-3.result.now ≡ queues_text c.args.world.now =
+    λ i. tickets_text accts.Inbound (e i) ++ tickets_text accts.Outbound (f i) ++ names_text (h i) in
+    subst (λ t. OnErr c.write_names.result (AppendsPart (g.K.Sink.taken c.args.out.now) (g.K.Sink.taken c.write_names.new.out) t)) same
+    (part_behind c.write_names.result _ _ _ (inbound ++ outbound) (names_text c.as_slice-3.result.now)
+    (Appends-trans _ _ _ inbound outbound c.in_ok-write_tickets.ensures.ok c.in_ok-write_tickets-2.ensures.ok)
+    c.write_names.ensures.err)

@@ -1,7 +1,0 @@
-use Rattle.std.proofs.Common.{sym, subst}
-use Rattle.std.specs.List.{Contains}
-use Rattle.sdr_undo.proofs.store.Store.take.Goals as goal
-
-pub returns-clause-others : goal.returns-clause-others
-returns-clause-others c other has =
-    subst (λ xs. Contains xs other) (sym c.swap.ensures.touched) (c.in_ok-touch.ensures.others other has)

@@ -1,0 +1,4 @@
+pub mod GoodLemmas
+pub mod CutLemmas
+pub mod DemandLemmas
+pub mod GivingLemmas

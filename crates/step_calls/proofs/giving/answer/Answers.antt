@@ -1,0 +1,14 @@
+-- A call that reads no media tells nothing of them.
+use Rattle.std.proofs.Common.{◌∙◌, sym}
+use Rattle.sdr_model.specs.World.{World}
+use Rattle.step_calls.proofs.GivingLemmas.{tells_unread}
+use Rattle.step_calls.specs.Serving.{call_lines}
+use Rattle.step_calls.proofs.giving.answer.Goals as goal
+
+pub returns-clause-tells : goal.returns-clause-tells
+returns-clause-tells g c =
+    let heap = g.O.HasHeap.heap in
+    let call = c.args.call.now in
+    tells_unread g.M.Media g.O.HasHeap (λ (w : World). call_lines (heap c.args.o.now) w call) c.args.o.now c.answer-2.new.o call c.args.page.now
+    c.answer-2.new.page c.args.media.now c.answer-2.result (sym c.reads_media.ensures ∙ c.if-reads_media.false) c.answer-2.ensures.comes
+    c.answer-2.ensures.works

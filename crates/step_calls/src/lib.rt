@@ -1,0 +1,20 @@
+//! The answer of each call, over any blocks and any media.
+//!
+//! 1. Each call is a step of the machine on the world that the blocks stand for: here `free` and those on tables, hashes and the
+//!    catalogue, and those of the crates below by what they are on. Those that ask an object's bytes read media, and no other does.
+//! 2. What is of a kind is kept wherever a heap stands for a world in which calls are served, and a call that its row answers
+//!    touches no more lines than its transaction may by what it has asked.
+//!
+//! Proved: `answer`: each call, on blocks that stand for a whole world, is a step of the machine (`comes`), or is
+//! refused as its row has it, or for want of a block or of log room. It touches at most the lines of `call_lines`
+//! (`works`). Media are read only by a call that asks an object's bytes (`unread`).
+//!
+//! Only tested: each call's answers (`tests/cases`).
+#![tactic(auto)]
+
+mod answering;
+mod bonding;
+mod cutting;
+mod giving;
+
+pub use giving::answer;

@@ -1,0 +1,10 @@
+pub mod BucketLemmas
+pub mod BucketChanges
+pub mod HashLemmas
+pub mod HashMaking
+pub mod HashReading
+pub mod HashChanging
+pub mod NameLemmas
+pub mod NameCalls
+pub mod FreeLemmas
+pub mod NextLemmas

@@ -1,0 +1,6 @@
+//! TODO
+#![tactic(auto)]
+
+pub mod freeing;
+pub mod hashes;
+pub mod names;

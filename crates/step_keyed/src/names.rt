@@ -1,0 +1,103 @@
+// The calls on the catalogue, as steps of the machine.
+ghost use Rattle.std.specs.Prelude.{[], true, ◌+◌, ◌/◌, ◌<◌, ◌^◌, ◌≡◌, ◌≤◌};
+ghost use Rattle.step_things.specs.Answering.{ComesInEach, IsGood, call_lines, is_name_call};
+ghost use Rattle.sdr_base.specs.Moves.{KeepsSome};
+ghost use Rattle.sdr_base.specs.Works.{Spends};
+ghost use Rattle.sdr_cat.specs.Kept.{SomeNames};
+ghost use Rattle.sdr_model.specs.Fields.{AreBytes, FitsCall, IsWord};
+ghost use Rattle.sdr_model.specs.declared.call.Call.TheVariants as calls;
+
+use sdr_base::{Objects, Stop};
+use sdr_model::{Call, Reply};
+use step_things::Page;
+
+// Puts a new name at the end of the catalogue.
+fn catlg<O: Objects>(
+    o: &mut O,
+    name: &[u8],
+    kind: u32,
+    object: u64,
+    page: &mut Page,
+) -> Result<Reply, Stop>
+    requires kept { KeepsSome (O.keeps o.old) }
+    requires spare { 1 ≤ (O.heap o.old).spare }
+    requires names { SomeNames (O.heap o.old) }
+    requires unmoved { (O.heap o.old).moves ≡ [] }
+    ensures comes { ComesInEach (calls.Catlg name.now kind object) (O.heap o.old) (O.heap o.new) page.old
+        page.new result }
+    ensures works { Spends O.HasHeap 30 o.old o.new result }
+    ensures bytes { AreBytes name.now }
+    ensures kind { kind < 2 ^ 32 }
+    ensures word { IsWord object }
+{
+    sdr_cat::catlg(o, name, kind, object)?;
+    page.clear();
+    Ok(Reply::Done)
+}
+
+// The type and the object of a name.
+fn find<O: Objects>(o: &mut O, name: &[u8], page: &mut Page) -> Result<Reply, Stop>
+    requires kept { KeepsSome (O.keeps o.old) }
+    requires names { SomeNames (O.heap o.old) }
+    requires unmoved { (O.heap o.old).moves ≡ [] }
+    ensures comes { ComesInEach (calls.Find name.now) (O.heap o.old) (O.heap o.new) page.old page.new
+        result }
+    ensures works { Spends O.HasHeap 0 o.old o.new result }
+{
+    let (kind, second) = sdr_cat::find(o, name)?;
+    page.clear();
+    Ok(Reply::Pair {
+        first: kind as u64,
+        second,
+    })
+}
+
+// Takes a name out of the catalogue.
+fn uncatlg<O: Objects>(o: &mut O, name: &[u8], page: &mut Page) -> Result<Reply, Stop>
+    requires kept { KeepsSome (O.keeps o.old) }
+    requires spare { 1 ≤ (O.heap o.old).spare }
+    requires names { SomeNames (O.heap o.old) }
+    requires unmoved { (O.heap o.old).moves ≡ [] }
+    ensures comes { ComesInEach (calls.Uncatlg name.now) (O.heap o.old) (O.heap o.new) page.old page.new
+        result }
+    ensures works { Spends O.HasHeap 27 o.old o.new result }
+{
+    sdr_cat::uncatlg(o, name)?;
+    page.clear();
+    Ok(Reply::Done)
+}
+
+// The entry at a place, counted from 0.
+fn entry<O: Objects>(o: &mut O, place: u64, page: &mut Page) -> Result<Reply, Stop>
+    requires kept { KeepsSome (O.keeps o.old) }
+    requires names { SomeNames (O.heap o.old) }
+    requires unmoved { (O.heap o.old).moves ≡ [] }
+    ensures comes { ComesInEach (calls.Entry place) (O.heap o.old) (O.heap o.new) page.old page.new
+        result }
+    ensures works { Spends O.HasHeap 0 o.old o.new result }
+{
+    let mut name = [0; 255];
+    let (count, kind, addr) = sdr_cat::entry(o, place, &mut name)?;
+    page.show(&name[..count as usize]);
+    Ok(Reply::Named { count, kind, addr })
+}
+
+// Answers a call on the catalogue.
+pub fn answer<O: Objects>(o: &mut O, call: &Call, page: &mut Page) -> Result<Reply, Stop>
+    requires kept { KeepsSome (O.keeps o.old) }
+    requires room { (O.heap o.old).size / 4 + 4 ≤ (O.heap o.old).spare }
+    requires good { IsGood (O.heap o.old) }
+    requires unmoved { (O.heap o.old).moves ≡ [] }
+    requires one { is_name_call call.now ≡ true }
+    ensures comes { ComesInEach call.now (O.heap o.old) (O.heap o.new) page.old page.new result }
+    ensures works { Spends O.HasHeap (call_lines (O.heap o.old) call.now) o.old o.new result }
+    ensures fits { FitsCall call.now }
+{
+    match call {
+        Call::Catlg(name, kind, object) => { catlg(o, name.as_slice(), *kind, *object, page) }
+        Call::Find(name) => find(o, name.as_slice(), page),
+        Call::Uncatlg(name) => uncatlg(o, name.as_slice(), page),
+        Call::Entry(place) => entry(o, *place, page),
+        _ => unreachable!(),
+    }
+}

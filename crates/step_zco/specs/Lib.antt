@@ -1,0 +1,4 @@
+pub mod ObjectAnswering
+pub mod Destroying
+pub mod AccountAnswering
+pub mod SourceAnswering

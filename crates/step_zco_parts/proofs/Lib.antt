@@ -1,0 +1,32 @@
+pub mod ThingsLemmas
+pub mod TiesLemmas
+pub mod RowLemmas
+pub mod BondFreshLemmas
+pub mod ChargeLemmas
+pub mod WorldLemmas
+pub mod BondRows
+pub mod BondCalls
+pub mod LinesLemmas
+pub mod BondDemandLemmas
+pub mod CutRows
+pub mod CutSources
+pub mod CutGone
+pub mod CutWorlds
+pub mod StripLosses
+pub mod StripCalls
+pub mod StripLeft
+pub mod StripGoodLemmas
+pub mod StrippedFew
+pub mod WireKeptLemmas
+pub mod GivenCalls
+pub mod WireGoodLemmas
+mod DelimitCalls
+pub mod PieceLemmas
+pub mod PartFreshLemmas
+pub mod PartKeptLemmas
+pub mod CloneTies
+pub mod CloneCharges
+mod CloneCalls
+pub mod PartGoodLemmas
+pub mod PartDemandLemmas
+pub mod ClonedFew

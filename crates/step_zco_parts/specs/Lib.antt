@@ -1,0 +1,4 @@
+pub mod BondAnswering
+pub mod Stripping
+pub mod Giving
+pub mod PartAnswering

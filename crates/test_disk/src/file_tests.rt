@@ -1,0 +1,209 @@
+// What no clause says of the adapters and of files as disks: which bytes they pass on, and that errors
+// are counted.
+ghost use Rattle.std.specs.Prelude.{◌≤◌};
+
+use sdr_base::{Sink, SinkFault, Source, SourceFault};
+use sdr_disk::{Disk, DiskFault};
+use sdr_system::{FileDisk, Place, StdSink, StdSource, make_disk, open_disk, place_of};
+use std::fs::{File, Metadata, OpenFile};
+use std::io::{Cursor, Read, Write};
+use std::os::unix::fs::FileExt;
+use std::process::Abort;
+use std::test::Fail;
+use std::{fs, io};
+
+/// A reader and writer whose every call fails.
+#[derive(Drop)]
+struct Broken;
+
+impl Read for Broken {
+    fn read(&mut self, _into: &mut [u8]) -> io::Result<usize> {
+        Err(io::Error::from(io::ErrorKind::Other))
+    }
+}
+
+impl Write for Broken {
+    fn write(&mut self, _from: &[u8]) -> io::Result<usize> {
+        Err(io::Error::from(io::ErrorKind::Other))
+    }
+
+    fn flush(&mut self) -> io::Result<()> {
+        Ok(())
+    }
+}
+
+/// A reader and writer of one byte each, whose first calls a signal breaks off.
+#[derive(Drop)]
+struct Signalled {
+    signals: u8,
+}
+
+impl Signalled {
+    // Whether a signal comes first.
+    fn is_broken_off(&mut self) -> bool {
+        let is_first = self.signals > 0;
+        self.signals = self.signals.saturating_sub(1);
+        is_first
+    }
+}
+
+impl Read for Signalled {
+    fn read(&mut self, into: &mut [u8]) -> io::Result<usize> {
+        if self.is_broken_off() {
+            return Err(io::Error::from(io::ErrorKind::Interrupted));
+        }
+        Ok(into.len().min(1))
+    }
+}
+
+impl Write for Signalled {
+    fn write(&mut self, from: &[u8]) -> io::Result<usize> {
+        if self.is_broken_off() {
+            return Err(io::Error::from(io::ErrorKind::Interrupted));
+        }
+        Ok(from.len().min(1))
+    }
+
+    fn flush(&mut self) -> io::Result<()> {
+        Ok(())
+    }
+}
+
+#[test]
+fn a_signal_is_no_fault(rt: HostRuntime) {
+    let mut piece = [0u8; 6];
+    let mut source = StdSource::new(Signalled { signals: 3 });
+    assert_eq!(rt; source.read(&mut piece), Ok(1));
+    let mut sink = StdSink::new(Signalled { signals: 3 });
+    assert_eq!(rt; sink.write(b"lock"), Ok(1));
+}
+
+#[test]
+fn standard_input_gives_what_is_read_and_a_fault_where_that_fails(rt: HostRuntime) {
+    let mut source = StdSource::new(b"1: begin".as_slice());
+    let mut piece = [0u8; 6];
+    assert_eq!(rt; source.read(&mut piece), Ok(6));
+    assert_eq!(rt; &piece, b"1: beg");
+    assert_eq!(rt; source.read(&mut piece), Ok(2));
+    assert_eq!(rt; source.read(&mut piece), Ok(0));
+    assert_eq!(rt; StdSource::new(Broken).read(&mut piece), Err(SourceFault));
+}
+
+#[test]
+fn standard_output_takes_what_is_written_and_a_fault_where_that_fails(
+    rt: HostRuntime,
+) -> Result<(), Fail> {
+    let mut room = [0u8; 4];
+    let mut sink = StdSink::new(room.as_mut_slice());
+    assert_eq!(rt; sink.write(b"lock"), Ok(4));
+    assert_eq!(rt; sink.write(b" 1"), Ok(0));
+    assert_eq!(rt; StdSink::new(Broken).write(b"lock"), Err(SinkFault));
+    Ok(())
+}
+
+// The file of the test of `FileDisk`, which it makes and removes.
+const PATH: &str = "sdrtool_test.disk";
+
+#[test]
+fn a_file_is_made_of_zeros_keeps_what_is_written_and_is_locked(
+    rt: HostRuntime,
+) -> Result<(), Fail> {
+    let _ = fs::remove_file(&rt, PATH);
+    assert!(rt; open_disk(&rt, PATH).is_err());
+    let mut disk = make_disk(&rt, PATH, 128)?;
+    assert_eq!(rt; disk.len(), 128);
+    assert!(rt; open_disk(&rt, PATH).is_err());
+    write_two_bytes(&rt, &mut disk);
+    drop(disk);
+    // A file that is long enough stays as it is.
+    let mut longer = make_disk(&rt, PATH, 64)?;
+    assert_eq!(rt; longer.len(), 128);
+    read_two_bytes(&rt, &mut longer);
+    fs::remove_file(&rt, PATH)?;
+    Ok(())
+}
+
+// Writes `ab` from place 62 on.
+fn write_two_bytes(rt: &impl Abort, disk: &mut FileDisk<File>)
+    requires { 128 ≤ ⟦<FileDisk<File> as Disk>⟧.size disk.old }
+{
+    assert_eq!(rt; disk.write_at(62, b"ab"), Ok(()));
+    assert_eq!(rt; disk.sync(), Ok(()));
+    assert_eq!(rt; disk.now(), 4);
+}
+
+// Reads them, between zeros.
+fn read_two_bytes(rt: &impl Abort, disk: &mut FileDisk<File>)
+    requires { 128 ≤ ⟦<FileDisk<File> as Disk>⟧.size disk.old }
+{
+    let mut piece = [9; 4];
+    assert_eq!(rt; disk.read_at(61, &mut piece), Ok(()));
+    assert_eq!(rt; &piece, b"\0ab\0");
+}
+
+/// A file whose every call fails.
+#[derive(Drop)]
+struct BrokenFile;
+
+impl FileExt for BrokenFile {
+    fn read_at(&self, _into: &mut [u8], _place: u64) -> io::Result<usize> {
+        Err(io::Error::from(io::ErrorKind::Other))
+    }
+
+    fn write_at(&self, _from: &[u8], _place: u64) -> io::Result<usize> {
+        Err(io::Error::from(io::ErrorKind::Other))
+    }
+}
+
+impl OpenFile for BrokenFile {
+    fn metadata(&self) -> io::Result<Metadata> {
+        Err(io::Error::from(io::ErrorKind::Other))
+    }
+
+    fn set_len(&self, _len: u64) -> io::Result<()> {
+        Err(io::Error::from(io::ErrorKind::Other))
+    }
+
+    fn sync_all(&self) -> io::Result<()> {
+        Err(io::Error::from(io::ErrorKind::Other))
+    }
+
+    fn sync_data(&self) -> io::Result<()> {
+        Err(io::Error::from(io::ErrorKind::Other))
+    }
+}
+
+#[test]
+fn each_error_of_a_file_is_a_fault_and_after_a_failed_sync_no_call_is_made(rt: HostRuntime) {
+    let mut disk = FileDisk::new(BrokenFile, 128);
+    assert_eq!(rt; disk.read_at(0, &mut [0]), Err(DiskFault));
+    assert_eq!(rt; disk.write_at(0, b"a"), Err(DiskFault));
+    assert_eq!(rt; disk.now(), 2);
+    assert_eq!(rt; disk.sync(), Err(DiskFault));
+    assert_eq!(rt; disk.now(), 4);
+    // The sync counts as a call that began and returned; what comes behind it doesn't.
+    assert_eq!(rt; disk.write_at(0, b"a"), Err(DiskFault));
+    assert_eq!(rt; disk.sync(), Err(DiskFault));
+    assert_eq!(rt; disk.now(), 4);
+}
+
+#[test]
+fn a_word_names_a_disk(rt: HostRuntime) {
+    assert!(rt; matches!(place_of("-"), Place::Memory));
+    assert!(rt; matches!(place_of("heap"), Place::File { .. }));
+    assert!(rt; matches!(place_of("a=b"), Place::File { .. }));
+    assert!(rt; matches!(place_of("heap="), Place::File { .. }));
+    assert!(rt; matches!(place_of("heap=0081984"), Place::File { .. }));
+    assert!(rt; matches!(place_of("heap=+81984"), Place::File { .. }));
+    assert!(rt; matches!(place_of("heap=18446744073709551616"), Place::File { .. }));
+    assert!(rt; matches!(place_of("heap=0"), Place::Sized { bytes: 0, .. }));
+    assert!(rt;
+        matches!(
+            place_of("a=b=81984"),
+            Place::Sized {
+                path: "a=b",
+                bytes: 81_984,
+            }
+        )
+    );
+}
