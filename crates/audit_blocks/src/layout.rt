@@ -7,11 +7,11 @@ ghost use Rattle.audit_blocks.specs.Content.{field, is_key_length, has_layout, i
 
 use byteorder::{BigEndian, ByteOrder};
 use sdr_base::Kind;
-use sdr_model::MOST_AMOUNT;
-use sdr_model::limits::{
+use sdr_base::limits::{
     LONGEST_CAPSULE, LONGEST_KEY, LONGEST_NAME, LONGEST_PATH, LONGEST_RAW, LONGEST_SOURCE,
     LONGEST_STRING, MOST_BUCKETS,
 };
+use sdr_model::MOST_AMOUNT;
 
 // The number in a word of a block's bytes, counted from 0.
 fn field(first: &[u8], n: usize) -> u64

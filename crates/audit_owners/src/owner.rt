@@ -2,7 +2,6 @@
 ghost use Rattle.std.specs.Prelude.{◌≡◌, ◌≤◌, ◌<◌, ◌^◌, length, IfSome};
 ghost use Rattle.sdr_base.specs.Cells.{IsRegionSize};
 ghost use Rattle.sdr_base.specs.KeptHeap.{block_in};
-ghost use Rattle.sdr_base.specs.ZcoObjects.{account_number};
 ghost use Rattle.audit_owners.specs.Owners.{account_word, first_site, kind_in, last_site, names_owner, next_field, site_place, told_at};
 ghost use Rattle.audit_owners.specs.View.{view_in};
 
@@ -71,16 +70,6 @@ fn account_word(account: Acct) -> u64
     match account {
         Acct::Inbound => INBOUND,
         Acct::Outbound => OUTBOUND,
-    }
-}
-
-// The number of an account.
-fn account_number(account: Acct) -> u64
-    ensures { result ≡ account_number account }
-{
-    match account {
-        Acct::Inbound => 0,
-        Acct::Outbound => 1,
     }
 }
 
@@ -181,7 +170,7 @@ impl Owner {
     {
         match self {
             Owner::Catalogue => true,
-            Owner::Queue(account) => word(heap, addr, ticket::ACCOUNT) == account_number(account),
+            Owner::Queue(account) => word(heap, addr, ticket::ACCOUNT) == account.number(),
             Owner::List(list) => {
                 word(heap, addr, element::LIST) == list
                     && word(heap, addr, element::PREVIOUS) == before

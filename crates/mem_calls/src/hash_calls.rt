@@ -10,8 +10,8 @@ ghost use Rattle.sdr_model.specs.World.{thing_at};
 
 use crate::raw_calls::misnamed;
 use mem_world::DraftWorld;
+use sdr_base::limits::{LONGEST_KEY, MOST_BUCKETS};
 use sdr_base::{Addr, Bytes, Items, NoMemory, Refusal};
-use sdr_model::limits::{LONGEST_KEY, MOST_BUCKETS};
 use sdr_model::{Call, HashEntry, Reply, SdrHash, Thing};
 use std::alloc::Global;
 

@@ -5,8 +5,8 @@ ghost use Rattle.sdr_model.specs.Limits.{is_no_name};
 
 use crate::raw_calls::bad_length;
 use mem_world::DraftWorld;
+use sdr_base::limits::LONGEST_NAME;
 use sdr_base::{Bytes, NoMemory, Refusal};
-use sdr_model::limits::LONGEST_NAME;
 use sdr_model::{Call, Reply};
 use std::alloc::Global;
 

@@ -8,8 +8,8 @@ use crate::insert_calls::insert_at;
 use crate::list_calls::{element_addr, list};
 use crate::raw_calls::misnamed;
 use mem_world::DraftWorld;
+use sdr_base::limits::LONGEST_SORT_KEY;
 use sdr_base::{Addr, NoMemory};
-use sdr_model::limits::LONGEST_SORT_KEY;
 use sdr_model::{Call, Keys, Reply, SdrList};
 use std::cmp::Ordering;
 

@@ -6,8 +6,8 @@ ghost use Rattle.sdr_model.specs.World.{as_raw, misnamed, thing_at};
 ghost use Rattle.sdr_model.specs.Zco.{uses_of};
 
 use mem_world::DraftWorld;
+use sdr_base::limits::{LONGEST_RAW, LONGEST_READ};
 use sdr_base::{Addr, Bytes, Kind, NoMemory, Refusal};
-use sdr_model::limits::{LONGEST_RAW, LONGEST_READ};
 use sdr_model::{Call, Reply, Thing};
 use std::alloc::Global;
 

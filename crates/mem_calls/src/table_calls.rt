@@ -7,8 +7,8 @@ ghost use Rattle.sdr_model.specs.World.{thing_at};
 
 use crate::raw_calls::{bad_length, misnamed};
 use mem_world::DraftWorld;
+use sdr_base::limits::{LONGEST_RAW, LONGEST_READ};
 use sdr_base::{Addr, Bytes, NoMemory, Refusal};
-use sdr_model::limits::{LONGEST_RAW, LONGEST_READ};
 use sdr_model::{Call, Reply, SdrTable, Thing};
 use std::alloc::Global;
 

@@ -6,8 +6,8 @@ ghost use Rattle.sdr_model.specs.World.{as_text, thing_at};
 
 use crate::raw_calls::{bad_length, misnamed};
 use mem_world::DraftWorld;
+use sdr_base::limits::LONGEST_STRING;
 use sdr_base::{Addr, Bytes, NoMemory};
-use sdr_model::limits::LONGEST_STRING;
 use sdr_model::{Call, Reply, Thing};
 use std::alloc::Global;
 

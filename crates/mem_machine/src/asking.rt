@@ -8,8 +8,8 @@ ghost use Rattle.sdr_model.specs.Reading.{reads_media};
 use mem_world::DraftWorld;
 use mem_zco_calls::object_calls::object;
 use mem_zco_calls::wire_calls::{asked, parts};
+use sdr_base::limits::LONGEST_READ;
 use sdr_base::{Items, NoMemory};
-use sdr_model::limits::LONGEST_READ;
 use sdr_model::{Call, Piece};
 use std::alloc::Global;
 

@@ -9,8 +9,8 @@ use mem_calls::raw_calls::{bad_length, misnamed};
 use mem_parts::Side;
 use mem_world::DraftWorld;
 use mem_world::growing::add_component;
+use sdr_base::limits::LONGEST_CAPSULE;
 use sdr_base::{Addr, Bytes, NoMemory};
-use sdr_model::limits::LONGEST_CAPSULE;
 use sdr_model::{Call, Capsule, Reply};
 use std::alloc::Global;
 

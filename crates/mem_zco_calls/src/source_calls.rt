@@ -11,8 +11,8 @@ ghost use Rattle.sdr_model.specs.declared.things.Thing.TheVariants as things;
 
 use mem_calls::raw_calls::{bad_length, in_use, misnamed};
 use mem_world::DraftWorld;
+use sdr_base::limits::{LONGEST_PATH, LONGEST_SOURCE};
 use sdr_base::{Addr, Bytes, Kind, NoMemory, Refusal};
-use sdr_model::limits::{LONGEST_PATH, LONGEST_SOURCE};
 use sdr_model::{Call, Reply, Subject, Thing, ZcoSource};
 use std::alloc::Global;
 

@@ -9,8 +9,8 @@ use crate::object_calls::object;
 use crate::wire::object_pieces;
 use mem_calls::raw_calls::{bad_length, misnamed};
 use mem_world::DraftWorld;
+use sdr_base::limits::LONGEST_READ;
 use sdr_base::{Addr, Bytes, Items, NoMemory};
-use sdr_model::limits::LONGEST_READ;
 use sdr_model::{Call, Piece, Reply};
 use std::alloc::Global;
 

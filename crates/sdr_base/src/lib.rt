@@ -26,6 +26,7 @@ mod items;
 mod kind;
 pub mod layout;
 mod leader;
+pub mod limits;
 mod line;
 mod media;
 mod medium;

@@ -6,7 +6,7 @@ use Rattle.sdr_base.specs.Entries.{Entries, BlocksAre}
 use Rattle.sdr_base.specs.Linked.{first_of, last_of}
 use Rattle.sdr_base.specs.Objects.{Heap}
 use Rattle.sdr_base.specs.declared.control.TheConstants.{FIRST_NAME, LAST_NAME}
-use Rattle.sdr_cat.specs.declared.name.TheConstants.{LONGEST_NAME}
+use Rattle.sdr_base.specs.declared.limits.TheConstants.{LONGEST_NAME}
 
 -- the numbers of an entry fit their words, the type 32 bits, and its name 31 bytes
 pub record NameFits (row : NameRow) : Type 0 where

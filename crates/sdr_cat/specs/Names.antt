@@ -5,7 +5,7 @@ use Rattle.sdr_base.specs.Catalogue.{NameRow}
 use Rattle.sdr_base.specs.declared.refusal.Refusal.TheVariants as refusals
 use Rattle.sdr_base.specs.declared.stop.Stop.{Stop}
 use Rattle.sdr_base.specs.declared.stop.Stop.TheVariants.{Refused}
-use Rattle.sdr_cat.specs.declared.name.TheConstants.{LONGEST_NAME}
+use Rattle.sdr_base.specs.declared.limits.TheConstants.{LONGEST_NAME}
 
 -- a name has a byte at least, and not too many
 pub record IsName (name : List ℕ) : Type 0 where

@@ -8,10 +8,11 @@ ghost use Rattle.sdr_cat.specs.Changes.{TakesOut, UncataloguesName, UncatlgStops
 ghost use Rattle.sdr_cat.specs.Kept.{SomeNames};
 
 use crate::linking::{link_next, take_entry};
-use crate::name::{LONGEST_NAME, check_name};
+use crate::name::check_name;
 use crate::searching::{Place, search};
 use sdr_base::control::LAST_NAME;
 use sdr_base::layout::name as words;
+use sdr_base::limits::LONGEST_NAME;
 use sdr_base::{Addr, Objects, Refusal, Stop, check_failed, word};
 
 /// Puts a new name at the end of the catalogue, for an object of this type.

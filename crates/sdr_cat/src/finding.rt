@@ -7,10 +7,11 @@ ghost use Rattle.sdr_cat.specs.Calls.{EntryStops, FindsName, FindStops, ReadsEnt
 ghost use Rattle.sdr_cat.specs.Kept.{SomeEntry, SomeNames};
 ghost use Rattle.sdr_cat.specs.Walks.{Counts, TellsEntry};
 
-use crate::name::{LONGEST_NAME, check_name};
+use crate::name::check_name;
 use crate::searching::{NAME_FROM, search};
 use sdr_base::control::FIRST_NAME;
 use sdr_base::layout::name as words;
+use sdr_base::limits::LONGEST_NAME;
 use sdr_base::{Addr, Objects, Refusal, Stop, check_failed, word};
 
 /// The type and the object of a name.

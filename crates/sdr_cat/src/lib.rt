@@ -17,4 +17,3 @@ mod searching;
 
 pub use changing::{catlg, uncatlg};
 pub use finding::{entry, find};
-pub use name::LONGEST_NAME;

@@ -9,10 +9,11 @@ ghost use Rattle.sdr_base.specs.Works.{Spends};
 ghost use Rattle.sdr_base.specs.declared.kind.Kind.TheVariants as kinds;
 ghost use Rattle.sdr_cat.specs.Links.{LinksNext};
 
-use crate::name::{LONGEST_NAME, stored};
+use crate::name::stored;
 use byteorder::{BigEndian, ByteOrder};
 use sdr_base::control::FIRST_NAME;
 use sdr_base::layout::name as words;
+use sdr_base::limits::LONGEST_NAME;
 use sdr_base::{Addr, Kind, Objects, Stop, set_word, take_bytes};
 
 // Links `next` behind the entry `prev`, or as the first where that is 0.

@@ -3,20 +3,18 @@ ghost use Rattle.std.specs.Prelude.{◌≡◌, ◌≤◌, length, IfErr, OnOk};
 ghost use Rattle.sdr_base.specs.Catalogue.{name_bytes};
 ghost use Rattle.sdr_cat.specs.Names.{IsName, IsBadName};
 
+use sdr_base::limits::LONGEST_NAME;
 use sdr_base::{Refusal, Stop};
-
-/// The most bytes of a name, which has one at least.
-pub const LONGEST_NAME: usize = 31;
 
 // Refuses a name of no byte or of too many.
 pub fn check_name(name: &[u8]) -> Result<(), Stop>
     ensures fits { OnOk result (IsName name.now) }
     ensures refused { IfErr result (IsBadName name.now) }
 {
-    if name.is_empty() || name.len() > LONGEST_NAME {
+    if name.is_empty() || name.len() as u64 > LONGEST_NAME {
         return Err(Stop::Refused(Refusal::BadLength {
             length: name.len() as u64,
-            most: LONGEST_NAME as u64,
+            most: LONGEST_NAME,
         }));
     }
     Ok(())

@@ -7,9 +7,10 @@ ghost use Rattle.sdr_base.specs.Works.{Looks};
 ghost use Rattle.sdr_cat.specs.Kept.{SomeNames};
 ghost use Rattle.sdr_cat.specs.Walks.{Compares, Searches};
 
-use crate::name::{LONGEST_NAME, stored};
+use crate::name::stored;
 use sdr_base::control::FIRST_NAME;
 use sdr_base::layout::name as words;
+use sdr_base::limits::LONGEST_NAME;
 use sdr_base::{Addr, Objects, Stop, word};
 
 // As many blocks in use as the largest heap may have, one for 16 bytes.

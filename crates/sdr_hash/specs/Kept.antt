@@ -7,7 +7,7 @@ use Rattle.sdr_base.specs.declared.kind.Kind.TheVariants as kinds
 use Rattle.sdr_base.specs.declared.refusal.Refusal.TheVariants as refusals
 use Rattle.sdr_base.specs.declared.stop.Stop.{Stop}
 use Rattle.sdr_base.specs.declared.stop.Stop.TheVariants.{Refused}
-use Rattle.sdr_hash.specs.declared.hash.TheConstants.{LONGEST_KEY, MOST_BUCKETS}
+use Rattle.sdr_base.specs.declared.limits.TheConstants.{LONGEST_KEY, MOST_BUCKETS}
 
 -- a key has a byte at least, and not too many
 pub record IsKeyLength (bytes : ℕ) : Type 0 where

@@ -10,7 +10,7 @@ use Rattle.sdr_hash.specs.Buckets.{bucket_of}
 use Rattle.sdr_hash.specs.Calls.{IsKeyOf}
 use Rattle.sdr_hash.specs.Kept.{ItemFits, KeepsHash}
 use Rattle.sdr_hash.specs.declared.bucket.Link.{Link}
-use Rattle.sdr_hash.specs.declared.hash.TheConstants.{LONGEST_KEY}
+use Rattle.sdr_base.specs.declared.limits.TheConstants.{LONGEST_KEY}
 
 -- the block of a hash of these words
 abbrev pub words_block : List ℕ → Block

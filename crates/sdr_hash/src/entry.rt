@@ -6,8 +6,8 @@ ghost use Rattle.sdr_base.specs.Words.{TakesBytes, layout};
 ghost use Rattle.sdr_base.specs.Works.{Spends};
 ghost use Rattle.sdr_base.specs.declared.kind.Kind.TheVariants as kinds;
 
-use crate::hash::LONGEST_KEY;
 use byteorder::{BigEndian, ByteOrder};
+use sdr_base::limits::LONGEST_KEY;
 use sdr_base::{Addr, Kind, Objects, Stop, take_bytes};
 
 // Where the key begins in an entry, in bytes.
@@ -25,7 +25,7 @@ pub fn take_entry<O: Objects>(o: &mut O, next: Addr, value: u64, key: &[u8]) -> 
     ensures works { Spends O.HasHeap
         (26 + (KEY_FROM + length key.now) / 32) o.old o.new result }
 {
-    let mut buffer = [0; KEY_FROM + LONGEST_KEY];
+    let mut buffer = [0; KEY_FROM + LONGEST_KEY as usize];
     let bytes = &mut buffer[..KEY_FROM + key.len()];
     fill(next, value, key, bytes);
     take_bytes(o, Kind::HashEntry, bytes)

@@ -11,13 +11,8 @@ ghost use Rattle.sdr_hash.specs.Kept.{IsHash, IsShape, IsNoShape};
 
 use byteorder::{BigEndian, ByteOrder};
 use sdr_base::layout::hash as words;
+use sdr_base::limits::{LONGEST_KEY, MOST_BUCKETS};
 use sdr_base::{Addr, Kind, Objects, Refusal, Stop, WORD, check_failed, expect_kind, word};
-
-/// The most bytes of a key, which has one at least.
-pub const LONGEST_KEY: usize = 255;
-
-/// The most buckets of a hash, which has one at least.
-pub const MOST_BUCKETS: u64 = 256;
 
 /// Where the first entries of the buckets begin in a hash's block, in bytes.
 pub const FRONTS_FROM: u64 = 24;
@@ -47,10 +42,10 @@ fn check_shape(key_length: u64, buckets: u64) -> Result<(), Stop>
     ensures fits { OnOk result (IsShape key_length buckets) }
     ensures refused { IfErr result (IsNoShape key_length buckets) }
 {
-    if key_length == 0 || key_length > LONGEST_KEY as u64 {
+    if key_length == 0 || key_length > LONGEST_KEY {
         return Err(Stop::Refused(Refusal::BadKeyLength {
             length: key_length,
-            want: LONGEST_KEY as u64,
+            want: LONGEST_KEY,
         }));
     }
     if buckets == 0 || buckets > MOST_BUCKETS {

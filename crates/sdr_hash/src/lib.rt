@@ -20,5 +20,5 @@ mod searching;
 
 pub use changing::{insert, remove, revise};
 pub use destroying::destroy;
-pub use hash::{LONGEST_KEY, MOST_BUCKETS, count, create};
+pub use hash::{count, create};
 pub use searching::retrieve;

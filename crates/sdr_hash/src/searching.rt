@@ -11,8 +11,8 @@ ghost use Rattle.sdr_hash.specs.Walks.{Compares, Locates, Searches};
 
 use crate::bucket::{Link, front_of};
 use crate::entry::KEY_FROM;
-use crate::hash::LONGEST_KEY;
 use sdr_base::layout::hash_entry as words;
+use sdr_base::limits::LONGEST_KEY;
 use sdr_base::{Addr, Objects, Refusal, Stop, word};
 
 // As many blocks in use as the largest heap may have, one for 16 bytes.
@@ -87,7 +87,7 @@ fn has_key<O: Objects>(o: &mut O, addr: Addr, key: &[u8]) -> Result<bool, Stop>
     ensures refused { IfErr result OnlyFault }
     ensures looks { Looks O.HasHeap o.old o.new result }
 {
-    let mut buffer = [0; LONGEST_KEY];
+    let mut buffer = [0; LONGEST_KEY as usize];
     let bytes = &mut buffer[..key.len()];
     o.get(addr, KEY_FROM as u64, bytes)?;
     Ok(&*bytes == key)

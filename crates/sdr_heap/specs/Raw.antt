@@ -15,7 +15,7 @@ use Rattle.sdr_base.specs.declared.layout.raw.TheConstants.{BYTES}
 use Rattle.sdr_base.specs.declared.refusal.Refusal.TheVariants as refusals
 use Rattle.sdr_base.specs.declared.stop.Stop.{Stop}
 use Rattle.sdr_base.specs.declared.stop.Stop.TheVariants.{Refused}
-use Rattle.sdr_heap.specs.declared.raw.TheConstants.{LONGEST_RAW, LONGEST_READ}
+use Rattle.sdr_base.specs.declared.limits.TheConstants.{LONGEST_RAW, LONGEST_READ}
 
 -- a raw object has its source word
 abbrev pub HasSourceWord : Option Block → Type 0

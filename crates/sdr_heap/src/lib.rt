@@ -30,4 +30,4 @@ mod objects;
 mod raw;
 
 pub use heap::{Heap, HeapShut};
-pub use raw::{LONGEST_RAW, LONGEST_READ, free, length, malloc, read, stage, write};
+pub use raw::{free, length, malloc, read, stage, write};

@@ -9,13 +9,8 @@ ghost use Rattle.sdr_heap.specs.Raw.{MakesRaw, MallocStops, Frees, FreeStops};
 ghost use Rattle.sdr_heap.specs.Raw.{ReadsRaw, ReadStops, Stages, WritesRaw, WriteStops};
 
 use sdr_base::layout::raw::BYTES;
+use sdr_base::limits::{LONGEST_RAW, LONGEST_READ};
 use sdr_base::{Addr, Kind, Objects, Refusal, Stop, check_failed, expect_kind};
-
-/// The most bytes of a raw object.
-pub const LONGEST_RAW: u64 = 1_048_576;
-
-/// The most bytes that one read gives.
-pub const LONGEST_READ: u64 = 4096;
 
 /// Makes a raw object of so many zero bytes, which no source names.
 pub fn malloc<O: Objects>(o: &mut O, bytes: u64) -> Result<Addr, Stop>

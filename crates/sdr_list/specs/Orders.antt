@@ -10,11 +10,11 @@ use Rattle.sdr_base.specs.declared.kind.Kind.{Kind}
 use Rattle.sdr_base.specs.declared.kind.Kind.TheVariants as kinds
 use Rattle.sdr_base.specs.declared.layout.raw.TheConstants.{BYTES}
 use Rattle.sdr_list.specs.Kept.{addr_before}
-use Rattle.sdr_list.specs.declared.collation.TheConstants.{LONGEST_KEY}
+use Rattle.sdr_base.specs.declared.limits.TheConstants.{LONGEST_SORT_KEY}
 
 -- the key is one that is compared
 abbrev pub IsKey : List ℕ → Type 0
-IsKey key = length key ≤ LONGEST_KEY
+IsKey key = length key ≤ LONGEST_SORT_KEY
 
 -- on keys the order is total: turned round it gives the reverse, it is transitive, and keys that are equal by it compare
 -- alike with all others
@@ -25,7 +25,7 @@ pub record IsPreorder (order : List ℕ → List ℕ → Ordering) : Type 0 wher
 
 -- the first bytes of a raw object
 abbrev pub if_raw : Kind → List ℕ → List ℕ
-if_raw kinds.Raw bytes = take LONGEST_KEY (drop BYTES bytes)
+if_raw kinds.Raw bytes = take LONGEST_SORT_KEY (drop BYTES bytes)
 if_raw kind bytes = []
 
 -- the key in a block: the first bytes of a raw object, and none of any other
@@ -67,7 +67,7 @@ equal_addr order blocks datum row = key_addr order blocks (sort_key blocks datum
 
 -- the first bytes of a buffer, so many, are the key in a block
 pub record ReadsKey (found : Option Block) (count : ℕ) (into : List ℕ) : Type 0 where
-  pub short : count ≤ LONGEST_KEY
+  pub short : count ≤ LONGEST_SORT_KEY
   pub key : take count into ≡ key_in found
 
 -- an element's datum was read, and its key compared with another

@@ -5,9 +5,6 @@ ghost use Rattle.sdr_list.specs.Orders.{IsKey, IsPreorder};
 
 use std::cmp::Ordering;
 
-/// The most bytes of a key.
-pub const LONGEST_KEY: usize = 64;
-
 /// A comparison of keys of at most 64 bytes, which is a total preorder there: keys that differ may
 /// be equal by it.
 pub trait Collate {

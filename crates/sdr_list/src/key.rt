@@ -4,11 +4,12 @@ ghost use Rattle.sdr_base.specs.Blocks.{UsesRange};
 ghost use Rattle.sdr_base.specs.Moves.{KeepsSome};
 ghost use Rattle.sdr_base.specs.Objects.{OnlyFault};
 ghost use Rattle.sdr_base.specs.Works.{Looks};
-ghost use Rattle.sdr_list.specs.declared.collation.TheConstants.{LONGEST_KEY};
+ghost use Rattle.sdr_base.specs.declared.limits.TheConstants.{LONGEST_SORT_KEY};
 ghost use Rattle.sdr_list.specs.Orders.{Compares, IsKey, ReadsKey, key_in};
 
-use crate::collation::{Collate, Collation, LONGEST_KEY};
+use crate::collation::{Collate, Collation};
 use sdr_base::layout::{element as words, raw};
+use sdr_base::limits::LONGEST_SORT_KEY;
 use sdr_base::{Addr, Kind, Objects, Stop, word};
 use std::cmp::Ordering;
 
@@ -17,14 +18,14 @@ fn key_length<O: Objects>(o: &mut O, datum: u64) -> Result<usize, Stop>
     requires kept { KeepsSome (O.keeps o.old) }
     ensures given { IfOk result
         (λ count. count ≡ length (key_in ((O.heap o.old).blocks datum))) }
-    ensures short { IfOk result (λ count. count ≤ LONGEST_KEY) }
+    ensures short { IfOk result (λ count. count ≤ LONGEST_SORT_KEY) }
     ensures refused { IfErr result OnlyFault }
     ensures looks { Looks O.HasHeap o.old o.new result }
 {
     Ok(match o.kind(datum)? {
         Some((Kind::Raw, bytes)) => bytes
             .saturating_sub(raw::BYTES)
-            .min(LONGEST_KEY as u64) as usize,
+            .min(LONGEST_SORT_KEY as u64) as usize,
         _ => 0,
     })
 }
@@ -33,7 +34,7 @@ fn key_length<O: Objects>(o: &mut O, datum: u64) -> Result<usize, Stop>
 pub fn read_key<O: Objects>(
     o: &mut O,
     datum: u64,
-    into: &mut [u8; LONGEST_KEY],
+    into: &mut [u8; LONGEST_SORT_KEY],
 ) -> Result<usize, Stop>
     requires kept { KeepsSome (O.keeps o.old) }
     ensures given { IfOk result
@@ -64,7 +65,7 @@ pub fn compare_element<O: Objects, F: Collate>(
     ensures looks { Looks O.HasHeap o.old o.new result }
 {
     let datum = word(o, element, words::DATUM)?;
-    let mut buffer = [0; LONGEST_KEY];
+    let mut buffer = [0; LONGEST_SORT_KEY];
     let count = read_key(o, datum, &mut buffer)?;
     Ok(by.compare(&buffer[..count], key))
 }

@@ -26,7 +26,7 @@ mod orders;
 mod reading;
 mod remove;
 
-pub use collation::{Collate, Collation, LONGEST_KEY};
+pub use collation::{Collate, Collation};
 pub use destroying::destroy;
 pub use element::{datum, next, prev, set_datum};
 pub use insert::{insert_after, insert_before, insert_first, insert_last};

@@ -11,10 +11,11 @@ ghost use Rattle.sdr_list.specs.Kept.{IsList, SomeList};
 ghost use Rattle.sdr_list.specs.Orders.{FindsEqual, FindsPlace, IsKey};
 ghost use Rattle.sdr_list.specs.Orders.{equal_addr, ordered_place};
 
-use crate::collation::{Collate, Collation, LONGEST_KEY};
+use crate::collation::{Collate, Collation};
 use crate::insert::insert_between;
 use crate::key::{compare_element, read_key};
 use sdr_base::layout::{element as element_words, list as words};
+use sdr_base::limits::LONGEST_SORT_KEY;
 use sdr_base::{Addr, Kind, Objects, Stop, expect_kind, word};
 
 /// Makes a new element of a list behind the last one whose key is less than or equal to that of
@@ -38,7 +39,7 @@ pub fn insert_ordered<O: Objects, F: Collate>(
     ensures works { Spends O.HasHeap 35 o.old o.new result }
 {
     expect_kind(o, list, Kind::List)?;
-    let mut buffer = [0; LONGEST_KEY];
+    let mut buffer = [0; LONGEST_SORT_KEY];
     let count = read_key(o, datum, &mut buffer)?;
     let prev = last_upto(o, list, &buffer[..count], by)?;
     let next = following(o, list, prev)?;
@@ -62,7 +63,7 @@ pub fn search<O: Objects, F: Collate>(
     ensures looks { Looks O.HasHeap o.old o.new result }
 {
     expect_kind(o, list, Kind::List)?;
-    let mut buffer = [0; LONGEST_KEY];
+    let mut buffer = [0; LONGEST_SORT_KEY];
     let count = read_key(o, datum, &mut buffer)?;
     first_equal(o, list, &buffer[..count], by)
 }

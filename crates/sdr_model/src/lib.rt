@@ -20,7 +20,6 @@ mod event;
 mod hash;
 mod journal;
 mod keys;
-pub mod limits;
 mod name;
 mod piece;
 mod script;

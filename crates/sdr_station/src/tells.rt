@@ -6,11 +6,11 @@ ghost use Rattle.sdr_station.specs.Telling.{BytesAtMost};
 
 use crate::HeapGround;
 use crate::station::most_moves;
+use sdr_base::limits::{LONGEST_NAME, LONGEST_STRING};
 use sdr_base::{Media, Move, NoMemory};
 use sdr_disk::Disk;
 use sdr_machine::{HasGround, Room, Tells};
 use sdr_model::Call;
-use sdr_model::limits::{LONGEST_NAME, LONGEST_STRING};
 use step_things::PAGE;
 use zco_acct::Notify;
 

@@ -9,7 +9,7 @@ use Rattle.sdr_base.specs.declared.refusal.Refusal.{Refusal}
 use Rattle.sdr_base.specs.declared.refusal.Refusal.TheVariants as refusals
 use Rattle.sdr_base.specs.declared.stop.Stop.{Stop}
 use Rattle.sdr_base.specs.declared.stop.Stop.TheVariants.{Refused}
-use Rattle.sdr_string.specs.declared.TheConstants.{LONGEST_STRING}
+use Rattle.sdr_base.specs.declared.limits.TheConstants.{LONGEST_STRING}
 
 -- where a string's block stands, some string is kept
 pub record SomeString (found : Option Block) : Type 0 where

@@ -8,8 +8,8 @@ ghost use Rattle.sdr_model.specs.declared.call.Call.TheVariants as calls;
 ghost use Rattle.step_things.specs.Answering.{ComesInEach, IsGood, call_lines, is_raw_call};
 
 use crate::page::{PAGE, Page};
+use sdr_base::limits::LONGEST_READ;
 use sdr_base::{Addr, Kind, Objects, Refusal, Stop, expect_kind};
-use sdr_heap::LONGEST_READ;
 use sdr_model::{Call, Reply};
 
 // Makes a raw object.

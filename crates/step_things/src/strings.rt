@@ -8,9 +8,9 @@ ghost use Rattle.sdr_model.specs.declared.call.Call.TheVariants as calls;
 ghost use Rattle.sdr_string.specs.Calls.{IsString};
 
 use crate::page::Page;
+use sdr_base::limits::LONGEST_STRING;
 use sdr_base::{Addr, Objects, Stop};
 use sdr_model::{Call, Reply};
-use sdr_string::LONGEST_STRING;
 
 // Makes a string.
 fn string<O: Objects>(o: &mut O, text: &[u8], page: &mut Page) -> Result<Reply, Stop>
@@ -50,7 +50,7 @@ fn string_read<O: Objects>(o: &mut O, addr: Addr, page: &mut Page) -> Result<Rep
         result }
     ensures works { Spends O.HasHeap 0 o.old o.new result }
 {
-    let mut text = [0; LONGEST_STRING];
+    let mut text = [0; LONGEST_STRING as usize];
     let count = sdr_string::read(o, addr, &mut text)?;
     page.show(&text[..count as usize]);
     Ok(Reply::Bytes { count })

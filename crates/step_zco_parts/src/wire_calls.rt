@@ -10,8 +10,8 @@ ghost use Rattle.step_zco_parts.specs.Giving.{AgreesIn, CountStops, HasMediaCaus
 ghost use Rattle.zco_wire.specs.Naming.{IsWire};
 ghost use Rattle.zco_wire.specs.Stopping.{KeepsTold, ReadStops, past_media};
 
+use sdr_base::limits::LONGEST_READ;
 use sdr_base::{Addr, Kind, Media, Objects, Refusal, Stop, expect_kind};
-use sdr_model::limits::LONGEST_READ;
 use sdr_model::{Call, Reply};
 use step_things::{PAGE, Page};
 use zco_wire::{Reader, receive_headers, receive_source, receive_trailers, transmit};

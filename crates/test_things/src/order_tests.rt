@@ -2,7 +2,8 @@
 ghost use Rattle.std.specs.Prelude.{◌≡◌, length};
 ghost use Rattle.std.specs.Ordering.{nat_cmp};
 
-use sdr_list::{Collate, Collation, LONGEST_KEY, ListKeys, Stored};
+use sdr_base::limits::LONGEST_SORT_KEY;
+use sdr_list::{Collate, Collation, ListKeys, Stored};
 use std::cmp::Ordering;
 
 // Pairs of keys, and how they compare by their bytes and by their length.
@@ -39,7 +40,10 @@ const BY_LENGTH: [Ordering; 7] = [
 // The first pair that compares otherwise.
 fn wrong_pair<F: Collate>(by: &Collation<F>, wanted: &[Ordering; 7]) -> Option<usize> {
     for (place, (a, b)) in PAIRS.iter().enumerate() {
-        if a.len() > LONGEST_KEY || b.len() > LONGEST_KEY || by.compare(a, b) != wanted[place] {
+        if a.len() > LONGEST_SORT_KEY
+            || b.len() > LONGEST_SORT_KEY
+            || by.compare(a, b) != wanted[place]
+        {
             return Some(place);
         }
     }

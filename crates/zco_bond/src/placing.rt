@@ -9,8 +9,9 @@ ghost use Rattle.zco_bond.specs.Rows.{RowStops};
 
 use crate::gap::Gap;
 use crate::text::{Text, make_source};
+use sdr_base::limits::LONGEST_CAPSULE;
 use sdr_base::{Acct, Addr, Kind, Objects, Stop, take_words};
-use zco_obj::{LONGEST_CAPSULE, TEXT_FROM};
+use zco_obj::TEXT_FROM;
 use zco_ref::attach;
 use zco_strip::link_after;
 

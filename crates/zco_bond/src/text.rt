@@ -6,8 +6,9 @@ ghost use Rattle.sdr_base.specs.Works.{Looks, Spends};
 ghost use Rattle.zco_bond.specs.Rows.{RowStops};
 ghost use Rattle.zco_bond.specs.Texts.{CopiesText, FillsRaw, IsSourceRow, IsText, MakesSource};
 
+use sdr_base::limits::LONGEST_CAPSULE;
 use sdr_base::{Addr, Kind, Objects, Stop, put_at, take_bytes};
-use zco_obj::{LONGEST_CAPSULE, TEXT_FROM};
+use zco_obj::TEXT_FROM;
 use zco_ref::heap_source;
 
 // The text of a header or trailer: where that stands, and how many bytes it has.

@@ -7,9 +7,10 @@ ghost use Rattle.zco_obj.specs.Capsules.{with_header, with_trailer};
 ghost use Rattle.zco_obj.specs.Kept.{IsWithQueue};
 
 use crate::capsule::{TEXT_FROM, insert_capsule};
-use crate::charging::{LONGEST_CAPSULE, capsule_bytes, charge_object, heap_amounts};
+use crate::charging::{capsule_bytes, charge_object, heap_amounts};
 use crate::linking::Side;
 use sdr_base::layout::object as words;
+use sdr_base::limits::LONGEST_CAPSULE;
 use sdr_base::{Addr, Kind, Objects, Refusal, Stop, expect_kind, word};
 
 /// Puts a header in front of an object's others, and charges the object's account for it. What is

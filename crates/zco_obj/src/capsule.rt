@@ -6,9 +6,9 @@ ghost use Rattle.sdr_base.specs.Words.{layout};
 ghost use Rattle.sdr_base.specs.Works.{Looks, Spends};
 ghost use Rattle.zco_obj.specs.Chains.{InsertsCapsule, RemovesCapsule, SomeGap, SomeSpot, TakesCapsule};
 
-use crate::charging::LONGEST_CAPSULE;
 use crate::linking::{Side, link_last, link_next};
 use byteorder::{BigEndian, ByteOrder};
+use sdr_base::limits::LONGEST_CAPSULE;
 use sdr_base::{Addr, Kind, Objects, Stop, put_at, take_bytes};
 
 /// Where the text begins in the block of a header or trailer, in bytes.

@@ -9,11 +9,9 @@ ghost use Rattle.zco_obj.specs.Charging.{ChargesObject, ObjectChargeStops};
 ghost use Rattle.zco_obj.specs.Kept.{SomeWithQueue};
 
 use crate::object::account;
+use sdr_base::limits::LONGEST_CAPSULE;
 use sdr_base::{Addr, Amounts, Objects, Space, Stop};
 use zco_acct::charge;
-
-/// The most bytes of a header or trailer, which has one at least.
-pub const LONGEST_CAPSULE: u64 = 1024;
 
 // What an extent charges of heap space for itself, in bytes.
 const EXTENT_BYTES: u64 = 32;

@@ -9,11 +9,12 @@ ghost use Rattle.zco_obj.specs.Kept.{IsObject};
 ghost use Rattle.zco_obj.specs.Walks.{SeesCapsule};
 
 use crate::capsule::remove_capsule;
-use crate::charging::{LONGEST_CAPSULE, capsule_bytes, heap_amounts};
+use crate::charging::{capsule_bytes, heap_amounts};
 use crate::linking::Side;
 use crate::object::account;
 use crate::seeing::{SeenCapsule, find_last, see_capsule};
 use sdr_base::layout::object as words;
+use sdr_base::limits::LONGEST_CAPSULE;
 use sdr_base::{Addr, Kind, Objects, Refusal, Stop, expect_kind, word};
 use zco_acct::release;
 

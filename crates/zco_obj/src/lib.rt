@@ -33,7 +33,7 @@ mod summing;
 pub use adding::{append_trailer, prepend_header};
 pub use appending::append_extent;
 pub use capsule::TEXT_FROM;
-pub use charging::{LONGEST_CAPSULE, capsule_bytes, charge_object, extent_amounts, heap_amounts};
+pub use charging::{capsule_bytes, charge_object, extent_amounts, heap_amounts};
 pub use destroying::{destroy, give_extents};
 pub use discarding::{discard_first_header, discard_last_trailer};
 pub use extent::{ExtentPiece, link_extent};

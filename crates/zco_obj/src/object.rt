@@ -4,7 +4,7 @@ ghost use Rattle.sdr_base.specs.Moves.{KeepsSome};
 ghost use Rattle.sdr_base.specs.Making.{MakesThing};
 ghost use Rattle.sdr_base.specs.Objects.{OnlyFault, OnlyShort};
 ghost use Rattle.sdr_base.specs.Works.{Looks, Spends};
-ghost use Rattle.sdr_base.specs.ZcoObjects.{account_number, object_entries};
+ghost use Rattle.sdr_base.specs.ZcoObjects.{object_entries};
 ghost use Rattle.sdr_model.specs.Charges.{object_bytes};
 ghost use Rattle.zco_acct.specs.Kept.{SomeQueue};
 ghost use Rattle.zco_obj.specs.Kept.{SomeObject};
@@ -51,18 +51,8 @@ pub fn make_object<O: Objects>(o: &mut O, acct: Acct) -> Result<Addr, Stop>
     ensures refused { IfErr result (OnlyShort object_bytes (O.heap o.old) (O.heap o.new)) }
     ensures works { Spends O.HasHeap 29 o.old o.new result }
 {
-    let number = account_number(acct);
+    let number = acct.number();
     take_words(o, Kind::Object, &[number, 0, 0, 0, 0, 0, 0, 0, 0])
-}
-
-// The number of an account in an object's words.
-fn account_number(acct: Acct) -> u64
-    ensures { result ≡ account_number acct }
-{
-    match acct {
-        Acct::Inbound => 0,
-        Acct::Outbound => 1,
-    }
 }
 
 /// The account of an object.

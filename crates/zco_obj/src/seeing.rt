@@ -9,8 +9,8 @@ ghost use Rattle.zco_obj.specs.Walks.{FindsLast, SeesCapsule, SeesExtent, SomeCa
 ghost use Rattle.zco_ref.specs.Kept.{SomeSource};
 
 use crate::capsule::TEXT_FROM;
-use crate::charging::LONGEST_CAPSULE;
 use sdr_base::layout::{capsule as capsule_words, extent as extent_words, source as source_words};
+use sdr_base::limits::LONGEST_CAPSULE;
 use sdr_base::{Addr, Objects, Space, Stop, check_failed, word};
 
 /// More parts than an object may have.

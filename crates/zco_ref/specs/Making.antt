@@ -11,7 +11,8 @@ use Rattle.sdr_base.specs.declared.refusal.Refusal.TheVariants as refusals
 use Rattle.sdr_base.specs.declared.stop.Stop.{Stop}
 use Rattle.sdr_base.specs.declared.stop.Stop.TheVariants.{Refused}
 use Rattle.zco_ref.specs.Kept.{CountedSource, counted_block, counted_entries}
-use Rattle.zco_ref.specs.declared.making.TheConstants.{LONGEST_PATH, LONGEST_SOURCE, PATH_FROM}
+use Rattle.sdr_base.specs.declared.limits.TheConstants.{LONGEST_PATH, LONGEST_SOURCE}
+use Rattle.zco_ref.specs.declared.making.TheConstants.{PATH_FROM}
 
 -- a source that no extent names
 abbrev pub unused : SourceRow → CountedSource

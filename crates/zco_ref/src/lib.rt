@@ -20,5 +20,6 @@ mod seeing;
 
 pub use counting::{attach, count, detach};
 pub use dropping::destroy_ref;
-pub use making::{LONGEST_PATH, LONGEST_SOURCE, bulk_ref, file_ref};
+pub use making::{bulk_ref, file_ref};
 pub use naming::{expect_unnamed, heap_source, obj_ref};
+pub use seeing::medium_of;

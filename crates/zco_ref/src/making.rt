@@ -10,15 +10,10 @@ ghost use Rattle.zco_ref.specs.Making.{BulkStops, FileStops, IsPathLength, Makes
 ghost use Rattle.zco_ref.specs.Making.{PathRefused, SourceRefused, TakesSource, file_row, plain_row};
 
 use byteorder::{BigEndian, ByteOrder};
+use sdr_base::limits::{LONGEST_PATH, LONGEST_SOURCE};
 use sdr_base::{
     Addr, Kind, Medium, Objects, Refusal, Stop, check_failed, put_at, take_bytes, take_words,
 };
-
-/// The most bytes of a file's path, which has one at least.
-pub const LONGEST_PATH: usize = 255;
-
-/// The most bytes of a source.
-pub const LONGEST_SOURCE: u64 = 1_099_511_627_776;
 
 /// Where the path begins in a source's block, in bytes.
 pub const PATH_FROM: usize = 48;
@@ -58,10 +53,10 @@ fn check_path(count: u64) -> Result<(), Stop>
     ensures fits { OnOk result (IsPathLength count) }
     ensures refused { IfErr result (PathRefused count) }
 {
-    if count == 0 || count > LONGEST_PATH as u64 {
+    if count == 0 || count > LONGEST_PATH {
         return Err(Stop::Refused(Refusal::BadLength {
             length: count,
-            most: LONGEST_PATH as u64,
+            most: LONGEST_PATH,
         }));
     }
     Ok(())
@@ -93,7 +88,7 @@ fn take_file<O: Objects>(o: &mut O, path: &[u8], bytes: u64) -> Result<Addr, Sto
     ensures works { Spends O.HasHeap
         (26 + (PATH_FROM + length path.now) / 32) o.old o.new result }
 {
-    let mut buffer = [0; PATH_FROM + LONGEST_PATH];
+    let mut buffer = [0; PATH_FROM + LONGEST_PATH as usize];
     let block = &mut buffer[..PATH_FROM + path.len()];
     fill(number_of(Medium::File), path, bytes, block);
     take_bytes(o, Kind::Source, block)

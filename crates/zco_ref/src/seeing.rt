@@ -68,8 +68,8 @@ pub fn see<O: Objects>(o: &mut O, source: Addr) -> Result<Seen, Stop>
     })
 }
 
-// The medium of a number in a source's block.
-fn medium_of(number: u64) -> Medium
+/// The medium of a number in a source's block.
+pub fn medium_of(number: u64) -> Medium
     ensures { IsMediumOf number result }
 {
     match number {

@@ -3,7 +3,6 @@ ghost use Rattle.std.specs.Prelude.{◌≡◌, ◌≤◌, ◌+◌, ◌*◌, List
 ghost use Rattle.sdr_base.specs.Moves.{KeepsSome};
 ghost use Rattle.sdr_base.specs.Objects.{OnlyFault, OnlyShort};
 ghost use Rattle.sdr_base.specs.Works.{Looks, Spends};
-ghost use Rattle.sdr_base.specs.ZcoObjects.{account_number};
 ghost use Rattle.sdr_model.specs.declared.accounts.Ticket.{Ticket as GhostTicket};
 ghost use Rattle.zco_acct.specs.Kept.{KeepsQueue, SomeQueue};
 ghost use Rattle.zco_space.specs.Places.{EntersQueue, FindsPlace, IsNew, TakesTicket};
@@ -122,16 +121,6 @@ fn place_for<O: Objects>(o: &mut O, acct: Acct, new: &Ticket) -> Result<Place, S
     }
 }
 
-// The number of an account in its tickets' words.
-fn account_number(acct: Acct) -> u64
-    ensures { result ≡ account_number acct }
-{
-    match acct {
-        Acct::Inbound => 0,
-        Acct::Outbound => 1,
-    }
-}
-
 // A new ticket enters a queue, behind those that stand before it.
 fn enqueue<O: Objects>(o: &mut O, acct: Acct, new: &Ticket) -> Result<Addr, Stop>
     requires kept { KeepsSome (O.keeps o.old) }
@@ -159,7 +148,7 @@ fn take_ticket<O: Objects>(o: &mut O, acct: Acct, new: &Ticket, next: Addr) -> R
     ensures works { Spends O.HasHeap 29 o.old o.new result }
 {
     let asked = &new.asked;
-    let number = account_number(acct);
+    let number = acct.number();
     take_words(
         o,
         Kind::Ticket,

@@ -10,8 +10,8 @@ use crate::cursor::Cursor;
 use crate::extents::read_extents;
 use crate::heads::read_heads;
 use crate::reader::{Reader, moved_by};
+use sdr_base::limits::LONGEST_READ;
 use sdr_base::{Addr, Kind, Media, Objects, Refusal, Stop, expect_kind};
-use sdr_model::limits::LONGEST_READ;
 use zco_obj::first_parts;
 
 /// Gives bytes of an object on the wire from the reader's place on, as many as the buffer holds, and

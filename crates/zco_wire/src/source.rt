@@ -5,16 +5,16 @@ ghost use Rattle.sdr_base.specs.Moves.{KeepsSome};
 ghost use Rattle.sdr_base.specs.Objects.{OnlyFault};
 ghost use Rattle.sdr_base.specs.Works.{Looks};
 ghost use Rattle.zco_ref.specs.Kept.{SomeSource};
-ghost use Rattle.zco_ref.specs.Seeing.{IsMediumOf};
 ghost use Rattle.zco_wire.specs.Naming.{SomeNamed};
 ghost use Rattle.zco_wire.specs.Seeing.{SeesMedium, SeesRaw};
 ghost use Rattle.zco_wire.specs.Sources.{GivesRange, IsShortOf, SeesPath, SomePath, TellsPath};
 ghost use Rattle.zco_wire.specs.Stopping.{KeepsTold, StopsRange, past_media};
 
 use sdr_base::layout::{raw, source as words};
+use sdr_base::limits::LONGEST_PATH;
 use sdr_base::{Addr, Media, MediaFault, Medium, Objects, Refusal, Stop, word};
 use zco_obj::ExtentPiece;
-use zco_ref::LONGEST_PATH;
+use zco_ref::medium_of;
 
 // Where the path of a file begins in its source's block, in bytes.
 const PATH_FROM: u64 = 8 * words::WORDS;
@@ -29,18 +29,6 @@ fn medium<O: Objects>(o: &mut O, source: Addr) -> Result<Medium, Stop>
 {
     let number = word(o, source, words::MEDIUM)?;
     Ok(medium_of(number))
-}
-
-// The medium of a number in a source's block.
-fn medium_of(number: u64) -> Medium
-    ensures { IsMediumOf number result }
-{
-    match number {
-        1 => Medium::File,
-        2 => Medium::Bulk,
-        3 => Medium::Heap,
-        _ => Medium::Obj,
-    }
 }
 
 // Puts the path of a source at the front of a buffer, and answers how many bytes it has.
@@ -101,7 +89,7 @@ fn read_file<O: Objects, M: Media>(
     ensures media { KeepsTold M.Media media.old media.new }
     ensures looks { Looks O.HasHeap o.old o.new (past_media result) }
 {
-    let mut buffer = [0; LONGEST_PATH];
+    let mut buffer = [0; LONGEST_PATH as usize];
     let path = see_path(o, range.of, &mut buffer)? as usize;
     match media.file_read(&buffer[..path], range.offset, into) {
         Ok(have) => check_whole(have, into.len() as u64),

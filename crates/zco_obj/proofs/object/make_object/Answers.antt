@@ -11,4 +11,4 @@ returns-clause-made g c =
     let old = g.O.HasHeap.heap c.args.o.now in
     let new = g.O.HasHeap.heap c.take_words.new.o in
     IfOk-weaker _ _ (λ addr. MakesThing 72 addr (object_entries addr (empty_row c.args.acct)) old new)
-    (λ addr t. makes_empty c.args.acct c.account_number-number.result c.account_number-number.ensures t) c.take_words.ensures.taken
+    (λ addr t. makes_empty c.args.acct c.number-number.result c.number-number.ensures t) c.take_words.ensures.taken
