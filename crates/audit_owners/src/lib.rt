@@ -1,21 +1,5 @@
-//! An audit of lists, hashes and names of a heap region in memory, behind the audit of its owners.
-//!
-//! The blocks of a chain are those to which its links lead, as many as the region has words at most (`members`); where the owners are
-//! right, these are the chain's (`chains_are_members`). It is checked in this order, and each of all blocks by rising address:
-//!
-//! 1. A list tells how many elements it has.
-//! 2. A hash tells how many entries it has; each has a key of the hash's length, in its bucket; and no two have the same key.
-//! 3. No entry of the catalogue, in its order, has the name of an earlier one.
-//!
-//! `wrong_key` tells the first place that is wrong, and tells none just where all are right (`keyed_regions_are_not_wrong`).
-//!
-//! Proved: `wrong_key` is the first wrong list, hash or name of the definition, and none exactly where all are
-//! right (`keyed_regions_are_not_wrong`). Where chains are right, their links lead to just their blocks
-//! (`chains_are_members`).
-//!
-//! Only tested: which places it gives, in numbers (`test_audit`).
-//!
-//! An audit of who owns each block of a heap region, behind the audit of the region's structure.
+//! An audit of who owns each block of a heap region in memory, behind the audit of the region's structure, and of what lists, hashes
+//! and names tell of what they own.
 //!
 //! Blocks are linked into chains: the catalogue's entries, the tickets of both accounts, and the elements, entries, extents and
 //! capsules of lists, hashes and zero-copy objects. It is checked in this order:
@@ -31,9 +15,17 @@
 //! where each is that of what is read of it, as it is in the form of its kind (`chained_blocks_read_back`).
 //! Small heaps with one thing wrong in each: `small_heaps_are_wrong_so`.
 //!
+//! Where the owners are right, the blocks of a chain are those to which its links lead, as many as the region has words at most
+//! (`members`, `chains_are_members`). `wrong_key` then checks in this order, each of all blocks by rising address:
+//!
+//! 1. A list tells how many elements it has.
+//! 2. A hash tells how many entries it has; each has a key of the hash's length, in its bucket; and no two have the same key.
+//! 3. No entry of the catalogue, in its order, has the name of an earlier one.
+//!
 //! Proved: `check_owners` answers Ok exactly where all chains and the five rules are right (`owned`), and else
 //! the first wrong place (`wrong`), whatever the bytes, and takes no memory. Right chains are rows of linked
-//! blocks, and such rows are right chains (`chains_are_linked_rows`, `linked_rows_make_chains`).
+//! blocks, and such rows are right chains (`chains_are_linked_rows`, `linked_rows_make_chains`). `wrong_key` is the first
+//! wrong list, hash or name of the definition, and none exactly where all are right (`keyed_regions_are_not_wrong`).
 //!
 //! Only tested: which places its rules give, in numbers (`test_audit`).
 #![tactic(auto)]

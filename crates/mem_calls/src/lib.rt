@@ -1,22 +1,8 @@
-//! What calls on raw objects, strings, the catalogue and accounts do to a world in memory. Each call's contract is its
-//! step of the world.
+//! What calls on raw objects, strings, the catalogue, accounts, lists, tables and hashes do to a world in memory. Each call's contract
+//! is its step of the world.
 //!
-//! Proved: each call on raw objects, strings, names and accounts is its step of the world (`Answers`,
-//! `StepsDry`); out of memory leaves the world as it was.
-//!
-//! Only tested: each call's answers (`tests/cases`).
-//!
-//! What calls on lists do to a world in memory. Each call's contract is its step of the world.
-//!
-//! Proved: each call on lists is its step of the world (`Answers`, `StepsDry`); out of memory leaves the world as
+//! Proved: each of these calls is its step of the world (`CallsMemory`, `StepsDry`); out of memory leaves the world as
 //! it was.
-//!
-//! Only tested: each call's answers (`tests/cases`).
-//!
-//! What calls on tables and hashes do to a world in memory. Each call's contract is its step of the world.
-//!
-//! Proved: each call on tables and hashes is its step of the world (`Answers`, `StepsDry`); out of memory leaves
-//! the world as it was.
 //!
 //! Only tested: each call's answers (`tests/cases`).
 #![tactic(auto)]

@@ -1,21 +1,15 @@
-//! Whole changes of a world in memory, put together of those that `DraftWorld` makes: what is charged for blocks, requests
-//! of tickets, components of objects, and what goes.
-//!
-//! 1. Where one is refused, the world is as before.
-//! 2. Where one finds no memory, the world now is as before: what was charged is given back.
-//!
-//! Proved: a charge is allowed or refused as the account says, and given back where nothing comes of it
-//! (`allowed`, `refused`, `same`, `err`). Requests, components and what goes with extents are as defined.
-//!
-//! A world in memory that can be put back to what it was at the begin of the open transaction.
+//! A world in memory that can be put back to what it was at the begin of the open transaction, and whole changes of it: what is
+//! charged for blocks, requests of tickets, components of objects, and what goes.
 //!
 //! 1. Contracts see the world at the begin and the world now, and which addresses were touched since.
-//! 2. Want of memory leaves the world now as before.
+//! 2. Where a change is refused, the world is as before. Where one finds no memory, the world now is as before: what was charged is
+//!    given back.
 //! 3. Sums over all things and what names a source or a raw object are found where they are asked for, in one pass.
 //!
 //! Proved: by the invariant of `DraftWorld` things own the blocks inside them (`AllOwnInside`). Blocks, charges,
 //! rooms, uses and the source of a raw object are found as defined (`block`, `charged`, `room`, `uses`,
-//! `source_on`). `roll_back` gives the world at begin.
+//! `source_naming`). `roll_back` gives the world at begin. A charge is allowed or refused as the account says, and given back
+//! where nothing comes of it (`allowed`, `refused`, `same`, `err`). Requests, components and what goes with extents are as defined.
 #![tactic(auto)]
 
 pub mod bonding;

@@ -1,41 +1,27 @@
-//! The whole audit of a heap region, and what it says of the heap.
+//! The whole audit of a heap region: it passes exactly where a world stands for the bytes.
 //!
 //! A region is read once, and its checks are taken in this order, each of which has its own order in which things are looked at:
 //!
 //! 1. Its structure: control words, blocks, start bits, lists of free blocks, and contents (`audit_blocks`).
 //! 2. Who owns each block; what blocks and control words count; and the queues of tickets (`audit_counts`).
 //!
-//! `check_structure` takes the first step alone. `check` tells the first place that is wrong by the check that found it, or takes a census of the blocks, and `read_world` makes the
-//! world in memory for which a region stands that passes. Such a region isn't wrong anywhere (`right_regions_are_not_wrong`), and no
-//! world stands for one in which something is wrong.
+//! `check_structure` takes the first step alone. `check` tells the first place that is wrong by the check that found it, or takes a
+//! census of the blocks, and `read_world` makes the world in memory for which a region stands that passes.
+//!
+//! The laws, each the contract of a function that does nothing:
+//!
+//! 1. A region that passes isn't wrong anywhere (`right_regions_are_not_wrong`).
+//! 2. A heap whose bytes stand for a world passes the audit of structure (`worlds_are_sound`) and of owners (`worlds_are_owned`), and
+//!    those of counts, rules, occupancies and queues (`worlds_are_right`).
+//! 3. What blocks and control words tell is the world for which they stand (`worlds_are_told`). So bytes stand for one whole world at
+//!    most (`one_world_stands`).
 //!
 //! Proved: `check` answers Ok only where the region is right, and then it stands for the world that it tells
 //! (`right`, `stands`). `Damaged` tells the first wrong place and its check, and then the region stands for no
-//! whole world (`damaged`, `none`). It only reads (`reads`).
+//! whole world (`damaged`, `none`). It only reads (`reads`). The laws above.
 //!
 //! Only tested: a census, and each check's place (`test_audit`); replays behind one another on one file
 //! (`tests/again`).
-//!
-//! A heap whose bytes stand for a whole world tells that world, and all that its blocks and control words tell of one another is
-//! right. Each law is the contract of a function that does nothing.
-//!
-//! 1. What its blocks and control words tell is the world for which they stand (`worlds_are_told`). So bytes stand for one whole
-//!    world at most (`one_world_stands`).
-//! 2. Each block has its owner; lists, hashes and names, the counts of sources, the rules of sources, extents and objects, and what
-//!    is occupied are right; and the queues keep their law (`worlds_are_right`).
-//!
-//! Proved: laws: a region that stands for a whole world tells that world (`worlds_are_told`), so it stands for no
-//! other (`one_world_stands`), and its owners, counts and queues are right (`worlds_are_right`).
-//!
-//! A heap whose bytes stand for a world passes the audit. Each law is the contract of a function that does nothing.
-//!
-//! 1. Its structure is right: control words, blocks, start bits, lists of free blocks, and what stands in each block in use
-//!    (`worlds_are_sound`).
-//! 2. The blocks of the world are linked into chains as their owners say, each stands in just one, and extents, sources and raw
-//!    objects name one another (`worlds_are_owned`).
-//!
-//! Proved: laws: a region of bytes that stands for a whole world passes the audit of structure
-//! (`worlds_are_sound`) and the audit of owners (`worlds_are_owned`).
 #![tactic(auto)]
 
 mod census;

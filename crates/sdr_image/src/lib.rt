@@ -1,4 +1,4 @@
-//! A disk with a heap on it: how it is formatted, and the image of one that is opened.
+//! A disk with a heap on it: how it is formatted, the image of one that is opened, and a look at one that isn't touched.
 //!
 //! 1. A disk has a head that tells how long its regions are, a log region, and a heap region.
 //!    `format` writes a head, a closed gate at the front of the log region, and a fresh heap.
@@ -17,24 +17,17 @@
 //!    the disk rest without the premise.
 //! 6. Once a call has answered `DiskFault`, each later call answers `Failed` and changes nothing, the
 //!    disk neither. The disk has to be opened again.
+//! 7. `peek` only reads. Where no batch is open, the heap region is what the disk gives; else the head and
+//!    the regions are read into a disk in memory, and the open batches are put back there, as recovery does
+//!    it. It leaves a `Still`: the heap region that opening would give, which can be read and not written.
 //!
 //! Proved: a commit is whole or nothing: a crash at any moment leaves the bytes at its begin or at its end, after
 //! `Ok` those at its end (`any_moment`, `saved`). `LogFull` comes exactly where the touched lines exceed the
-//! room, `NotFormatted` exactly where the disk gives no heap.
+//! room, `NotFormatted` exactly where the disk gives no heap. `peek` gives the heap that the disk gives, put back
+//! in memory (`heap`), and only reads the disk (`reads`).
 //!
 //! Only tested: what opening makes of each image of a crash in a commit; a fault at each of its calls; the calls
 //! of `format` on a real file (once).
-//!
-//! A heap, looked at and not touched: what its disk gives, put back in memory.
-//!
-//! 1. The head tells where the regions lie. Where no batch is open, the heap region is what the disk gives.
-//! 2. Else the head and the regions are read into a disk in memory, and the open batches are put back there,
-//!    as recovery does it. The disk that was handed in is only read.
-//! 3. What is left is a `Still`: the heap region that opening the disk would give. It can be read, and a
-//!    write to it is refused.
-//!
-//! Proved: `peek` gives the heap that the disk gives, put back in memory (`heap`), `NotFormatted` exactly where
-//! there is none, and only reads the disk (`reads`).
 #![tactic(auto)]
 
 mod changing;

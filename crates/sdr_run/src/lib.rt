@@ -1,30 +1,22 @@
-//! A dry run of a script, on the machine in memory.
-//!
-//! 1. Each step is an event of a daemon, under what the names hold, and its answer is printed as it is made.
-//! 2. A call that asks bytes of files or items is answered by what media give: each piece is asked once, in order.
-//! 3. Behind the last step all daemons make their leaves, which print nothing.
-//!
-//! Proved: `run` prints the text of a run of the machine on the script's steps, whole, or a part from the front
-//! if the sink failed, or that of some first steps if it ran out of memory (`ok`, `output`, `memory`).
-//!
-//! Only tested: each call's answers (`tests/cases`).
-//!
-//! A schedule that runs on the heap of a disk.
+//! A script that runs, answer by answer: on the machine in memory (`run`), or on the heap of a disk (`replay`).
 //!
 //! 1. Each step is an event of a daemon, under what the names hold, and its answer is printed as it is
-//!    made. Where the output fails, nothing more is printed, and the run goes on.
-//! 2. Behind the last step all daemons make their leaves, which print nothing. Where an event or a name
+//!    made. Where the output of a replay fails, nothing more is printed, and the run goes on; a dry run stops.
+//! 2. A call that asks bytes of files or items is answered by what media give: each piece is asked once, in order. The answers
+//!    that tell that media failed, or gave too few bytes, are at most as many as the counts of these rose by.
+//! 3. Behind the last step all daemons make their leaves, which print nothing. Where an event or a name
 //!    finds no memory, no further step is made, and the leaves tell so. They take no memory.
-//! 3. `play` runs on any ground that tells what its calls did. The journal is that of the run.
-//! 4. `replay` opens the heap of a disk and plays on it, with the media that its sources name. At each
-//!    moment of the call a crash leaves the state after some first entries, and all that are done.
-//! 5. The answers that tell that media failed, or gave too few bytes, are at most as many as the counts
-//!    of these rose by. The media come back with the disk.
+//! 4. `play` runs on any ground that tells what its calls did. The journal is that of the run.
+//! 5. `replay` opens the heap of a disk and plays on it, with the media that its sources name. At each
+//!    moment of the call a crash leaves the state after some first entries, and all that are done. The media come back with the disk.
 //!
-//! Proved: `replay`: the printed answers and the journal are those of one run of the script on the heap that was
-//! opened (`ReplaysOn`). A crash at any moment of the call leaves a disk that opens to the state after some first
-//! entries, all done ones among them (`any_moment`, `LeavesJournal`). That no entry begins before the call is not
-//! proved.
+//! Proved: `run` prints the text of a run of the machine on the script's steps, whole, or a part from the front
+//! if the sink failed, or that of some first steps if it ran out of memory (`ok`, `output`, `memory`). `replay`: the printed
+//! answers and the journal are those of one run of the script on the heap that was opened (`ReplaysOn`). A crash at any moment
+//! of the call leaves a disk that opens to the state after some first entries, all done ones among them (`any_moment`,
+//! `LeavesJournal`). That no entry begins before the call is not proved.
+//!
+//! Only tested: each call's answers (`tests/cases`).
 #![tactic(auto)]
 
 mod handed;

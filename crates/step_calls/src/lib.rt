@@ -1,7 +1,7 @@
-//! The answer of each call, over any blocks and any media.
+//! The answer of each call, over any blocks and any media: the choice among the steps below.
 //!
-//! 1. Each call is a step of the machine on the world that the blocks stand for: here `free` and those on tables, hashes and the
-//!    catalogue, and those of the crates below by what they are on. Those that ask an object's bytes read media, and no other does.
+//! 1. Each call is a step of the machine on the world that the blocks stand for. Those that ask an object's bytes read media, and no
+//!    other does.
 //! 2. What is of a kind is kept wherever a heap stands for a world in which calls are served, and a call that its row answers
 //!    touches no more lines than its transaction may by what it has asked.
 //!

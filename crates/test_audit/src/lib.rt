@@ -1,11 +1,4 @@
-//! Tests of `audit_owners`, `audit_counts` and `sdr_audit`, as rows of literals, over heap regions in memory.
-//!
-//! A row is what is changed in a region that is right, and the place that is told then. Its literals come from the format, and not
-//! from the code.
-//!
-//! Proved: nothing; these are tests.
-//!
-//! Tests of `audit_blocks`, as rows of literals, over heap regions in memory.
+//! Tests of `audit_blocks`, `audit_owners`, `audit_counts` and `sdr_audit`, as rows of literals, over heap regions in memory.
 //!
 //! 1. A row is what is changed in a region that is right, and what is told then. Its literals come from the format, and not from the
 //!    code.
