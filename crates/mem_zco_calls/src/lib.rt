@@ -1,7 +1,7 @@
 //! What calls on sources and zero-copy objects do to a world in memory, and the pieces of the bytes of objects. Each
 //! call's contract is its step of the world.
 //!
-//! Proved: each call on sources and objects is its step of the world (`Answers`, `StepsDry`), on a world on which
+//! Proved: each call on sources and objects is its step of the world (`CallsMemory`, `StepsDry`), on a world on which
 //! calls can be made (`MayCall`); out of memory leaves the world as it was. `parts` gives the pieces of a
 //! transmit or receive (`pieces_asked`).
 //!

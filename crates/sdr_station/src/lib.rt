@@ -9,7 +9,7 @@
 //! 3. `Station` nests transactions on such a ground: an end is all or nothing, a doomed call is refused, and after a disk
 //!    fault everything fails.
 //!
-//! Proved: a heap on an image is a ground of the lock (`Serves for HeapGround`): each call is a step of the
+//! Proved: a heap on an image is a ground of the lock (`Backing for HeapGround`): each call is a step of the
 //! machine, and a crash at any moment leaves the world before the transaction or, in its end, that or the new
 //! one. Opening takes exactly the heaps that stand for a world (`opened`, `why`). `Station` nests transactions.
 //! That the lock never asks to keep a transaction with a stopped call is not proved.
