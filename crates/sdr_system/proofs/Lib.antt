@@ -1,3 +1,4 @@
+pub mod HeadsLemmas
 pub mod HeldLemmas
 pub mod PlaceLemmas
 pub mod UntoldLemmas

@@ -1,3 +1,4 @@
+pub mod Heads
 pub mod Held
 pub mod HeldFeed
 pub mod Place

@@ -5,16 +5,21 @@
 //!    is no file's.
 //! 2. An input is held: read whole, before the file is opened that it is for.
 //! 3. What was opened is asked whether it is a file, and then locked and synced.
+//! 4. What a disk holds at a first look is told by its head, or by whether its bytes are zero.
 //!
 //! Proved: which disk a word names (`IsPlace`). `FileDisk` is a disk that tells no bytes: it counts each error of
 //! its file as a fault, and makes no write and no sync after a failed sync (`broken`, `made`). A file that is
 //! made has at least the bytes asked for (`long`). What is held of an input are its first bytes, in order, up to its end, to
-//! its fault or to 1,048,577 (`HoldsInput`); the held source gives these and then the fault (`fails`).
+//! its fault or to 1,048,577 (`HoldsInput`); the held source gives these and then the fault (`fails`). Of disks that tell
+//! their bytes: what stands where a heap has its head (`Tells`), and whether the first bytes are zero (`zero`); both only read.
 //!
-//! Only tested: which bytes standard input, standard output and a file pass on; that a closed stream's descriptor is no file's.
+//! Only tested: which bytes standard input, standard output and a file pass on, and that what isn't ready is waited for
+//! (`test_disk`); that a closed stream's descriptor is no file's, and that an opening doesn't wait and asks the kind of what
+//! it opened (`tests/starters`).
 #![tactic(auto)]
 
 mod file_disk;
+mod heads;
 mod held;
 mod opening;
 mod place;
@@ -22,6 +27,7 @@ mod real;
 mod streams;
 
 pub use file_disk::FileDisk;
+pub use heads::{Head, head_of, is_zero};
 pub use held::{Held, HeldSource, MOST_HELD, hold};
 pub use opening::{make_disk, open_disk, view_disk};
 pub use place::{Place, place_of};

@@ -1,7 +1,9 @@
 // The call of `top` that answers a form.
-ghost use Rattle.std.specs.Prelude.{◌≡◌, Some};
+ghost use Rattle.std.specs.Prelude.{◌≡◌, ◌↔◌, Some, None, codes};
+ghost use Rattle.sdr_log.specs.Frame.{IsInLimits};
 ghost use Rattle.sdr_run.specs.Replaying.{IsSettled};
-ghost use Rattle.sdr_shell.specs.Form.{form_of};
+ghost use Rattle.sdr_shell.specs.Answers.{Wrote, seen};
+ghost use Rattle.sdr_shell.specs.Form.{OnFormat, form_of};
 ghost use Rattle.sdr_shell.specs.declared.form.Form.{Form};
 ghost use Rattle.sdrtool.specs.Answered.{IsAnswered};
 
@@ -9,7 +11,7 @@ use crate::CANNOT_OPEN;
 use crate::notes::{note_forms, note_loss, note_no_heap, note_unopened};
 use sdr_base::{Media, NoGate, Sink, Source, write_all};
 use sdr_disk::{Disk, MemoryDisk};
-use sdr_shell::{Form, NO_MEMORY, NOT_FORMATTED, top};
+use sdr_shell::{Form, NO_MEMORY, NOT_FORMATTED, USAGE, top};
 use sdr_system::{FileDisk, Place, hold, make_disk, open_disk, place_of, view_disk};
 use sdr_words::{ScriptError, read_script};
 use std::fs::File;
@@ -60,7 +62,9 @@ fn answer_in_memory<
     M: Media + Send + Drop,
     S: Source,
     K: Sink,
->(rt: &R, words: &[RcStr], media: M, input: &mut S, output: &mut K) -> u8 {
+>(rt: &R, words: &[RcStr], media: M, input: &mut S, output: &mut K) -> u8
+    ensures usage { (result ≡ USAGE) ↔ (form_of words.now ≡ None) }
+{
     let disk = MemoryDisk::new(Vec::new(rt.alloc()), Vec::new(rt.alloc()));
     answer(rt, words, disk, media, input, output).status
 }
@@ -71,7 +75,10 @@ pub fn answer_usage<
     M: Media + Send + Drop,
     S: Source,
     K: Sink,
->(rt: &R, words: &[RcStr], media: M, input: &mut S, output: &mut K) -> u8 {
+>(rt: &R, words: &[RcStr], media: M, input: &mut S, output: &mut K) -> u8
+    requires none { form_of words.now ≡ None }
+    ensures { result ≡ USAGE }
+{
     note_forms(rt);
     answer_in_memory(rt, words, media, input, output)
 }
@@ -105,7 +112,9 @@ fn answer_on_file<
     media: M,
     input: &mut S,
     output: &mut K,
-) -> u8 {
+) -> u8
+    requires limits { OnFormat (Some asked.form) IsInLimits }
+{
     let mut disk = match open_for(rt, asked.form, path, bytes) {
         Ok(disk) => disk,
         Err(error) => {
@@ -125,7 +134,11 @@ fn answer_on_file<
 }
 
 // The status where there is no memory for the input.
-fn answer_starved<K: Sink>(output: &mut K) -> u8 {
+fn answer_starved<K: Sink>(output: &mut K) -> u8
+    ensures status { result ≡ NO_MEMORY }
+    ensures written { Wrote (seen K.taken K.faults output.old) (seen K.taken K.faults output.new)
+        (codes "no memory\n") }
+{
     let _ = write_all(output, b"no memory\n");
     NO_MEMORY
 }
@@ -145,7 +158,9 @@ fn replay_on_file<
     media: M,
     input: &mut S,
     output: &mut K,
-) -> u8 {
+) -> u8
+    requires limits { OnFormat (Some asked.form) IsInLimits }
+{
     let Ok(held) = hold(rt.alloc(), input) else {
         return answer_starved(output);
     };
@@ -162,7 +177,9 @@ pub fn answer_form<
     M: Media + Send + Drop,
     S: Source,
     K: Sink,
->(rt: &R, asked: Asked<'_>, media: M, input: &mut S, output: &mut K) -> u8 {
+>(rt: &R, asked: Asked<'_>, media: M, input: &mut S, output: &mut K) -> u8
+    requires limits { OnFormat (Some asked.form) IsInLimits }
+{
     let (path, bytes) = match place_of(asked.disk) {
         Place::Memory => return answer_in_memory(rt, asked.words, media, input, output),
         Place::File { path } => (path, None),

@@ -12,16 +12,16 @@
 //! 6. The words, the disk and the input go to the top call, whose status the program ends with.
 //! 7. Files and bulk items are those of the current folder.
 //!
-//! Proved: `main` calls `top` as its contract wants. `--help` and `--version` are printed whole, or the output
-//! failed (`done`, `cause`).
+//! Proved: `main` calls `top` as its contract wants, and a form's status and disk are the ones that it gave (`IsAnswered`).
+//! `--help` and `--version` are printed whole, or the output failed (`done`, `cause`). What is told of a disk is read alone.
 //!
-//! Only tested: the program on files (`tests/run`), power loss after each write of a replay (`tests/crash`), a
-//! fault at each call on media (`tests/faults`).
+//! Only tested: that words are tried before a file is opened, that `dry` and a refused script open none, what standard error
+//! says, and each of the descriptors 0 to 2 closed, with each form (`tests/starters`); the program on files (`tests/run`),
+//! power loss after each write of a replay (`tests/crash`), a fault at each call on media (`tests/faults`).
 #![tactic(auto)]
 
 mod about;
 mod answering;
-mod heads;
 mod notes;
 
 use crate::about::{HELP, VERSION, print};

@@ -1,8 +1,12 @@
 // What standard error says beside the status.
+ghost use Rattle.std.specs.Prelude.{◌≡◌, ◌≤◌};
+ghost use Rattle.sdr_disk.specs.Moments.{Reads};
+ghost use Rattle.sdr_log.specs.Frame.{IsInLimits};
+
 use crate::about::FORMS;
-use crate::heads::{Head, head_of, is_zero};
 use sdr_disk::{Disk, DiskFault};
 use sdr_log::Frame;
+use sdr_system::{Head, head_of, is_zero};
 use std::io;
 
 /// Says which forms there are.
@@ -23,6 +27,7 @@ pub fn note_unopened(rt: &impl Eprint, path: &str, error: &io::Error) {
 
 /// Says what is lost of a disk that is formatted with these regions: its heap, or other bytes. Of a disk that
 /// is too short for them nothing is.
+#[tactic(auto, using(sdr_system::proofs::HeadsLemmas::looking))]
 pub fn note_loss<D: Disk>(
     rt: &impl Eprint,
     path: &str,
@@ -30,7 +35,9 @@ pub fn note_loss<D: Disk>(
     disk: &mut D,
 ) -> Result<(), DiskFault>
     requires { IsInLimits frame }
-    ensures { Reads D.bytes D.moment D.may_hold_after disk.old disk.new }
+    ensures later { D.faults disk.old ≤ D.faults disk.new }
+    ensures size { D.size disk.new ≡ D.size disk.old }
+    ensures reads { Reads D.bytes D.moment D.may_hold_after disk.old disk.new }
 {
     let bytes = frame.disk_bytes();
     if disk.len() < bytes {
@@ -53,7 +60,12 @@ pub fn note_loss<D: Disk>(
 }
 
 /// Says of a disk that gives no heap why, where it begins as one.
-pub fn note_no_heap<D: Disk>(rt: &impl Eprint, path: &str, disk: &mut D) -> Result<(), DiskFault> {
+#[tactic(auto, using(sdr_system::proofs::HeadsLemmas::looking))]
+pub fn note_no_heap<D: Disk>(rt: &impl Eprint, path: &str, disk: &mut D) -> Result<(), DiskFault>
+    ensures later { D.faults disk.old ≤ D.faults disk.new }
+    ensures size { D.size disk.new ≡ D.size disk.old }
+    ensures reads { Reads D.bytes D.moment D.may_hold_after disk.old disk.new }
+{
     let have = disk.len();
     match head_of(disk)? {
         Head::None => {}

@@ -2,11 +2,15 @@
 // are counted.
 ghost use Rattle.std.specs.Prelude.{◌≤◌};
 
-use sdr_base::{Sink, SinkFault, Source, SourceFault};
+use sdr_base::{Bytes, MemorySource, NoMemory, Sink, SinkFault, Source, SourceFault};
 use sdr_disk::{Disk, DiskFault};
-use sdr_system::{FileDisk, Place, StdSink, StdSource, make_disk, open_disk, place_of};
+use sdr_system::{
+    FileDisk, Place, StdSink, StdSource, hold, make_disk, open_disk, place_of, take_streams,
+    view_disk,
+};
+use std::alloc::Global;
 use std::fs::{File, Metadata, OpenFile};
-use std::io::{Cursor, Read, Write};
+use std::io::{Cursor, ErrorKind, Read, Write};
 use std::os::unix::fs::FileExt;
 use std::process::Abort;
 use std::test::Fail;
@@ -32,36 +36,40 @@ impl Write for Broken {
     }
 }
 
-/// A reader and writer of one byte each, whose first calls a signal breaks off.
+/// A reader and writer of one byte each, whose first calls end with an error: that a signal broke them off, or that it
+/// isn't ready.
 #[derive(Drop)]
-struct Signalled {
-    signals: u8,
+struct Late {
+    calls: u8,
+    kind: ErrorKind,
 }
 
-impl Signalled {
-    // Whether a signal comes first.
-    fn is_broken_off(&mut self) -> bool {
-        let is_first = self.signals > 0;
-        self.signals = self.signals.saturating_sub(1);
-        is_first
+impl Late {
+    // The error that comes first.
+    fn error(&mut self) -> Option<io::Error> {
+        if self.calls == 0 {
+            return None;
+        }
+        self.calls -= 1;
+        Some(io::Error::from(self.kind))
     }
 }
 
-impl Read for Signalled {
+impl Read for Late {
     fn read(&mut self, into: &mut [u8]) -> io::Result<usize> {
-        if self.is_broken_off() {
-            return Err(io::Error::from(io::ErrorKind::Interrupted));
+        match self.error() {
+            Some(error) => Err(error),
+            None => Ok(into.len().min(1)),
         }
-        Ok(into.len().min(1))
     }
 }
 
-impl Write for Signalled {
+impl Write for Late {
     fn write(&mut self, from: &[u8]) -> io::Result<usize> {
-        if self.is_broken_off() {
-            return Err(io::Error::from(io::ErrorKind::Interrupted));
+        match self.error() {
+            Some(error) => Err(error),
+            None => Ok(from.len().min(1)),
         }
-        Ok(from.len().min(1))
     }
 
     fn flush(&mut self) -> io::Result<()> {
@@ -70,23 +78,28 @@ impl Write for Signalled {
 }
 
 #[test]
-fn a_signal_is_no_fault(rt: HostRuntime) {
+fn a_signal_is_no_fault_and_what_is_not_ready_is_waited_for(rt: HostRuntime) {
     let mut piece = [0u8; 6];
-    let mut source = StdSource::new(Signalled { signals: 3 });
-    assert_eq!(rt; source.read(&mut piece), Ok(1));
-    let mut sink = StdSink::new(Signalled { signals: 3 });
-    assert_eq!(rt; sink.write(b"lock"), Ok(1));
+    for kind in [ErrorKind::Interrupted, ErrorKind::WouldBlock] {
+        let mut source = StdSource::new(Late { calls: 3, kind }, rt);
+        assert_eq!(rt; source.read(&mut piece), Ok(1));
+        let mut sink = StdSink::new(Late { calls: 3, kind }, rt);
+        assert_eq!(rt; sink.write(b"lock"), Ok(1));
+    }
 }
 
 #[test]
 fn standard_input_gives_what_is_read_and_a_fault_where_that_fails(rt: HostRuntime) {
-    let mut source = StdSource::new(b"1: begin".as_slice());
+    let mut source = StdSource::new(b"1: begin".as_slice(), rt);
     let mut piece = [0u8; 6];
     assert_eq!(rt; source.read(&mut piece), Ok(6));
     assert_eq!(rt; &piece, b"1: beg");
     assert_eq!(rt; source.read(&mut piece), Ok(2));
     assert_eq!(rt; source.read(&mut piece), Ok(0));
-    assert_eq!(rt; StdSource::new(Broken).read(&mut piece), Err(SourceFault));
+    assert_eq!(rt;
+        StdSource::new(Broken, rt).read(&mut piece),
+        Err(SourceFault)
+    );
 }
 
 #[test]
@@ -94,11 +107,38 @@ fn standard_output_takes_what_is_written_and_a_fault_where_that_fails(
     rt: HostRuntime,
 ) -> Result<(), Fail> {
     let mut room = [0u8; 4];
-    let mut sink = StdSink::new(room.as_mut_slice());
+    let mut sink = StdSink::new(room.as_mut_slice(), rt);
     assert_eq!(rt; sink.write(b"lock"), Ok(4));
     assert_eq!(rt; sink.write(b" 1"), Ok(0));
-    assert_eq!(rt; StdSink::new(Broken).write(b"lock"), Err(SinkFault));
+    assert_eq!(rt; StdSink::new(Broken, rt).write(b"lock"), Err(SinkFault));
     Ok(())
+}
+
+// An input that is held, as it is read again: how many bytes, and whether it fails behind them.
+fn held_again(alloc: Global, source: &mut impl Source) -> Result<(usize, bool), NoMemory> {
+    let held = hold(alloc, source)?;
+    let again = hold(alloc, &mut held.source())?;
+    Ok((again.bytes.len(), again.failed))
+}
+
+#[test]
+fn an_input_is_held_to_its_end_to_its_fault_or_as_far_as_a_script_may_go(
+    rt: HostRuntime,
+) -> Result<(), Fail> {
+    let text = Bytes::copied(rt.alloc(), b"1: begin")?;
+    let mut whole = MemorySource::new(text, Vec::new(rt.alloc()));
+    assert_eq!(rt; held_again(rt.alloc(), &mut whole)?, (8, false));
+    let text = Bytes::copied(rt.alloc(), b"1: begin")?;
+    let mut failing = MemorySource::new(text, [2].to_vec(rt.alloc())?);
+    assert_eq!(rt; held_again(rt.alloc(), &mut failing)?, (8, true));
+    let mut long = StdSource::new(io::repeat(b'#'), rt);
+    assert_eq!(rt; held_again(rt.alloc(), &mut long)?, (1_048_577, false));
+    Ok(())
+}
+
+#[test]
+fn the_descriptors_of_the_streams_are_taken(rt: HostRuntime) {
+    assert!(rt; take_streams(&rt).is_ok());
 }
 
 // The file of the test of `FileDisk`, which it makes and removes.
@@ -119,6 +159,11 @@ fn a_file_is_made_of_zeros_keeps_what_is_written_and_is_locked(
     let mut longer = make_disk(&rt, PATH, 64)?;
     assert_eq!(rt; longer.len(), 128);
     read_two_bytes(&rt, &mut longer);
+    assert!(rt; view_disk(&rt, PATH).is_err());
+    drop(longer);
+    // Two may look at it at once.
+    let first = view_disk(&rt, PATH)?;
+    assert_eq!(rt; view_disk(&rt, PATH)?.len(), first.len());
     fs::remove_file(&rt, PATH)?;
     Ok(())
 }
