@@ -1,0 +1,9 @@
+pub mod Ends
+pub mod Entries
+pub mod Found
+pub mod Knowing
+pub mod Lending
+pub mod Plays
+pub mod Seats
+pub mod Serving
+pub mod Views

@@ -1,0 +1,17 @@
+use std::collections::LinkedList;
+
+/// What a seat knows. No value of it is made: contracts and proofs alone speak of it.
+pub struct Known<E> {
+    /// The numbers that it drew, rising.
+    pub numbers: LinkedList<u64>,
+    /// The number that it holds, or 0.
+    pub number: u64,
+    /// It has the value.
+    pub took: bool,
+    /// How many numbers were done when it last looked, took the value or gave it back.
+    pub front: u64,
+    /// The entries that the value had when it last took or gave it.
+    pub seen: LinkedList<E>,
+    /// The entries that it added itself, in order.
+    pub mine: LinkedList<E>,
+}
