@@ -17,7 +17,7 @@ pub fn sound_regions_keep_heaps()
 
 /// A law: a region that passes each check isn't wrong by any. It does nothing.
 pub fn sound_regions_are_not_wrong()
-    ensures { (bytes : List ℕ) (why : Why) (place : ℕ) →
+    ensures { (bytes : List ℕ) (why : StructureCheck) (place : ℕ) →
         IsSoundRegion bytes → RegionIsWrongFirst bytes why place → ⊥ }
 {}
 

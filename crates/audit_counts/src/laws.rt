@@ -11,13 +11,13 @@ ghost use Rattle.audit_owners.specs.declared.owner.Owner.{Owner};
 
 /// A law: a region whose owners, counts and queues are right isn't wrong anywhere. It does nothing.
 pub fn right_regions_are_not_wrong()
-    ensures { (bytes : List ℕ) (why : Why) (place : ℕ) →
+    ensures { (bytes : List ℕ) (why : ThingCheck) (place : ℕ) →
         IsRightRegion bytes → CountsAreWrongFirst bytes why place → ⊥ }
 {}
 
 /// A law: a region is wrong first at one place alone, by one check. It does nothing.
 pub fn one_place_is_wrong_first()
-    ensures { (bytes : List ℕ) (why other : Why) (place elsewhere : ℕ) →
+    ensures { (bytes : List ℕ) (why other : ThingCheck) (place elsewhere : ℕ) →
         CountsAreWrongFirst bytes why place → CountsAreWrongFirst bytes other elsewhere →
         (why ≡ other) × (place ≡ elsewhere) }
 {}

@@ -5,6 +5,6 @@ ghost use Rattle.sdr_audit.specs.declared.error.Check.{Check};
 
 /// A law: a region that passes each check isn't wrong by any. It does nothing.
 pub fn right_regions_are_not_wrong()
-    ensures { (bytes : List ℕ) (why : Why) (place : ℕ) →
+    ensures { (bytes : List ℕ) (why : Check) (place : ℕ) →
         IsRight bytes → IsWrongFirst bytes why place → ⊥ }
 {}

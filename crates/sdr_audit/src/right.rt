@@ -12,6 +12,6 @@ ghost use Rattle.audit_owners.specs.Owned.{AreBytes};
 pub fn worlds_are_right()
     ensures right { (bytes : List ℕ) (w : World) (P : Pools) →
         StandsForWhole bytes w P → AreBytes bytes → IsRightRegion bytes }
-    ensures not_wrong { (bytes : List ℕ) (w : World) (P : Pools) (why : Why) (place : ℕ) →
+    ensures not_wrong { (bytes : List ℕ) (w : World) (P : Pools) (why : ThingCheck) (place : ℕ) →
         StandsForWhole bytes w P → AreBytes bytes → CountsAreWrongFirst bytes why place → ⊥ }
 {}

@@ -12,6 +12,6 @@ ghost use Rattle.audit_blocks.specs.declared.error.StructureCheck.{StructureChec
 pub fn worlds_are_sound()
     ensures sound { (bytes : List ℕ) (w : World) (P : Pools) → StandsForWhole bytes w P →
         AreBytes bytes → IsSound bytes P.small P.large }
-    ensures right { (bytes : List ℕ) (w : World) (P : Pools) (why : Why) (place : ℕ) →
+    ensures right { (bytes : List ℕ) (w : World) (P : Pools) (why : StructureCheck) (place : ℕ) →
         StandsForWhole bytes w P → AreBytes bytes → RegionIsWrongFirst bytes why place → ⊥ }
 {}

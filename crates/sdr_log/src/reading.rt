@@ -15,7 +15,7 @@ use sdr_base::Items;
 use std::alloc::Global;
 
 // The record at the front.
-#[tactic(auto, unfolding(crate::specs::Frame::number))]
+#[tactic(auto, unfolding(crate::specs::Frame::first_number))]
 fn first_record(bytes: &[u8]) -> Record
     requires { 68 ≤ length bytes.now }
     ensures { result ≡ record { line = first_number (take 4 bytes.now); bytes = part 4 64 bytes.now } }

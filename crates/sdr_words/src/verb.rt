@@ -256,7 +256,7 @@ fn verb_in(rows: &[Row], place: usize) -> Verb
 }
 
 // The table: its verbs, their names and the shapes of their arguments are the grammar's.
-#[tactic(auto, unfolding(crate::specs::Verbs::verbs, crate::specs::Verbs::names, crate::specs::Verbs::shapes))]
+#[tactic(auto, unfolding(crate::specs::Verbs::verbs, crate::specs::Verbs::verb_names, crate::specs::Verbs::shapes))]
 fn table() -> &'static [Row]
     ensures verbs { map (λ row. row.0) result.now ≡ verbs }
     ensures names { map (λ row. row.1.now) result.now ≡ verb_names }
