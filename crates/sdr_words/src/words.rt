@@ -5,12 +5,12 @@ ghost use Rattle.std.specs.List.{list_all};
 ghost use Rattle.std.specs.Option.{option_copied};
 ghost use Rattle.sdr_words.specs.Words.{
   is_decimal,
-  number_of,
+  as_number,
   is_name_byte,
   is_name,
   is_quoted,
   quoted_of,
-  daemon_of,
+  as_daemon,
 };
 
 use sdr_text::are_text_bytes;
@@ -31,7 +31,7 @@ fn is_decimal(bytes: &[u8]) -> bool
 
 /// The number that a field is.
 pub fn number_of(field: &[u8]) -> Option<u64>
-    ensures { result ≡ number_of field.now }
+    ensures { result ≡ as_number field.now }
 {
     if !is_decimal(field) {
         return None;
@@ -88,7 +88,7 @@ pub fn quoted_of(field: &[u8]) -> Option<&[u8]>
 
 /// The daemon that a field names.
 pub fn daemon_of(field: &[u8]) -> Option<u8>
-    ensures { result ≡ daemon_of field.now }
+    ensures { result ≡ as_daemon field.now }
 {
     let [number @ .., b':'] = field else {
         return None;
