@@ -1,8 +1,4 @@
 // The call of `top` that answers a form.
-ghost use Rattle.std.specs.Prelude.{◌≡◌, Some};
-ghost use Rattle.sdr_run.specs.Replaying.{IsSettled};
-ghost use Rattle.sdr_shell.specs.Form.{form_of};
-ghost use Rattle.sdr_shell.specs.declared.form.Form.{Form};
 ghost use Rattle.sdrtool.specs.Answered.{IsAnswered};
 
 use crate::CANNOT_OPEN;
@@ -42,7 +38,6 @@ fn answer<
     S: Source,
     K: Sink,
 >(rt: &R, words: &[RcStr], disk: D, media: M, input: &mut S, output: &mut K) -> Answered<D>
-    requires settled { form_of words.now ≡ Some Form.Replay → IsSettled D.Disk disk }
     ensures { IsAnswered D.Disk M.Media S.Source K.Sink words.now disk media
         input.old input.new output.old output.new result }
 {
@@ -54,7 +49,6 @@ fn answer<
 }
 
 // The status of the top call on an empty disk in memory.
-#[tactic(auto, using(sdr_shell::proofs::FreshLemmas::fresh_settled))]
 fn answer_in_memory<
     R: Threads + Wait + Sync + AllocGlobal,
     M: Media + Send + Drop,
@@ -91,7 +85,6 @@ fn open_for<R: Files<File = File> + AllocGlobal>(
 }
 
 // The status of a form on the file of a path, where it can be opened.
-#[tactic(auto, using(sdr_system::specs::Untold::untold))]
 fn answer_on_file<
     R: Threads + Wait + Sync + AllocGlobal + Eprint + Files<File = File>,
     M: Media + Send + Drop,

@@ -12,8 +12,8 @@
 //! 6. The words, the disk and the input go to the top call, whose status the program ends with.
 //! 7. Files and bulk items are those of the current folder.
 //!
-//! Proved: `main` calls `top` as its contract wants. `--help` and `--version` are printed whole, or the output
-//! failed (`done`, `cause`).
+//! Proved: what `top` answers to the words stands (`IsAnswered`); it asks nothing of the disk. `--help` and `--version` are printed
+//! whole, or the output failed (`done`, `cause`).
 //!
 //! Only tested: the program on files (`tests/run`), power loss after each write of a replay (`tests/crash`), a
 //! fault at each call on media (`tests/faults`).

@@ -1,5 +1,0 @@
-use Rattle.std.proofs.Common.{rules}
-use Rattle.sdrtool.proofs.answer.Goals as goal
-
-pub top-requires : goal.top-requires
-top-requires g c = (search rules, (search rules, (search rules, (search rules, c.requires.settled))))
