@@ -9,8 +9,8 @@ use Rattle.sdr_base.specs.declared.refusal.Refusal.TheVariants as refusals
 use Rattle.sdr_core.specs.CoreKept.{RunStart, BeginsOn, IsRunOf, LoggedLock, core_at}
 use Rattle.sdr_core.specs.Leaving.{RunLeads}
 use Rattle.sdr_run.proofs.MediaLemmas.{caused_later, caused_more, failed_refl}
-use Rattle.sdr_run.proofs.ScheduleLemmas.{bindings_after, bindings_after-push, follows-push, run_text-push, runs-push}
-use Rattle.sdr_run.specs.Schedule.{AreCaused, HaveFailed, IsCaused, MakesEvent, daemons_of, from_to, run_text}
+use Rattle.sdr_run.proofs.ScheduleLemmas.{bindings_after-push, follows-push, run_text-push, runs-push}
+use Rattle.sdr_run.specs.Schedule.{AreCaused, HaveFailed, IsCaused, MakesEvent, bindings_after, daemons_of, from_to, run_text}
 use Rattle.sdr_machine.specs.Core.{CoreStep, RunsCore, first_core}
 use Rattle.sdr_machine.specs.Crash.{is_sound}
 use Rattle.sdr_machine.specs.Lapses.{LapsesLast, HasLapseCause}

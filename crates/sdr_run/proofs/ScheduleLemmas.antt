@@ -15,15 +15,10 @@ use Rattle.mem_machine.specs.Asking.{made_dry}
 use Rattle.sdr_base.specs.Media.{Told}
 use Rattle.sdr_words.specs.Bindings.{Binding, bound, event_of}
 use Rattle.sdr_run.proofs.MediaLemmas.{caused_later, caused_more, failed_refl}
-use Rattle.sdr_run.specs.Schedule.{StepAnswered, AreCaused, FollowsScript, HaveFailed, IsCaused, MakesEvent, MediaChange, RunsDry, SeenMedia, SomeAnswer, SomeRun, answer_line, run_text, daemons_of, from_to}
+use Rattle.sdr_run.specs.Schedule.{StepAnswered, AreCaused, FollowsScript, HaveFailed, IsCaused, MakesEvent, MediaChange, RunsDry, SeenMedia, SomeAnswer, SomeRun, answer_line, bindings_after, run_text, daemons_of, from_to}
 use Rattle.sdr_text.proofs.TextLemmas.{part_later}
 use Rattle.sdr_text.specs.Text.{line_text}
 use Rattle.sdr_model.specs.declared.script.ScriptStep.{ScriptStep}
-
--- what the names hold after the steps were answered so
-abbrev pub bindings_after : List Binding → List ScriptStep → List Made → List Binding
-bindings_after bindings (step ∷ steps) (e ∷ made) = bindings_after (bound bindings step e.said.answer) steps made
-bindings_after bindings steps made = bindings
 
 -- the event of the step, with these moves
 abbrev pub made_of : List Binding → ScriptStep → Came → List Move → Machine → Made

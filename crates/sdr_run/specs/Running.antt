@@ -1,8 +1,7 @@
 -- A schedule that runs, step by step.
 use Rattle.std.specs.Prelude.{◌≡◌, ℕ, List, [], ◌++◌, true}
 use Rattle.sdr_core.specs.CoreKept.{RunStart, LoggedLock, MakesCoreStep, core_at}
-use Rattle.sdr_run.proofs.ScheduleLemmas.{bindings_after}
-use Rattle.sdr_run.specs.Schedule.{AreCaused, FollowsScript, daemons_of, from_to, run_text}
+use Rattle.sdr_run.specs.Schedule.{AreCaused, FollowsScript, bindings_after, daemons_of, from_to, run_text}
 use Rattle.sdr_machine.specs.Core.{RunsCore, first_core}
 use Rattle.sdr_machine.specs.Machine.{Made}
 use Rattle.sdr_machine.specs.Serving.{IsInState}

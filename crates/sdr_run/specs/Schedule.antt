@@ -98,6 +98,11 @@ FollowsScript bindings (step ∷ steps) (e ∷ made) = MakesEvent bindings step 
 FollowsScript bindings [] (e ∷ made) = ⊥
 FollowsScript bindings (step ∷ steps) [] = ⊥
 
+-- what the names hold after the steps were answered so
+abbrev pub bindings_after : List Binding → List ScriptStep → List Made → List Binding
+bindings_after bindings (step ∷ steps) (e ∷ made) = bindings_after (bound bindings step e.said.answer) steps made
+bindings_after bindings steps made = bindings
+
 -- the machine may answer a daemon's event of a statement on a line so, where media tell this, and goes on to m'
 pub record Responds (told : Option Told) (m : Machine) (daemon line : ℕ) (event : Event) (a : Came) (m' : Machine) : Type 0 where
   pub steps : StepsAt m daemon line event a m'
