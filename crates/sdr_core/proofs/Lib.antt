@@ -13,3 +13,4 @@ pub mod RunLemmas
 pub mod SafeLemmas
 pub mod SpokenLemmas
 pub mod StepLemmas
+pub mod TimeLemmas

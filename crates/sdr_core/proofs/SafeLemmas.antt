@@ -3,7 +3,7 @@ use Rattle.std.proofs.Common.{◌≡◌, ◌∙◌, ◌≤◌, ◌<◌, ◌++◌
 use Rattle.std.proofs.lemmas.Bool.Decides.{nat_tests}
 use Rattle.std.specs.Option.{option_to_list}
 use Rattle.sdr_base.proofs.WrittenLemmas.{rose_later}
-use Rattle.sdr_machine.specs.Core.{Core, CoreStep, all_said, closed_by}
+use Rattle.sdr_machine.specs.Core.{Core, CoreStep, all_said, closed_by, first_core}
 use Rattle.sdr_machine.specs.Crash.{LeavesOr, OpensAfter, as_ended, done_by, end_told, is_sound, is_whole, commits_by}
 use Rattle.sdr_machine.specs.Ground.{committed}
 use Rattle.sdr_machine.specs.Legal.{IsAfter, MayFollow, is_fault}
@@ -28,7 +28,8 @@ use Rattle.sdr_core.proofs.CrashLemmas.{done_by-done, done_by-open, done_by-unso
 use Rattle.sdr_core.proofs.EndLemmas.{EndsOrFaults, IsOuterEnd, end_keeps, outer_end}
 use Rattle.sdr_core.proofs.OpeningLemmas.{WouldStand, failed_safe, faulted_safe, still_safe, whole_safe}
 use Rattle.sdr_core.proofs.RunLemmas.{keeps_legal, later}
-use Rattle.sdr_core.specs.CoreKept.{RunStart, BeginsOn, IsRunOf, LoggedLock, KeepsRun, KeepsSafe, StepsCore, core_at}
+use Rattle.sdr_core.proofs.TimeLemmas.{between_more, run_between}
+use Rattle.sdr_core.specs.CoreKept.{RunStart, BeginsOn, IsRunOf, LoggedLock, KeepsRun, KeepsSafe, StepsCore, core_at, last_done}
 
 both : (a b : Bool) → (a && b) ≡ true → (a ≡ true) × (b ≡ true)
 both true b e = (refl, e)
@@ -355,6 +356,9 @@ pub run_ends : {T : Type 0} (g : Ghosts T) (b : RunStart) (k : LoggedLock T) (jo
 run_ends {T} g b k journal base same_journal same_base run safe =
     subst (λ entries. IsRunOf g b entries base) (sym same_journal) (subst (λ (t : T). IsRunOf g b k.log.journal t) (sym same_base) (record {
       legal = keeps_legal g b k run;
+      in_time =
+          between_more b.start (last_done b.start run.made) (g.moment k.lock.base) run.done k.log.journal
+          (run_between b.told b.start b.start run.made (first_core b.daemons b.first) (core_at k run.for) (omega arith) tt run.in_time run.runs);
       crash = safe.crash;
       early = safe.early;
       all = λ sound m ge. safe.all (none_of k.lock.roll.failed (sym safe.sound ∙ sound)) m ge;

@@ -1,5 +1,6 @@
 -- What the type of a core keeps.
 use Rattle.std.specs.Prelude.{◌≡◌, ◌≤◌, ◌<◌, ◌+◌, ℕ, List, [], ◌∷◌, Option, None, false, true, is_none, length, ⊤}
+use Rattle.std.specs.List.{AllByRecursion}
 use Rattle.sdr_base.specs.Causes.{Rose}
 use Rattle.sdr_base.specs.Media.{Told}
 use Rattle.sdr_machine.specs.Core.{AreInTime, Core, CoreStep, Log, RunsCore, first_core}
@@ -67,6 +68,15 @@ pub record KeepsRun {T : Type 0} (g : Ghosts T) (b : RunStart) (k : LoggedLock T
   pub in_time : AreInTime b.start made
   pub done : last_done b.start made ≤ g.moment k.lock.base
 
+-- the last event of the entry was made between these moments of the disk
+pub record IsMadeBetween (from to : ℕ) (e : Entry) : Type 0 where
+  pub begun : from ≤ e.begun
+  pub done : e.done ≤ to
+
+-- each entry's was, also where the disk failed in it
+abbrev pub AreMadeBetween : ℕ → ℕ → List Entry → Type 0
+AreMadeBetween from to journal = AllByRecursion (IsMadeBetween from to) journal
+
 -- what a crash leaves of a ground, where this is the journal and the disk has failed or not
 pub record KeepsSafe {T : Type 0} (g : Ghosts T) (b : RunStart) (journal : List Entry) (failed : Option ℕ) (base : T) : Type 0 where
   -- the disk has failed just where it did in an entry
@@ -99,10 +109,12 @@ pub record MakesCoreStep {T : Type 0} (g : Ghosts T) (daemon line : ℕ) (event 
   pub called : a.called ≡ true → new.roll.failed ≡ None
   pub drawn : new.roll.drawn ≤ old.roll.drawn + 1
 
--- What the ground and the journal are as a run ends: the journal is legal, and a crash leaves the state after some first entries
--- of it. Unless the disk failed, all of them are done, and the ground stands for the state after them.
+-- What the ground and the journal are as a run ends: the journal is legal, each entry was made since the run began and is done by now,
+-- and a crash leaves the state after some first entries. Unless the disk failed, a crash now leaves the state after all of them, for
+-- which the ground stands.
 pub record IsRunOf {T : Type 0} (g : Ghosts T) (b : RunStart) (journal : List Entry) (base : T) : Type 0 where
   pub legal : IsLegal b.told b.daemons b.first journal
+  pub in_time : AreMadeBetween b.start (g.moment base) journal
   pub crash : IsCrashSafe g.moment g.left (OpensAfter g.opens b.told b.daemons b.first journal) b.start journal base
   pub early : (m : ℕ) → m < b.start → done_by m journal ≡ 0
   pub all : is_sound journal ≡ true → (m : ℕ) → g.moment base ≤ m → done_by m journal ≡ length journal

@@ -15,7 +15,7 @@
 //! Proved: the type of `Core` keeps that its journal is that of a run of the machine (`KeepsRun`), and that at
 //! each moment a crash leaves the state after some first entries, all done ones among them (`KeepsSafe`). Each
 //! event is a step of that run (`MakesCoreStep`). Out of memory leaves all as it was (`err`). `finish` tells this
-//! (`IsRunOf`).
+//! (`IsRunOf`), and that each entry was made since the run began and is done by now (`in_time`).
 #![tactic(auto)]
 
 mod copying;

@@ -39,6 +39,7 @@ pub fn change_lines<D: Disk>(
         (λ x y. HasBytes frame (heap_of frame x) x → HoldLines (heap_of frame x) olds.now
         → AreLines news.now → HasBytes frame (put_records news.now (heap_of frame x)) y)) }
     ensures synced { OnOk result (IsSynced D.bytes D.moment D.may_hold_after disk.new) }
+    ensures forward { D.moment disk.old ≤ D.moment disk.new }
     ensures calls { D.moment disk.new ≤ D.moment disk.old + 2 * (length news.now + 7) }
     // A crash leaves all lines as they were, or all as they are now.
     ensures any_moment { IfTold (D.bytes disk.old)

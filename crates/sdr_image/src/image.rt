@@ -84,6 +84,7 @@ impl<D: Disk> Image<D> {
         ensures disk { Returns D.size D.bytes D.faults disk result }
         ensures quiet { IfTold (D.bytes disk) (λ x. first_gate x ≡ 0
             → Reads D.bytes D.moment D.may_hold_after disk (disk_in result)) }
+        ensures forward { D.moment disk ≤ D.moment (disk_in result) }
         ensures calls { IfOk result (λ i.
             D.moment i.disk ≤ D.moment disk + 2 * (i.restored + 3)) }
         ensures any_moment { IfTold (D.bytes disk)
@@ -226,6 +227,7 @@ impl<D: Disk> Image<D> {
 
         ensures disk { KeepsDisk D.size D.bytes self.old.disk self.new.disk }
         ensures idle { self.old.touched ≡ [] → self.new.disk ≡ self.old.disk }
+        ensures forward { D.moment self.old.disk ≤ D.moment self.new.disk }
         ensures calls { D.moment self.new.disk
             ≤ D.moment self.old.disk + 2 * calls_of (length self.old.touched) }
         ensures any_moment { self.old.failed ≡ false → Rests D.bytes D.moment D.may_hold_after self.old
@@ -264,6 +266,7 @@ impl<D: Disk> Image<D> {
 
         ensures disk { KeepsDisk D.size D.bytes self.old.disk self.new.disk }
         ensures idle { self.old.touched ≡ [] → self.new.disk ≡ self.old.disk }
+        ensures forward { D.moment self.old.disk ≤ D.moment self.new.disk }
         ensures calls { D.moment self.new.disk
             ≤ D.moment self.old.disk + 2 * calls_of (length self.old.touched) }
         ensures any_moment { self.old.failed ≡ false → Rests D.bytes D.moment D.may_hold_after self.old
@@ -301,6 +304,7 @@ impl<D: Disk> Image<D> {
         ensures stays { StaysAt result self.old self.new }
 
         ensures disk { KeepsDisk D.size D.bytes self.old.disk self.new.disk }
+        ensures forward { D.moment self.old.disk ≤ D.moment self.new.disk }
         ensures calls { D.moment self.new.disk
             ≤ D.moment self.old.disk + 2 * (length self.old.touched + 7) }
         ensures any_moment { Rests D.bytes D.moment D.may_hold_after self.old

@@ -70,6 +70,7 @@ fn restore<D: Disk>(alloc: Global, disk: &mut D, frame: Frame) -> Result<u64, Im
         → IsSynced D.bytes D.moment D.may_hold_after disk.new)) }
     ensures quiet { IfTold (D.bytes disk.old) (λ x. first_gate x ≡ 0
         → Reads D.bytes D.moment D.may_hold_after disk.old disk.new) }
+    ensures forward { D.moment disk.old ≤ D.moment disk.new }
     ensures calls { IfOk result (λ count.
         D.moment disk.new ≤ D.moment disk.old + 2 * (count + 3)) }
     ensures any_moment { IfTold (D.bytes disk.old)
@@ -120,6 +121,7 @@ pub fn load<D: Disk>(alloc: Global, disk: &mut D) -> Result<Loaded, ImageError>
     ensures disk { KeepsDisk D.size D.bytes disk.old disk.new }
     ensures quiet { IfTold (D.bytes disk.old) (λ x. first_gate x ≡ 0
         → Reads D.bytes D.moment D.may_hold_after disk.old disk.new) }
+    ensures forward { D.moment disk.old ≤ D.moment disk.new }
     ensures calls { IfOk result (λ l.
         D.moment disk.new ≤ D.moment disk.old + 2 * (l.restored + 3)) }
     ensures any_moment { IfTold (D.bytes disk.old)

@@ -116,6 +116,7 @@ impl Saving {
             (λ x y. HasBytes frame (put_records olds.now region.now) x
             → HasBytes frame region.now y)) }
         ensures synced { OnOk result (IsSynced D.bytes D.moment D.may_hold_after disk.new) }
+        ensures forward { D.moment disk.old ≤ D.moment disk.new }
         ensures calls { D.moment disk.new ≤ D.moment disk.old + 2 * (length olds.now + 7) }
         ensures any_moment { IfTold (D.bytes disk.old)
             (λ x. HoldsHeap frame (put_records olds.now region.now) x

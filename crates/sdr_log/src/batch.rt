@@ -82,6 +82,7 @@ pub fn write_batch<D: Disk>(
     ensures opens { OnOk result (Both (D.bytes disk.old) (D.bytes disk.new)
         (λ x y. MayOpen frame place records.now x (D.may_hold_after disk.old (D.moment disk.old))
         → OpensBatch frame place records.now x y (D.may_hold_after disk.new (D.moment disk.new)))) }
+    ensures forward { D.moment disk.old ≤ D.moment disk.new }
     ensures calls { D.moment disk.new ≤ D.moment disk.old + 8 }
     ensures any_moment { IfTold (D.bytes disk.old)
         (λ x. MayOpen frame place records.now x (D.may_hold_after disk.old (D.moment disk.old))

@@ -64,6 +64,7 @@ pub fn close<D: Disk>(disk: &mut D, frame: Frame) -> Result<(), DiskFault>
         (λ x y. IsOpen frame x (D.may_hold_after disk.old (D.moment disk.old))
         → Closes frame x y (D.may_hold_after disk.new (D.moment disk.new)))) }
     ensures synced { OnOk result (IsSynced D.bytes D.moment D.may_hold_after disk.new) }
+    ensures forward { D.moment disk.old ≤ D.moment disk.new }
     ensures calls { D.moment disk.new ≤ D.moment disk.old + 6 }
     // A crash leaves the heap from before the call, or the heap region as it stands.
     ensures any_moment { IfTold (D.bytes disk.old)

@@ -46,6 +46,7 @@ pub fn put_lines<D: Disk>(disk: &mut D, frame: Frame, lines: &[Record]) -> Resul
     ensures puts { OnOk result (Both (D.bytes disk.old) (D.bytes disk.new)
         (λ x y. MayPut frame lines.now x (D.may_hold_after disk.old (D.moment disk.old))
         → Puts frame lines.now x y (D.may_hold_after disk.new (D.moment disk.new)))) }
+    ensures forward { D.moment disk.old ≤ D.moment disk.new }
     ensures calls { D.moment disk.new ≤ D.moment disk.old + 2 * length lines.now }
     ensures any_moment { IfTold (D.bytes disk.old)
         (λ x. MayPut frame lines.now x (D.may_hold_after disk.old (D.moment disk.old))

@@ -61,6 +61,7 @@ fn restore<D: Disk>(disk: &mut D, frame: Frame, records: &[Record]) -> Result<()
     requires good { are_good frame.heap_lines records.now ≡ true }
     requires some { 0 < length records.now }
 
+    ensures forward { D.moment disk.old ≤ D.moment disk.new }
     ensures calls { D.moment disk.new ≤ D.moment disk.old + 2 * (length records.now + 3) }
     ensures back { OnOk result (Both (D.bytes disk.old) (D.bytes disk.new)
         (λ x y. Logs frame x records.now → PutsBack frame (length records.now) x y)) }
@@ -99,6 +100,7 @@ pub fn put_back_found<D: Disk>(alloc: Global, disk: &mut D, frame: Frame) -> Res
         (Reads D.bytes D.moment D.may_hold_after disk.old disk.new)) }
     ensures quiet { IfTold (D.bytes disk.old) (λ x. first_gate x ≡ 0
         → Reads D.bytes D.moment D.may_hold_after disk.old disk.new) }
+    ensures forward { D.moment disk.old ≤ D.moment disk.new }
     ensures calls { IfOk result (λ count.
         D.moment disk.new ≤ D.moment disk.old + 2 * (count + 3)) }
 
@@ -131,6 +133,7 @@ pub fn put_back<D: Disk>(alloc: Global, disk: &mut D, frame: Frame) -> Result<u6
         (Reads D.bytes D.moment D.may_hold_after disk.old disk.new)) }
     ensures quiet { IfTold (D.bytes disk.old) (λ x. first_gate x ≡ 0
         → Reads D.bytes D.moment D.may_hold_after disk.old disk.new) }
+    ensures forward { D.moment disk.old ≤ D.moment disk.new }
     ensures calls { IfOk result (λ count.
         D.moment disk.new ≤ D.moment disk.old + 2 * (count + 3)) }
 

@@ -3,7 +3,7 @@ use Rattle.std.proofs.Common.{◌≡◌, ◌∙◌, ◌≤◌, ℕ, List, [], tr
 use Rattle.std.specs.Prelude.{is_some}
 use Rattle.sdr_base.specs.Media.{Told}
 use Rattle.sdr_base.specs.declared.media.Media.{Ghosts as MediaGhosts}
-use Rattle.sdr_core.specs.CoreKept.{BeginsOn, IsRunOf}
+use Rattle.sdr_core.specs.CoreKept.{AreMadeBetween, BeginsOn, IsRunOf}
 use Rattle.sdr_disk.specs.Moments.{AtEach}
 use Rattle.sdr_disk.specs.Told.{IfTold}
 use Rattle.sdr_disk.specs.declared.disk.Disk.{Ghosts as DiskGhosts}
@@ -42,17 +42,18 @@ pub record OpenedSo {D M : Type 0} (d : DiskGhosts D) (disk : D) (files : M) (g 
   pub open_so : IsOpen d.bytes d.moment d.may_hold_after disk g
   pub keeps : KeepsDisk d.size d.bytes disk g.heap.cells.disk
   pub later : d.faults disk ≤ d.faults g.heap.cells.disk
+  pub forward : d.moment disk ≤ d.moment g.heap.cells.disk
   pub same : IfTold (d.bytes disk) (λ x. AtEach d.moment d.may_hold_after disk g.heap.cells.disk (GivesSame x))
 
 -- what opening told of the same disk
 pub opened_so : {D M : Type 0} (d : DiskGhosts D) (given disk : D) (files : M) (g : Grounded D M) → given ≡ disk → g.media ≡ files → IsSettled d disk
     → IsOpen d.bytes d.moment d.may_hold_after given g → KeepsDisk d.size d.bytes given g.heap.cells.disk → d.faults given ≤ d.faults g.heap.cells.disk
-    → IfTold (d.bytes given) (λ x. MayBeOpened x (d.may_hold_after given (d.moment given))
+    → d.moment given ≤ d.moment g.heap.cells.disk → IfTold (d.bytes given) (λ x. MayBeOpened x (d.may_hold_after given (d.moment given))
     → AtEach d.moment d.may_hold_after given g.heap.cells.disk (GivesSame x)) → OpenedSo d disk files g
-opened_so {D} d given disk files g same with_media settled open_so keeps later any_moment =
+opened_so {D} d given disk files g same with_media settled open_so keeps later forward any_moment =
     let settled_given : IsSettled d given = subst (λ (x : D). IsSettled d x) (sym same) settled in
     subst (λ (x : D). OpenedSo d x files g) same
-    (record { with_media = with_media; open_so = open_so; keeps = keeps; later = later; same = λ x is. any_moment x is (settled_given x is) })
+    (record { with_media = with_media; open_so = open_so; keeps = keeps; later = later; forward = forward; same = λ x is. any_moment x is (settled_given x is) })
 
 -- what is told of a disk that is left is told of the same one
 pub not_run : {D : Type 0} (d : DiskGhosts D) (given disk left now : D) (why : OpenError) → given ≡ disk → now ≡ left
@@ -67,11 +68,9 @@ module _ {D M : Type 0} (d : DiskGhosts D) (m : MediaGhosts M) (read_now : (x : 
   stands : StandsForBoth d.bytes d.moment d.may_hold_after g (standing_at (first_on g) [])
   stands = o.open_so.stands settled
 
-  -- where the disk told its bytes, its moment hasn't fallen
-  started : IfTold (d.bytes disk) (λ _. d.moment disk ≤ g.moment)
-  started x is =
-      let now = told_before (d.bytes g.heap.cells.disk) (d.bytes disk) x is (sym o.keeps.tells) in
-      omega (arith, (o.same x is).later, stands.moment_is now.0 now.1)
+  -- the disk's moment hasn't fallen
+  started : d.moment disk ≤ g.moment
+  started = omega (arith, o.forward, o.open_so.seen)
 
   -- at each moment of the opening a crash left what opens to the first state
   opening : (m : ℕ) (image : List ℕ) → d.moment disk ≤ m → m ≤ g.moment → Leaves d.bytes d.may_hold_after g.heap.cells.disk m image
@@ -92,19 +91,17 @@ module _ {D M : Type 0} (d : DiskGhosts D) (m : MediaGhosts M) (read_now : (x : 
   begins_now = record {
     told = refl;
     daemons_are = refl;
-    later = omega arith;
+    later = started;
     faults = o.later;
     rests = refl;
     moves = [];
     stands = stands;
-    opening = λ m image from to left.
-        let was = told_before (d.bytes disk) (d.bytes g.heap.cells.disk) left.bytes left.tells o.keeps.tells in
-        opening m image (omega (arith, from, started was.0 was.1)) to left;
+    opening = opening;
   }
 
   -- what the run leaves of the disk
   leaves_journal : (journal : List Entry) (base : Grounded D M) → IsRunOf (ground_of d m) (begins_on m (handed_as d disk) script g) journal base
-      → KeepsDisk d.size d.bytes disk base.heap.cells.disk → d.moment base.heap.cells.disk ≤ base.moment
+      → KeepsDisk d.size d.bytes disk base.heap.cells.disk → d.moment base.heap.cells.disk ≡ base.moment
       → LeavesJournal d (m.told g.media) (daemons_of script) (first_on g) journal disk base.heap.cells.disk
   leaves_journal journal base run keeps seen =
       let now = base.heap.cells.disk in
@@ -112,8 +109,9 @@ module _ {D M : Type 0} (d : DiskGhosts D) (m : MediaGhosts M) (read_now : (x : 
         keeps = keeps;
         any_moment = λ x is m image from to left.
             let at = told_before (d.bytes now) (d.bytes disk) x is (sym keeps.tells) in
-            run.crash m image (omega (arith, from)) (omega (arith, to, seen)) (record { bytes = at.0; tells = at.1; left = left });
-        early = λ x is m below. run.early m (omega (arith, below, started x is));
+            run.crash m image from (omega (arith, to, seen)) (record { bytes = at.0; tells = at.1; left = left });
+        in_time = subst (λ (n : ℕ). AreMadeBetween (d.moment disk) n journal) (sym seen) run.in_time;
+        early = λ x is m below. run.early m below;
         all = λ sound x is m from.
             let at = told_before (d.bytes now) (d.bytes disk) x is (sym keeps.tells) in
             let here : base.moment ≡ d.moment now = (run.rests sound).holds.moment_is at.0 at.1 in
@@ -135,7 +133,7 @@ module _ {D M : Type 0} (d : DiskGhosts D) (m : MediaGhosts M) (read_now : (x : 
 
   replays_now : (out out' : Output) (ran : Ran (Grounded D M)) (parts : D × M)
       → PlaysOut (ground_of d m) (begins_on m (handed_as d disk) script g) script g out out' ran → parts.0 ≡ ran.base.heap.cells.disk
-      → KeepsDisk d.size d.bytes disk ran.base.heap.cells.disk → d.moment ran.base.heap.cells.disk ≤ ran.base.moment → parts.1 ≡ ran.base.media
+      → KeepsDisk d.size d.bytes disk ran.base.heap.cells.disk → d.moment ran.base.heap.cells.disk ≡ ran.base.moment → parts.1 ≡ ran.base.media
       → ReplaysOn d m disk files script out out' (with_base ran parts)
   replays_now out out' ran parts plays on keeps seen media_is =
       let tells : m.told g.media ≡ m.told files = ap m.told o.with_media in
@@ -167,12 +165,12 @@ module _ {D M : Type 0} (d : DiskGhosts D) (m : MediaGhosts M) (read_now : (x : 
     pub replayed : (out out' : Output) (ran : Ran (Grounded D M)) (result : Ran (D × M))
         → PlaysOut (ground_of d m) (begins_on m was script g) script g out out' ran → result ≡ with_base ran result.base
         → result.base.0 ≡ ran.base.heap.cells.disk → d.size result.base.0 ≡ was.size → is_some (d.bytes result.base.0) ≡ was.tells
-        → d.moment result.base.0 ≤ ran.base.moment → result.base.1 ≡ ran.base.media → ReplaysOn d m disk files script out out' result
+        → d.moment result.base.0 ≡ ran.base.moment → result.base.1 ≡ ran.base.media → ReplaysOn d m disk files script out out' result
     replayed out out' ran result plays is on size tells seen media_is =
         let keeps : KeepsDisk d.size d.bytes disk result.base.0 =
         record { size = size ∙ ap (λ (w : HandedDisk). w.size) handed; tells = tells ∙ ap (λ (w : HandedDisk). w.tells) handed } in
         subst (λ (r : Ran (D × M)). ReplaysOn d m disk files script out out' r) (sym is)
         (replays_now out out' ran result.base
         (subst (λ (w : HandedDisk). PlaysOut (ground_of d m) (begins_on m w script g) script g out out' ran) handed plays) on
-        (subst (λ (x : D). KeepsDisk d.size d.bytes disk x) on keeps) (subst (λ (x : D). d.moment x ≤ ran.base.moment) on seen)
+        (subst (λ (x : D). KeepsDisk d.size d.bytes disk x) on keeps) (subst (λ (x : D). d.moment x ≡ ran.base.moment) on seen)
         media_is)

@@ -1,9 +1,9 @@
 -- A schedule that runs on the heap of a disk.
-use Rattle.std.specs.Prelude.{◌≡◌, ◌≤◌, ◌<◌, ℕ, List, Option, true, false, not, length, min}
+use Rattle.std.specs.Prelude.{◌≡◌, ◌≤◌, ◌<◌, ℕ, List, Option, true, false, not, length}
 use Rattle.sdr_base.specs.Causes.{Rose}
 use Rattle.sdr_base.specs.Media.{Told}
 use Rattle.sdr_base.specs.declared.media.Media.{Ghosts as MediaGhosts}
-use Rattle.sdr_core.specs.CoreKept.{RunStart}
+use Rattle.sdr_core.specs.CoreKept.{AreMadeBetween, RunStart}
 use Rattle.sdr_disk.specs.Moments.{AtEach}
 use Rattle.sdr_disk.specs.Told.{IfTold}
 use Rattle.sdr_disk.specs.declared.disk.Disk.{Ghosts as DiskGhosts}
@@ -27,10 +27,10 @@ use Rattle.sdr_station.specs.declared.error.OpenError.{OpenError}
 abbrev pub IsSettled : {D : Type 0} → DiskGhosts D → D → Type 0
 IsSettled d disk = IfTold (d.bytes disk) (λ x. MayBeOpened x (d.may_hold_after disk (d.moment disk)))
 
--- a run of the script's daemons begins with the world on the heap that was opened, no later than its disk was handed in
+-- a run of the script's daemons begins with the world on the heap that was opened, as its disk was handed in
 abbrev pub begins_on : {D M : Type 0} → MediaGhosts M → HandedDisk → List ScriptStep → Grounded D M → RunStart
 begins_on m was script g =
-    record { told = m.told g.media; daemons = daemons_of script; first = first_on g; start = min was.moment g.moment; faults = was.faults }
+    record { told = m.told g.media; daemons = daemons_of script; first = first_on g; start = was.moment; faults = was.faults }
 
 -- what a schedule has come to, on this
 abbrev pub with_base : {S T : Type 0} → Ran S → T → Ran T
@@ -45,6 +45,8 @@ pub record LeavesJournal {D : Type 0} (d : DiskGhosts D) (told : Option Told) (d
   -- at each moment of the call a crash leaves the state after some first entries, and all that are done
   pub any_moment : IfTold (d.bytes old) (λ _.
       IsCrashSafe d.moment d.may_hold_after (OpensAfter OpensAs told daemons first journal) (d.moment old) journal new)
+  -- each entry was begun since the begin of the call and done by its return, also where the disk failed in it
+  pub in_time : AreMadeBetween (d.moment old) (d.moment new) journal
   -- none was done before the call
   pub early : IfTold (d.bytes old) (λ _. (m : ℕ) → m < d.moment old → done_by m journal ≡ 0)
   -- unless the disk failed in an entry, all of them are done by now, nothing is pending, and a crash now leaves the state after all

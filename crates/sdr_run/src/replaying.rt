@@ -22,7 +22,7 @@ fn with_parts<D: Disk, M: Media, J: HandedIn>(
     ensures disk { result.base.0 ≡ ran.base.heap.cells.disk }
     ensures size { D.size result.base.0 ≡ J.was.size }
     ensures tells { is_some (D.bytes result.base.0) ≡ J.was.tells }
-    ensures seen { D.moment result.base.0 ≤ ran.base.moment }
+    ensures seen { D.moment result.base.0 ≡ ran.base.moment }
     ensures media { result.base.1 ≡ ran.base.media }
 {
     let Ran {

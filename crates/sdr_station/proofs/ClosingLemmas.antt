@@ -1,6 +1,6 @@
 -- A transaction of a heap on an image that is kept or put back.
 use Rattle.std.proofs.Common.{◌≡◌, ◌∙◌, ◌≤◌, ◌⊎◌, ℕ, List, [], false, true, true≢false, Bool, Option, None, Some, Err, refl, sym, ap, subst, inl, inr, arith, length}
-use Rattle.std.specs.Prelude.{replicate, is_some, max}
+use Rattle.std.specs.Prelude.{replicate, is_some}
 use Rattle.sdr_stands.proofs.RestLemmas.{begins, ends}
 use Rattle.sdr_base.specs.KeptHeap.{block_in}
 use Rattle.sdr_base.specs.Causes.{Rose}
@@ -187,21 +187,12 @@ some_of (Some x) is = (x, refl)
 
 -- A transaction closes on a disk, at each moment of which a crash leaves what P tells of.
 module _ {D M : Type 0} (told : D → Option (List ℕ)) (moment : D → ℕ) (faults : D → ℕ) (may_hold_after : D → ℕ → List ℕ → Type 0)
-    (media : MediaGhosts M) (old : Grounded D M) (disk : D) (now : ℕ) (is : now ≡ max old.moment (moment disk)) (sound : old.heap.cells.failed ≡ false)
+    (media : MediaGhosts M) (old : Grounded D M) (disk : D) (now : ℕ) (is : now ≡ moment disk) (since : old.moment ≤ now) (sound : old.heap.cells.failed ≡ false)
     (tells : is_some (told disk) ≡ is_some (told old.heap.cells.disk)) (P : List ℕ → Type 0)
     (each : Rests told moment may_hold_after old.heap.cells
     → IfTold (told old.heap.cells.disk) (λ _. AtEach moment may_hold_after old.heap.cells.disk disk P)) where
   told_old : (y : List ℕ) → told disk ≡ Some y → (x : List ℕ) × (told old.heap.cells.disk ≡ Some x)
   told_old y t = some_of (told old.heap.cells.disk) (sym tells ∙ ap is_some t)
-
-  -- the ground's moment is the disk's
-  pub here : (v : GroundState) → StandsForBoth told moment may_hold_after old v →
-      IfTold (told disk) (λ _. now ≡ moment disk)
-  here v at y t =
-      let x = told_old y t in
-      let e = each at.rests x.0 x.1 in
-      let was = at.moment_is x.0 x.1 in
-      omega (arith, is, was, e.later)
 
   -- what closes in memory closes on a disk that rests
   pub brings_closed : {P : GroundState → GroundState → Type 0} (new : Grounded D M) → new.heap.cells.disk ≡ disk → new.moment ≡ now
@@ -214,7 +205,7 @@ module _ {D M : Type 0} (told : D → Option (List ℕ)) (moment : D → ℕ) (f
           for = s.for;
           holds = record {
             rests = rests at.rests;
-            moment_is = λ y t. at_now ∙ here v at y (ap told (sym on) ∙ t) ∙ ap moment (sym on);
+            moment_is = λ y t. at_now ∙ is ∙ ap moment (sym on);
             memory = s.holds;
           };
           tells = s.tells;
@@ -226,12 +217,12 @@ module _ {D M : Type 0} (told : D → Option (List ℕ)) (moment : D → ℕ) (f
       → StandsForBoth told moment may_hold_after old v → ((image : List ℕ) → P image → Q image)
       → AtEach (heap_ground told moment faults may_hold_after media).moment (heap_ground told moment faults may_hold_after media).left old new Q
   at_each new on at_now v Q at also = record {
-    later = omega (arith, is, at_now);
+    later = omega (arith, since, at_now);
     each = λ m image ge le l.
         let x = told_old l.bytes (ap told (sym on) ∙ l.tells) in
         let e = each at.rests x.0 x.1 in
         let was = at.moment_is x.0 x.1 in
-        also image (e.each m image (omega (arith, ge, was)) (omega (arith, le, is, at_now, was, e.later))
+        also image (e.each m image (omega (arith, ge, was)) (omega (arith, le, is, at_now))
         (subst (λ (d : D). may_hold_after d m image) on l.left));
     past = λ m image le l.
         let x = told_old l.bytes (ap told (sym on) ∙ l.tells) in
@@ -285,7 +276,7 @@ module _ {D M : Type 0} (told : D → Option (List ℕ)) (moment : D → ℕ) (f
     sound = still;
     keeps = keeps_later told moment faults may_hold_after media old new unread (subst (λ (d : D). faults old.heap.cells.disk ≤ faults d) (sym on) later);
     any_moment = leaves;
-    is_ground = ground_brought moment old new ground (omega (arith, ap moment on, at_now, is)) sound still going brings;
+    is_ground = ground_brought moment old new ground (at_now ∙ is ∙ ap moment (sym on)) sound still going brings;
   }
 
   -- a transaction that is kept

@@ -47,7 +47,7 @@ unmarked n addr = ap (λ b. (addr % WORD == 0) && b) (none_of n (addr / WORD)) �
 
 -- where the heap in memory stood for something, and what it stands for follows, the new one is a ground
 pub ground_brought : {D M : Type 0} {P : GroundState → GroundState → Type 0} (moment : D → ℕ) (old new : Grounded D M) → IsGround moment old
-    → moment new.heap.cells.disk ≤ new.moment → old.heap.cells.failed ≡ false → new.heap.cells.failed ≡ false
+    → new.moment ≡ moment new.heap.cells.disk → old.heap.cells.failed ≡ false → new.heap.cells.failed ≡ false
     → (new.idle ≡ true → new.stopped ≡ false) → Brings StandsInMemory old new P → IsGround moment new
 ground_brought moment old new is seen was sound going brings =
     let some = is.stands was in
@@ -55,7 +55,7 @@ ground_brought moment old new is seen was sound going brings =
     record { seen = seen; sound = λ _. sound; going = going; stands = λ _. record { for = s.for; holds = s.holds } }
 
 -- where the disk has failed, a stopped ground is one
-pub ground_failed : {D M : Type 0} (moment : D → ℕ) (g : Grounded D M) → moment g.heap.cells.disk ≤ g.moment → g.stopped ≡ true
+pub ground_failed : {D M : Type 0} (moment : D → ℕ) (g : Grounded D M) → g.moment ≡ moment g.heap.cells.disk → g.stopped ≡ true
     → g.idle ≡ false → g.heap.cells.failed ≡ true → IsGround moment g
 ground_failed moment g seen stopped made failed = record {
   seen = seen;

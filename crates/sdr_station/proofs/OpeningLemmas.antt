@@ -73,6 +73,7 @@ open_stands {D} {M} told moment may_hold_after disk files i j count spare o q by
       going = refl;
       idle = refl;
       sound = q.failed ∙ o.sound;
+      seen = refl;
       head = λ x is. o.head x is ∙ ap (λ (f : Frame). Some f) (sym q.frame);
       gives = λ x is. o.heap x is ∙ ap (λ (b : List ℕ). Some b) (sym bytes ∙ sym begun);
       back = λ x is y tells.
@@ -87,8 +88,8 @@ open_stands {D} {M} told moment may_hold_after disk files i j count spare o q by
 
 -- what was opened is a ground
 pub open_ground : {D M : Type 0} (told : D → Option (List ℕ)) (moment : D → ℕ) (may_hold_after : D → ℕ → List ℕ → Type 0) (disk : D) (g : Grounded D M)
-    → moment g.heap.cells.disk ≤ g.moment → IsOpen told moment may_hold_after disk g → IsGround moment g
-open_ground told moment may_hold_after disk g seen o = record { seen = seen; sound = λ _. o.sound; going = λ _. o.going; stands = λ _. record { for = _; holds = o.memory } }
+    → IsOpen told moment may_hold_after disk g → IsGround moment g
+open_ground told moment may_hold_after disk g o = record { seen = o.seen; sound = λ _. o.sound; going = λ _. o.going; stands = λ _. record { for = _; holds = o.memory } }
 
 -- where an image isn't opened, the disk's bytes are the same unless it failed
 pub image_leaves : (old new : Option (List ℕ)) (error : ImageError) (why : OpenError) → IsOfImage error why → UnlessFault error (new ≡ old)

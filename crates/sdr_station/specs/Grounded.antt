@@ -109,10 +109,10 @@ pub record IsBefore {D M : Type 0} (g : Grounded D M) : Type 0 where
   pub some : StandsSome g
   pub holds : (v : GroundState) → StandsInMemory g v → HoldsWorld g.heap v.before.world
 
--- What a ground keeps: its moment is no earlier than its disk's; unless the disk has failed, the heap in memory stands for
+-- What a ground keeps: its moment is its disk's; unless the disk has failed, the heap in memory stands for
 -- something; where the disk has failed, the transaction can only be rolled back; and one in which no call was made goes on.
 pub record IsGround {D M : Type 0} (moment : D → ℕ) (g : Grounded D M) : Type 0 where
-  pub seen : moment g.heap.cells.disk ≤ g.moment
+  pub seen : g.moment ≡ moment g.heap.cells.disk
   pub sound : g.stopped ≡ false → g.heap.cells.failed ≡ false
   pub going : g.idle ≡ true → g.stopped ≡ false
   pub stands : g.heap.cells.failed ≡ false → StandsSome g

@@ -33,7 +33,7 @@ first_on g =
     let bytes = g.heap.cells.begun in
     resting (world_of bytes) (Ground.OnHeap (room_of g.heap.cells.frame) (pools_of bytes))
 
--- A heap was opened: the disk gives its bytes, and so many lines of its open batches were put back. The heap in memory stands for the
+-- A heap was opened at its disk's moment: the disk gives its bytes, and so many lines of its open batches were put back. The heap in memory stands for the
 -- world that they tell; so does the heap on its disk, where nothing was pending on the disk, or a recovery was stopped.
 pub record IsOpen {D M : Type 0} (told : D → Option (List ℕ)) (moment : D → ℕ)
     (may_hold_after : D → ℕ → List ℕ → Type 0)
@@ -41,6 +41,7 @@ pub record IsOpen {D M : Type 0} (told : D → Option (List ℕ)) (moment : D �
   pub going : g.stopped ≡ false
   pub idle : g.idle ≡ true
   pub sound : g.heap.cells.failed ≡ false
+  pub seen : g.moment ≡ moment g.heap.cells.disk
   pub head : IfTold (told disk) (λ x. frame_of (part 0 LINE x) ≡ Some g.heap.cells.frame)
   pub gives : IfTold (told disk) (λ x. put_back_of x ≡ Some g.heap.cells.begun)
   pub back : Both (told disk) (told g.heap.cells.disk) (PutsBack g.heap.cells.frame g.restored)

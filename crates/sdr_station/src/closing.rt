@@ -1,5 +1,5 @@
 // How the transaction of a heap on an image closes.
-ghost use Rattle.std.specs.Prelude.{◌≡◌, false, max, OnErr, OnOk};
+ghost use Rattle.std.specs.Prelude.{◌≡◌, ◌≤◌, false, OnErr, OnOk};
 ghost use Rattle.sdr_base.specs.Transaction.{HasReason, IfRefused};
 ghost use Rattle.sdr_disk.specs.Moments.{AtEach};
 ghost use Rattle.sdr_disk.specs.Told.{IfTold};
@@ -26,6 +26,7 @@ pub fn commit<D: Disk>(heap: &mut Heap<Image<D>>) -> Result<(), Stop>
         (transaction_of D.faults heap.new.cells) result }
     ensures stays { StaysAt result heap.old.cells heap.new.cells }
     ensures disk { KeepsDisk D.size D.bytes heap.old.cells.disk heap.new.cells.disk }
+    ensures forward { D.moment heap.old.cells.disk ≤ D.moment heap.new.cells.disk }
     ensures any_moment { heap.old.cells.failed ≡ false
         → Rests D.bytes D.moment D.may_hold_after heap.old.cells
         → IfTold (D.bytes heap.old.cells.disk)
@@ -49,6 +50,7 @@ pub fn cancel<D: Disk>(heap: &mut Heap<Image<D>>) -> Result<(), Stop>
         (transaction_of D.faults heap.new.cells) result }
     ensures stays { StaysAt result heap.old.cells heap.new.cells }
     ensures disk { KeepsDisk D.size D.bytes heap.old.cells.disk heap.new.cells.disk }
+    ensures forward { D.moment heap.old.cells.disk ≤ D.moment heap.new.cells.disk }
     ensures any_moment { heap.old.cells.failed ≡ false
         → Rests D.bytes D.moment D.may_hold_after heap.old.cells
         → IfTold (D.bytes heap.old.cells.disk)
@@ -60,12 +62,12 @@ pub fn cancel<D: Disk>(heap: &mut Heap<Image<D>>) -> Result<(), Stop>
     Ok(())
 }
 
-/// The disk's moment, but none before this one.
-pub fn moment_since<D: Disk>(before: u64, heap: &mut Heap<Image<D>>) -> u64
-    ensures moment { result ≡ max before (D.moment heap.new.cells.disk) }
+/// The moment of the disk of a heap.
+pub fn moment_of<D: Disk>(heap: &mut Heap<Image<D>>) -> u64
+    ensures moment { result ≡ D.moment heap.new.cells.disk }
     ensures same { heap.new ≡ heap.old }
 {
-    heap.cells().now().max(before)
+    heap.cells().now()
 }
 
 /// Forgets the moves of a call that was stopped for want of log room.

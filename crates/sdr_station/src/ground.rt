@@ -17,7 +17,7 @@ ghost use Rattle.sdr_station.specs.Giving.{GivesReply, reads_by};
 ghost use Rattle.sdr_station.specs.Opening.{ExplainsOpen, IsOfAudit, IsOfImage, IsOpen, LeavesBytes, disk_of};
 ghost use Rattle.sdr_station.specs.Opening.{media_of};
 
-use crate::closing::{cancel, commit, forget_moves, moment_since};
+use crate::closing::{cancel, commit, forget_moves, moment_of};
 use crate::error::{OpenError, Shut};
 use sdr_audit::{AuditError, check};
 use sdr_base::{Media, Move, Stop};
@@ -149,6 +149,7 @@ impl<D: Disk, M: Media, F: Notify + Drop> HeapGround<D, M, F> {
         ensures bytes { IfErr result (λ shut. LeavesBytes (D.bytes disk) (D.bytes shut.disk)
             shut.why) }
         ensures later { D.faults disk ≤ D.faults (disk_of result) }
+        ensures forward { D.moment disk ≤ D.moment (disk_of result) }
         ensures any_moment { IfTold (D.bytes disk) (λ x.
             MayBeOpened x (D.may_hold_after disk (D.moment disk))
             → AtEach D.moment D.may_hold_after disk (disk_of result) (GivesSame x)) }
@@ -249,14 +250,14 @@ impl<D: Disk, M: Media, F: Notify + Drop> HeapGround<D, M, F> {
     {
         match commit(&mut self.heap) {
             Ok(()) => {
-                self.moment = moment_since(self.moment, &mut self.heap);
+                self.moment = moment_of(&mut self.heap);
                 self.shown.clear();
                 self.stopped = false;
                 self.idle = true;
                 Ok(())
             }
             Err(_) => {
-                self.moment = moment_since(self.moment, &mut self.heap);
+                self.moment = moment_of(&mut self.heap);
                 self.stopped = true;
                 self.idle = false;
                 Err(Fault)
@@ -283,14 +284,14 @@ impl<D: Disk, M: Media, F: Notify + Drop> HeapGround<D, M, F> {
     {
         match cancel(&mut self.heap) {
             Ok(()) => {
-                self.moment = moment_since(self.moment, &mut self.heap);
+                self.moment = moment_of(&mut self.heap);
                 self.shown.clear();
                 self.stopped = false;
                 self.idle = true;
                 Ok(())
             }
             Err(Stop::DiskFault) => {
-                self.moment = moment_since(self.moment, &mut self.heap);
+                self.moment = moment_of(&mut self.heap);
                 self.stopped = true;
                 self.idle = false;
                 Err(Fault)
@@ -319,13 +320,13 @@ impl<D: Disk, M: Media, F: Notify + Drop> HeapGround<D, M, F> {
     {
         match cancel(&mut self.heap) {
             Ok(()) => {
-                self.moment = moment_since(self.moment, &mut self.heap);
+                self.moment = moment_of(&mut self.heap);
                 self.stopped = true;
                 self.idle = false;
                 Ok(true)
             }
             Err(Stop::DiskFault) => {
-                self.moment = moment_since(self.moment, &mut self.heap);
+                self.moment = moment_of(&mut self.heap);
                 self.stopped = true;
                 self.idle = false;
                 Err(Fault)
@@ -380,7 +381,7 @@ impl<D: Disk, M: Media, F: Notify + Drop> HeapGround<D, M, F> {
     pub fn into_parts(self) -> (D, M)
         ensures disk { result.0 ≡ self.heap.cells.disk }
         ensures media { result.1 ≡ self.media }
-        ensures seen { D.moment result.0 ≤ self.moment }
+        ensures seen { D.moment result.0 ≡ self.moment }
     {
         let HeapGround {
             heap,

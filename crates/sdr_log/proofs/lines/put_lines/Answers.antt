@@ -9,6 +9,7 @@ loop-line-init g c = record {
   tells = refl;
   below = c.requires.below;
   later = omega arith;
+  forward = omega arith;
   calls = omega arith;
   told = λ x is. putting_none _ _ _ _ _ _ x is;
 }
@@ -27,6 +28,7 @@ loop-line-preserved g c =
       tells = put.tells ∙ c.loop-line.invariant.tells;
       below = (rw split at c.loop-line.invariant.below).1;
       later = omega (arith, put.cause.later, c.loop-line.invariant.later);
+      forward = omega (arith, put.moments.later, c.loop-line.invariant.forward);
       calls = omega (arith, c.in_ok-put_line.ensures.rises, c.loop-line.invariant.calls, ap length split);
       told = λ x is.
           let p = c.loop-line.invariant.told x is in

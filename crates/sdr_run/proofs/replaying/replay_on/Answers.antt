@@ -12,7 +12,7 @@ play-requires-clause-begins g c =
     let e = c.in-Ok.ensures in
     let o =
     opened_so d c.new-held.result c.args.disk c.args.media c.in-Ok.ground c.new-held.ensures e.media c.requires.settled
-    e.opened e.disk e.later e.any_moment in
+    e.opened e.disk e.later e.forward e.any_moment in
     begins_opened d g.M.Media g.met.D.Disk.read_now c.args.disk c.args.media c.args.script.now c.in-Ok.ground c.requires.settled o
     g.J.HandedIn.was c.requires.handed
 
@@ -45,7 +45,7 @@ returns-in-Ok-play-clause-ran g c =
     let e = c.in-Ok.ensures in
     let o =
     opened_so d c.new-held.result c.args.disk c.args.media c.in-Ok.ground c.new-held.ensures e.media c.requires.settled
-    e.opened e.disk e.later e.any_moment in
+    e.opened e.disk e.later e.forward e.any_moment in
     let w = c.with_parts.ensures in
     replayed d g.M.Media g.met.D.Disk.read_now c.args.disk c.args.media c.args.script.now c.in-Ok.ground c.requires.settled o
     g.J.HandedIn.was c.requires.handed (seen c.args.out.now) (seen c.play.new.out) c.in-Ok-play.ran c.with_parts.result

@@ -1,4 +1,4 @@
-use Rattle.std.proofs.Common.{◌∙◌, ap, arith, false, sym, subst, true}
+use Rattle.std.proofs.Common.{◌∙◌, ap, false, sym, subst, true}
 use Rattle.sdr_disk.specs.Moments.{AtEach}
 use Rattle.sdr_heap.specs.Noted.{Held}
 use Rattle.sdr_image.specs.Opened.{Opened}
@@ -68,7 +68,7 @@ invariant_of-result g c =
     let m = g.D.Disk.moment in
     let l = g.D.Disk.may_hold_after in
     let made = c.in-Ok-new.ensures.made in
-    open_ground b m l c.args.disk _ (omega (arith, ap (λ (h : Held (Opened D)). m h.cells.disk) made, c.now-moment.ensures.moment)) (subst (λ (n : Grounded D M). IsOpen b m l c.args.disk n)
+    open_ground b m l c.args.disk _ (subst (λ (n : Grounded D M). IsOpen b m l c.args.disk n)
     (λ i. record {
       heap = sym made i;
       media = c.args.media;

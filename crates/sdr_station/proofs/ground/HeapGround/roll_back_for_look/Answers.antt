@@ -1,5 +1,4 @@
-use Rattle.std.specs.Prelude.{max}
-use Rattle.std.proofs.Common.{◌≡◌, ◌∙◌, true, true≢false, ap, Err, false, refl, sym, subst}
+use Rattle.std.proofs.Common.{arith, ◌≡◌, ◌∙◌, ◌≤◌, true, true≢false, ap, Err, false, refl, sym, subst}
 use Rattle.sdr_base.specs.Transaction.{Explains}
 use Rattle.sdr_base.specs.declared.stop.Stop.{Stop}
 use Rattle.sdr_heap.specs.Noted.{Held}
@@ -21,7 +20,7 @@ returns-in-Ok g c =
     let l = g.D.Disk.may_hold_after in
     let f = g.D.Disk.faults in
     let n = g.M.Media in
-    let at = c.moment_since-self-inside in
+    let at = c.moment_of-self-inside in
     let e = c.in-Ok.ensures in
     let old : Grounded D M = record {
       heap = c.self.inside.heap;
@@ -45,9 +44,10 @@ returns-in-Ok g c =
     let heap : at.new.heap ≡ (dropped_ground old disk at.result).heap = at.ensures.same ∙ e.ended in
     let is : new ≡ dropped_ground old disk at.result =
     λ i. record { heap = heap i; media = old.media; shown = old.shown; stopped = true; idle = false; moment = at.result; restored = old.restored } in
-    let at_now = at.ensures.moment ∙ ap (λ (h : Held (Opened D)). max old.moment (m h.cells.disk)) at.ensures.same in
+    let at_now = at.ensures.moment ∙ ap (λ (h : Held (Opened D)). m h.cells.disk) at.ensures.same in
+    let since : old.moment ≤ at.result = omega (arith, at_now, c.self.invariant.seen, e.forward) in
     let sound : old.heap.cells.failed ≡ false = e.cause.explained.0 in
-    let closed = closes_dropped b m f l n old disk at.result at_now sound e.disk.tells _ (e.any_moment sound) new is c.self.invariant
+    let closed = closes_dropped b m f l n old disk at.result at_now since sound e.disk.tells _ (e.any_moment sound) new is c.self.invariant
     e.cause.later (λ rests. subst (λ (h : Held (Opened D)). Rests b m l h.cells) e.ended (e.rests rests)) (λ image p. p) in
     let all : ClosesTo b m f l n false SameStates c.args.self.now new = subst (λ (o : Grounded D M). ClosesTo b m f l n false SameStates o new) c.self.view_is closed in
     record {
@@ -75,7 +75,7 @@ returns-in-Err-DiskFault-clause-any_moment g c =
     let l = g.D.Disk.may_hold_after in
     let f = g.D.Disk.faults in
     let n = g.M.Media in
-    let at = c.moment_since-self-inside-in-Err-DiskFault in
+    let at = c.moment_of-self-inside-in-Err-DiskFault in
     let e = c.in-Err-DiskFault.ensures in
     let old : Grounded D M = record {
       heap = c.self.inside.heap;
@@ -96,10 +96,11 @@ returns-in-Err-DiskFault-clause-any_moment g c =
       restored = c.self.inside.restored;
     } in
     let disk = c.cancel.new.heap.cells.disk in
-    let at_now = at.ensures.moment ∙ ap (λ (h : Held (Opened D)). max old.moment (m h.cells.disk)) at.ensures.same in
+    let at_now = at.ensures.moment ∙ ap (λ (h : Held (Opened D)). m h.cells.disk) at.ensures.same in
+    let since : old.moment ≤ at.result = omega (arith, at_now, c.self.invariant.seen, e.forward) in
     let sound : old.heap.cells.failed ≡ false = (subst (λ (s : Stop). Explains {T = Unit {0}} (transaction_of f old.heap.cells) (transaction_of f c.cancel.new.heap.cells) (Err s)) c.in-Err-DiskFault.field-0-is e.cause.explained).0 in
     subst (λ (o : Grounded D M). LeavesBefore (heap_ground b m f l n) o new) c.self.view_is
-    (leaves_back b m f l n old disk at.result at_now sound e.disk.tells _ (e.any_moment sound) new
+    (leaves_back b m f l n old disk at.result at_now since sound e.disk.tells _ (e.any_moment sound) new
     (ap (λ (h : Held (Opened D)). h.cells.disk) at.ensures.same) refl (λ image p. p))
 
 pub invariant_of-self : goal.invariant_of-self
@@ -111,7 +112,7 @@ invariant_of-self g c =
     let l = g.D.Disk.may_hold_after in
     let f = g.D.Disk.faults in
     let n = g.M.Media in
-    let at = c.moment_since-self-inside in
+    let at = c.moment_of-self-inside in
     let e = c.in-Ok.ensures in
     let old : Grounded D M = record {
       heap = c.self.inside.heap;
@@ -135,8 +136,9 @@ invariant_of-self g c =
     let heap : at.new.heap ≡ (dropped_ground old disk at.result).heap = at.ensures.same ∙ e.ended in
     let is : new ≡ dropped_ground old disk at.result =
     λ i. record { heap = heap i; media = old.media; shown = old.shown; stopped = true; idle = false; moment = at.result; restored = old.restored } in
-    let at_now = at.ensures.moment ∙ ap (λ (h : Held (Opened D)). max old.moment (m h.cells.disk)) at.ensures.same in
+    let at_now = at.ensures.moment ∙ ap (λ (h : Held (Opened D)). m h.cells.disk) at.ensures.same in
+    let since : old.moment ≤ at.result = omega (arith, at_now, c.self.invariant.seen, e.forward) in
     let sound : old.heap.cells.failed ≡ false = e.cause.explained.0 in
-    let closed = closes_dropped b m f l n old disk at.result at_now sound e.disk.tells _ (e.any_moment sound) new is c.self.invariant
+    let closed = closes_dropped b m f l n old disk at.result at_now since sound e.disk.tells _ (e.any_moment sound) new is c.self.invariant
     e.cause.later (λ rests. subst (λ (h : Held (Opened D)). Rests b m l h.cells) e.ended (e.rests rests)) (λ image p. p) in
     closed.is_ground

@@ -1,5 +1,4 @@
-use Rattle.std.specs.Prelude.{max}
-use Rattle.std.proofs.Common.{◌≡◌, ◌∙◌, true, ap, false, refl, subst}
+use Rattle.std.proofs.Common.{arith, ◌≡◌, ◌∙◌, ◌≤◌, true, ap, false, refl, subst}
 use Rattle.sdr_heap.specs.Noted.{Held}
 use Rattle.sdr_image.specs.Opened.{Opened, Rests}
 use Rattle.sdr_machine.specs.Crash.{LeavesEither}
@@ -18,7 +17,7 @@ returns-in-Ok g c =
     let l = g.D.Disk.may_hold_after in
     let f = g.D.Disk.faults in
     let n = g.M.Media in
-    let at = c.moment_since-self-inside in
+    let at = c.moment_of-self-inside in
     let e = c.in-Ok.ensures in
     let old : Grounded D M = record {
       heap = c.self.inside.heap;
@@ -43,9 +42,10 @@ returns-in-Ok g c =
     let heap : at.new.heap ≡ (kept_ground old disk at.result).heap = at.ensures.same ∙ e.ended in
     let is : new ≡ kept_ground old disk at.result =
     λ i. record { heap = heap i; media = old.media; shown = c.clear.ensures i; stopped = false; idle = true; moment = at.result; restored = old.restored } in
-    let at_now = at.ensures.moment ∙ ap (λ (h : Held (Opened D)). max old.moment (m h.cells.disk)) at.ensures.same in
+    let at_now = at.ensures.moment ∙ ap (λ (h : Held (Opened D)). m h.cells.disk) at.ensures.same in
+    let since : old.moment ≤ at.result = omega (arith, at_now, c.self.invariant.seen, e.forward) in
     let sound : old.heap.cells.failed ≡ false = e.cause.explained.0 in
-    let closed = closes_kept b m f l n old disk at.result at_now sound e.disk.tells _ (e.any_moment sound) new is c.self.invariant going
+    let closed = closes_kept b m f l n old disk at.result at_now since sound e.disk.tells _ (e.any_moment sound) new is c.self.invariant going
     e.cause.later (λ rests. subst (λ (h : Held (Opened D)). Rests b m l h.cells) e.ended (e.rests rests)) (λ image p. p) in
     let all : ClosesTo b m f l n true Commits c.args.self.now new = subst (λ (o : Grounded D M). ClosesTo b m f l n true Commits o new) c.self.view_is closed in
     record {
@@ -70,7 +70,7 @@ returns-in-Err-clause-any_moment g c =
     let l = g.D.Disk.may_hold_after in
     let f = g.D.Disk.faults in
     let n = g.M.Media in
-    let at = c.moment_since-self-inside-in-Err in
+    let at = c.moment_of-self-inside-in-Err in
     let e = c.in-Err.ensures in
     let old : Grounded D M = record {
       heap = c.self.inside.heap;
@@ -92,10 +92,11 @@ returns-in-Err-clause-any_moment g c =
       restored = c.self.inside.restored;
     } in
     let disk = c.commit.new.heap.cells.disk in
-    let at_now = at.ensures.moment ∙ ap (λ (h : Held (Opened D)). max old.moment (m h.cells.disk)) at.ensures.same in
+    let at_now = at.ensures.moment ∙ ap (λ (h : Held (Opened D)). m h.cells.disk) at.ensures.same in
+    let since : old.moment ≤ at.result = omega (arith, at_now, c.self.invariant.seen, e.forward) in
     let sound : old.heap.cells.failed ≡ false = c.self.invariant.sound going in
     subst (λ (o : Grounded D M). LeavesEither (heap_ground b m f l n) o new) c.self.view_is
-    (leaves_either b m f l n old disk at.result at_now sound e.disk.tells _ (e.any_moment sound) new
+    (leaves_either b m f l n old disk at.result at_now since sound e.disk.tells _ (e.any_moment sound) new
     (ap (λ (h : Held (Opened D)). h.cells.disk) at.ensures.same) refl going (λ image p. p))
 
 pub invariant_of-self : goal.invariant_of-self
@@ -107,7 +108,7 @@ invariant_of-self g c =
     let l = g.D.Disk.may_hold_after in
     let f = g.D.Disk.faults in
     let n = g.M.Media in
-    let at = c.moment_since-self-inside in
+    let at = c.moment_of-self-inside in
     let e = c.in-Ok.ensures in
     let old : Grounded D M = record {
       heap = c.self.inside.heap;
@@ -132,9 +133,10 @@ invariant_of-self g c =
     let heap : at.new.heap ≡ (kept_ground old disk at.result).heap = at.ensures.same ∙ e.ended in
     let is : new ≡ kept_ground old disk at.result =
     λ i. record { heap = heap i; media = old.media; shown = c.clear.ensures i; stopped = false; idle = true; moment = at.result; restored = old.restored } in
-    let at_now = at.ensures.moment ∙ ap (λ (h : Held (Opened D)). max old.moment (m h.cells.disk)) at.ensures.same in
+    let at_now = at.ensures.moment ∙ ap (λ (h : Held (Opened D)). m h.cells.disk) at.ensures.same in
+    let since : old.moment ≤ at.result = omega (arith, at_now, c.self.invariant.seen, e.forward) in
     let sound : old.heap.cells.failed ≡ false = e.cause.explained.0 in
-    let closed = closes_kept b m f l n old disk at.result at_now sound e.disk.tells _ (e.any_moment sound) new is c.self.invariant going
+    let closed = closes_kept b m f l n old disk at.result at_now since sound e.disk.tells _ (e.any_moment sound) new is c.self.invariant going
     e.cause.later (λ rests. subst (λ (h : Held (Opened D)). Rests b m l h.cells) e.ended (e.rests rests)) (λ image p. p) in
     closed.is_ground
 
@@ -148,7 +150,7 @@ returns-in-Err-clause-fault g c =
     let f = g.D.Disk.faults in
     let n = g.M.Media in
     let e = c.in-Err.ensures in
-    let at = c.moment_since-self-inside-in-Err in
+    let at = c.moment_of-self-inside-in-Err in
     let new : Grounded D M = record {
       heap = at.new.heap;
       media = c.self.inside.media;
