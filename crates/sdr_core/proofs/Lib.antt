@@ -2,6 +2,7 @@ pub mod AddedLemmas
 pub mod CoreLemmas
 pub mod CrashLemmas
 pub mod EndLemmas
+pub mod FailedLemmas
 pub mod HoldingLemmas
 pub mod KeeperLemmas
 pub mod LeaveLemmas

@@ -1,11 +1,13 @@
 // A lock, and the journal of its run.
-ghost use Rattle.std.specs.Prelude.{◌≡◌, ◌≤◌, [], false, true, IfErr, IfOk, OnErr, if◌then◌else◌, length};
+ghost use Rattle.std.specs.Prelude.{◌≡◌, ◌≤◌, [], false, true, not, IfErr, IfOk, OnErr, if◌then◌else◌, is_some, length};
+ghost use Rattle.sdr_machine.specs.Core.{is_failed};
+ghost use Rattle.sdr_machine.specs.Crash.{is_sound};
 ghost use Rattle.sdr_machine.specs.Standing.{GroundState};
 ghost use Rattle.sdr_machine.specs.Transaction.{bytes_given};
 ghost use Rattle.sdr_machine.specs.Holders.{HoldFirst};
 ghost use Rattle.sdr_machine.specs.Legal.{IsLegal};
 ghost use Rattle.sdr_machine.specs.Roll.{MayDraw, first_roll, held_by};
-ghost use Rattle.sdr_core.specs.CoreKept.{BeginsOn, IsRunOf, MakesCoreStep, HasState};
+ghost use Rattle.sdr_core.specs.CoreKept.{BeginsOn, IsRunOf, KeepsRun, MakesCoreStep, HasState};
 ghost use Rattle.sdr_core.specs.Logging.{is_leave};
 
 use crate::making::{leave, make};
@@ -72,6 +74,8 @@ impl<T: Tells, J: Origin> Core<T, J> {
             self.old.lock self.old.log self.new.lock self.new.log) }
         ensures err { OnErr result (self.new ≡ self.old) }
         ensures leave { OnErr result (is_leave event.now ≡ false) }
+        ensures failed { IfOk result (λ came.
+            is_failed came.answer ≡ not (is_sound self.old.log.journal)) }
     {
         match event {
             Event::Leaves(by) => Ok(leave(
@@ -102,11 +106,14 @@ impl<T: Tells, J: Origin> Core<T, J> {
     }
 
     /// The roll of its daemons. Only those hold a number that may; and unless the disk has failed, the lock stands for something.
+    /// There is a run from the first core to this one, so the laws of runs hold of it.
     pub fn roll(&self) -> &Roll
         ensures roll { result.now ≡ self.now.lock.roll }
         ensures few { length self.now.lock.roll.daemons ≤ 256 }
         ensures first { HoldFirst [] self.now.lock.roll.daemons }
         ensures stands { HasState T.stands self.now.lock }
+        ensures run { KeepsRun T.HasGround J.begins self.now }
+        ensures failed { is_some self.now.lock.roll.failed ≡ not (is_sound self.now.log.journal) }
     {
         self.lock.roll()
     }
@@ -138,6 +145,7 @@ impl<T: Tells, J: Origin> Core<T, J> {
         ensures journal { result.0 ≡ self.log.journal }
         ensures base { result.1 ≡ self.lock.base }
         ensures run { IsRunOf T.HasGround J.begins result.0 result.1 }
+        ensures ran { KeepsRun T.HasGround J.begins self }
     {
         let Core {
             lock,

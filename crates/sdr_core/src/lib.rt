@@ -14,8 +14,9 @@
 //!
 //! Proved: the type of `Core` keeps that its journal is that of a run of the machine (`KeepsRun`), and that at
 //! each moment a crash leaves the state after some first entries, all done ones among them (`KeepsSafe`). Each
-//! event is a step of that run (`MakesCoreStep`). Out of memory leaves all as it was (`err`). `finish` tells this
-//! (`IsRunOf`), and that each entry was made since the run began and is done by now (`in_time`).
+//! event is a step of that run (`MakesCoreStep`). Out of memory leaves all as it was (`err`). `roll` and `finish` hand the run out (`run`,
+//! `ran`), so the laws of runs hold of each core. `Failed` is answered just where the journal tells of a disk that failed
+//! (`failed`). `finish` tells that each entry was made since the run began and is done by now (`IsRunOf`).
 #![tactic(auto)]
 
 mod copying;

@@ -1,4 +1,6 @@
+use Rattle.std.proofs.Common.{subst}
 use Rattle.sdr_core.proofs.SafeLemmas.{run_ends}
+use Rattle.sdr_core.specs.CoreKept.{KeepsRun, LoggedLock}
 use Rattle.sdr_core.specs.Logging.{log_of}
 use Rattle.sdr_core.proofs.core_run.Core.finish.Goals as goal
 
@@ -6,3 +8,7 @@ pub returns-clause-run : goal.returns-clause-run
 returns-clause-run g c =
     run_ends g.T.HasGround g.J.Origin.begins (record { lock = c.self.inside.lock; log = log_of c.self.inside.keeper }) c.into_journal.result c.into_base.result
     c.into_journal.ensures c.into_base.ensures c.self.invariant.run c.self.invariant.safe
+
+pub returns-clause-ran : goal.returns-clause-ran
+returns-clause-ran g c =
+    subst (λ (k : LoggedLock g.row.T.Denot). KeepsRun g.T.HasGround g.J.Origin.begins k) c.self.view_is c.self.invariant.run
