@@ -78,7 +78,7 @@ module _ {T : Type 0} (g : Ghosts T) (b : RunStart) (lock : Locked T) (keeper : 
     core_either daemon line event (Err why) makes room same apart = core_same same apart
 
 -- nobody holds a number before any event
-first_new : (before ids : List ℕ) → HoldFirst before (map newcomer ids)
+pub first_new : (before ids : List ℕ) → HoldFirst before (map newcomer ids)
 first_new before [] = tt
 first_new before (id ∷ ids) = (λ some. absurd (true≢false (sym some)), first_new (id ∷ before) ids)
 

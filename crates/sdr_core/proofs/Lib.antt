@@ -8,6 +8,7 @@ pub mod KeeperLemmas
 pub mod LeaveLemmas
 pub mod LeaveNotes
 pub mod LeavingLemmas
+pub mod NumberLemmas
 pub mod OpeningLemmas
 pub mod PlaceLemmas
 pub mod RunLemmas

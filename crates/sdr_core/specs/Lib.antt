@@ -6,3 +6,4 @@ pub mod Keeping
 pub mod Leaving
 pub mod Logging
 pub mod Noting
+pub mod Numbers

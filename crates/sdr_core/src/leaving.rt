@@ -1,5 +1,5 @@
 // The leaves at the end of a run.
-ghost use Rattle.std.specs.Prelude.{◌≡◌, ◌≤◌, ◌+◌, ◌*◌, ◌^◌, ◌++◌, [], filter, length, map, not, vec_capacity, vec_len};
+ghost use Rattle.std.specs.Prelude.{◌≡◌, ◌≤◌, ◌+◌, ◌*◌, ◌^◌, ◌++◌, filter, length, map, not, take};
 ghost use Rattle.sdr_machine.specs.Holders.{holders};
 ghost use Rattle.sdr_machine.specs.Leaving.{AllLeave, HoldersLeave, LeaveInTurn};
 ghost use Rattle.sdr_machine.specs.Roll.{MayDraw, held_by};
@@ -10,19 +10,26 @@ use crate::{Core, Origin};
 use sdr_machine::{Came, Daemon, Tells};
 use sdr_model::{Event, Leave};
 
-// Adds those of these daemons that haven't left.
-fn add_staying(daemons: &[Daemon], ids: &mut Vec<u8>)
-    requires room { vec_len ids.old + length daemons.now ≤ vec_capacity ids.old }
-    ensures items { ids.new.items ≡ ids.old.items ++ map (λ d.
-        d.id) (filter (λ d. not d.left) daemons.now) }
+// How many daemons a core may have.
+const MOST_DAEMONS: usize = 256;
+
+// Puts the ids of those of these daemons that haven't left behind the first so many, and gives how many there are then.
+#[tactic(auto, using(std::proofs::lemmas::List::take_more_set))]
+fn put_staying(daemons: &[Daemon], ids: &mut [u8], count: usize) -> usize
+    requires room { count + length daemons.now ≤ length ids.old }
+    ensures within { result ≤ length ids.old }
+    ensures ids { take result ids.new
+        ≡ take count ids.old ++ map (λ d. d.id) (filter (λ d. not d.left) daemons.now) }
 {
     match daemons {
-        [] => (),
+        [] => count,
         [first, others @ ..] => {
-            if !first.left {
-                ids.push_reserved(first.id);
+            if first.left {
+                put_staying(others, ids, count)
+            } else {
+                ids[count] = first.id;
+                put_staying(others, ids, count + 1)
             }
-            add_staying(others, ids)
         }
     }
 }
@@ -74,17 +81,16 @@ impl<T: Tells, J: Origin> Core<T, J> {
     }
 
     /// Makes the leaves at the end of a schedule: the daemons that hold a number make one, in lock order, and then those that
-    /// haven't left yet do, in their order. It takes no memory but the room that is handed in.
-    pub fn leave_all(&mut self, leave: Leave, mut room: Vec<u8>)
+    /// haven't left yet do, in their order. It takes no memory.
+    pub fn leave_all(&mut self, leave: Leave)
         requires lasts { LastsOn T.HasGround self.old.lock.base }
         requires drawn { self.old.lock.roll.drawn + 2 * length self.old.lock.roll.daemons ≤ 2 ^ 60 }
-        requires empty { room.items ≡ [] }
-        requires room { length self.old.lock.roll.daemons ≤ vec_capacity room }
         ensures left { RunLeads T.HasGround (AllLeave (T.told self.old.lock.base) leave) self.old
             self.new }
     {
         self.holders_leave(leave);
-        add_staying(self.roll().daemons(), &mut room);
-        self.leave_in_turn(&room, leave)
+        let mut ids = [0u8; MOST_DAEMONS];
+        let count = put_staying(self.roll().daemons(), &mut ids, 0);
+        self.leave_in_turn(&ids[..count], leave)
     }
 }

@@ -14,9 +14,10 @@
 //!
 //! Proved: the type of `Core` keeps that its journal is that of a run of the machine (`KeepsRun`), and that at
 //! each moment a crash leaves the state after some first entries, all done ones among them (`KeepsSafe`). Each
-//! event is a step of that run (`MakesCoreStep`). Out of memory leaves all as it was (`err`). `roll` and `finish` hand the run out (`run`,
-//! `ran`), so the laws of runs hold of each core. `Failed` is answered just where the journal tells of a disk that failed
-//! (`failed`). `finish` tells that each entry was made since the run began and is done by now (`IsRunOf`).
+//! event is a step of that run (`MakesCoreStep`). Out of memory leaves all as it was (`err`), and leaves take none. `roll` and `finish`
+//! hand the run out (`run`, `ran`), so the laws of runs hold of each core. `Failed` is answered just where the journal tells of a
+//! disk that failed (`failed`). `finish` tells that each entry was made since the run began and is done by now (`IsRunOf`). A law:
+//! no number is held by two daemons, and as many are done as were drawn, less those held (`drawn_numbers_are_held_or_done`).
 #![tactic(auto)]
 
 mod copying;
@@ -26,12 +27,16 @@ mod keeper;
 mod leaving;
 mod making;
 mod noted;
+mod numbers;
 mod origin;
+mod sending;
 mod spoken;
 
 pub use core_run::Core;
 pub use draft::Draft;
 pub use keeper::Keeper;
 pub use noted::{Noted, Under};
+pub use numbers::drawn_numbers_are_held_or_done;
 pub use origin::Origin;
+pub use sending::core_is_send;
 pub use spoken::Spoken;

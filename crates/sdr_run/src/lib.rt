@@ -23,7 +23,10 @@ mod handed;
 mod playing;
 mod replaying;
 mod running;
+mod sending;
 
+pub use handed::{Handed, HandedIn};
 pub use playing::{Ran, play};
 pub use replaying::replay;
 pub use running::{RunError, daemons_of, run};
+pub use sending::handed_is_send;

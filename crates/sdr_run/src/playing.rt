@@ -1,5 +1,5 @@
 // A schedule that runs on a ground.
-ghost use Rattle.std.specs.Prelude.{◌≡◌, ◌≤◌, ◌<◌, ◌^◌, ◌⊎◌, [], false, true, length, vec_capacity};
+ghost use Rattle.std.specs.Prelude.{◌≡◌, ◌≤◌, ◌<◌, ◌^◌, ◌⊎◌, [], false, true, length};
 ghost use Rattle.std.specs.Prelude.{IfErr, IfOk, OnErr, OnOk};
 ghost use Rattle.sdr_core.specs.CoreKept.{BeginsOn, MakesCoreStep};
 ghost use Rattle.sdr_core.specs.Leaving.{LastsOn, RunLeads};
@@ -143,16 +143,14 @@ fn play_on<T: Tells, J: Origin, K: Sink>(
 }
 
 // Makes the leaves of all daemons, which are at most 256.
-fn leave_all<T: Tells, J: Origin>(core: &mut Core<T, J>, leave: Leave, room: Vec<u8>)
+fn leave_all<T: Tells, J: Origin>(core: &mut Core<T, J>, leave: Leave)
     requires lasts { LastsOn T.HasGround core.old.lock.base }
     requires drawn { core.old.lock.roll.drawn ≤ 1_048_577 }
-    requires empty { room.items ≡ [] }
-    requires room { 256 ≤ vec_capacity room }
     ensures left { RunLeads T.HasGround (AllLeave (T.told core.old.lock.base) leave)
         core.old core.new }
 {
     core.roll();
-    core.leave_all(leave, room)
+    core.leave_all(leave)
 }
 
 // Whether the disk failed in the entry.
@@ -202,16 +200,13 @@ pub fn play<T: Tells, J: Origin, K: Sink>(
     let Ok(daemons) = daemons_of(alloc, script) else {
         return Err(base);
     };
-    let Ok(room) = Vec::with_capacity(alloc, 256) else {
-        return Err(base);
-    };
     let mut core = match Core::<T, J>::new(alloc, &daemons, base) {
         Ok(core) => core,
         Err((_, base)) => return Err(base),
     };
     let mut printing = true;
     let starved = play_on(alloc, &mut core, script, out, &mut printing);
-    leave_all(&mut core, leave_of(starved), room);
+    leave_all(&mut core, leave_of(starved));
     let (journal, base) = core.finish();
     let failed = !is_sound(journal.as_slice());
     Ok(Ran {

@@ -18,9 +18,11 @@
 mod closing;
 mod error;
 mod ground;
+mod sending;
 mod station;
 mod tells;
 
 pub use error::{OpenError, Shut};
 pub use ground::HeapGround;
+pub use sending::ground_is_send;
 pub use station::{Closed, Station};

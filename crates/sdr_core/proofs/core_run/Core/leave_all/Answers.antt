@@ -1,4 +1,4 @@
-use Rattle.std.proofs.Common.{◌≡◌, ◌∙◌, ◌++◌, ℕ, List, ap, arith, filter, length, map, not, subst}
+use Rattle.std.proofs.Common.{◌≡◌, ◌∙◌, ℕ, List, ap, arith, filter, length, map, not, subst, take}
 use Rattle.sdr_machine.proofs.HolderLemmas.{holders_few}
 use Rattle.sdr_machine.specs.Leaving.{LeaveInTurn, staying}
 use Rattle.sdr_machine.specs.Roll.{Roll}
@@ -10,9 +10,8 @@ use Rattle.sdr_core.proofs.core_run.Core.leave_all.Goals as goal
 pub leave_in_turn-requires-clause-drawn : goal.leave_in_turn-requires-clause-drawn
 leave_in_turn-requires-clause-drawn g c =
     let mid = c.holders_leave.new.self in
-    let items : c.deref.result.now ≡ staying mid.lock.roll =
-    c.deref.ensures.value ∙ c.add_staying.ensures.items
-    ∙ ap (λ (ids : List ℕ). ids ++ map (λ (d : Daemon). d.id) (filter (λ (d : Daemon). not d.left) c.daemons.result.now)) c.requires.empty
+    let items : take c.put_staying-count.result c.put_staying-count.new.ids ≡ staying mid.lock.roll =
+    c.put_staying-count.ensures.ids
     ∙ ap (λ (ds : List Daemon). map (λ (d : Daemon). d.id) (filter (λ (d : Daemon). not d.left) ds))
     (c.daemons.ensures ∙ ap (λ (r : Roll). r.daemons) c.roll.ensures.roll) in
     omega (
@@ -31,9 +30,8 @@ returns g c =
     let mid = c.holders_leave.new.self in
     let next = c.leave_in_turn.new.self in
     let told = g.T.HasGround.told self.lock.base in
-    let items : c.deref.result.now ≡ staying mid.lock.roll =
-    c.deref.ensures.value ∙ c.add_staying.ensures.items
-    ∙ ap (λ (ids : List ℕ). ids ++ map (λ (d : Daemon). d.id) (filter (λ (d : Daemon). not d.left) c.daemons.result.now)) c.requires.empty
+    let items : take c.put_staying-count.result c.put_staying-count.new.ids ≡ staying mid.lock.roll =
+    c.put_staying-count.ensures.ids
     ∙ ap (λ (ds : List Daemon). map (λ (d : Daemon). d.id) (filter (λ (d : Daemon). not d.left) ds))
     (c.daemons.ensures ∙ ap (λ (r : Roll). r.daemons) c.roll.ensures.roll) in
     record {
