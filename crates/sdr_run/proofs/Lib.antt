@@ -3,4 +3,5 @@ pub mod GapLemmas
 pub mod MediaLemmas
 pub mod ScheduleLemmas
 pub mod PlayingLemmas
+pub mod SettledLemmas
 pub mod ReplayingLemmas

@@ -1,6 +1,6 @@
 -- A run that begins on a heap that was just opened, and what it leaves of the disk.
 use Rattle.std.proofs.Common.{◌≡◌, ◌∙◌, ◌≤◌, ℕ, List, [], true≢false, Option, None, Some, refl, sym, ap, subst, inl, arith}
-use Rattle.std.specs.Prelude.{is_some}
+use Rattle.std.specs.Prelude.{◌↔◌, is_some}
 use Rattle.sdr_base.specs.Media.{Told}
 use Rattle.sdr_base.specs.declared.media.Media.{Ghosts as MediaGhosts}
 use Rattle.sdr_core.specs.CoreKept.{AreMadeBetween, BeginsOn, IsRunOf}
@@ -19,11 +19,12 @@ use Rattle.sdr_model.specs.declared.journal.Entry.{Entry}
 use Rattle.sdr_model.specs.declared.script.ScriptStep.{ScriptStep}
 use Rattle.sdr_run.specs.Handed.{HandedDisk, handed_as}
 use Rattle.sdr_run.specs.Playing.{Output, PlaysOut, RunsScript}
+use Rattle.sdr_run.proofs.SettledLemmas.{ground_where}
 use Rattle.sdr_run.specs.Replaying.{IsNotRun, IsSettled, LeavesJournal, ReplaysOn, begins_on, with_base}
+use Rattle.sdr_run.specs.Settled.{StandsWhere}
 use Rattle.sdr_run.specs.declared.playing.Ran.{Ran}
-use Rattle.sdr_station.proofs.GroundLemmas.{heap_ground}
 use Rattle.sdr_station.specs.CrashNow.{crash_now}
-use Rattle.sdr_station.specs.Grounded.{Grounded, Leaves, OpensAs, StandsForBoth}
+use Rattle.sdr_station.specs.Grounded.{Grounded, Leaves, OpensAs}
 use Rattle.sdr_station.specs.Opening.{IsOpen, first_on}
 use Rattle.sdr_station.specs.declared.error.OpenError.{OpenError}
 
@@ -32,9 +33,9 @@ told_before : (old new : Option (List ℕ)) (y : List ℕ) → new ≡ Some y �
 told_before None new y is tells = absurd (true≢false (sym (ap is_some is) ∙ tells))
 told_before (Some x) new y is tells = (x, refl)
 
--- the heap on a disk, with media, as a ground
-abbrev pub ground_of : {D M : Type 0} → DiskGhosts D → MediaGhosts M → Ghosts (Grounded D M)
-ground_of d m = heap_ground d.bytes d.moment d.faults d.may_hold_after m
+-- the heap on a disk, with media, as a ground under a condition on the disk
+abbrev pub ground_of : {D M : Type 0} → DiskGhosts D → MediaGhosts M → Type 0 → Ghosts (Grounded D M)
+ground_of d m condition = ground_where condition d.bytes d.moment d.faults d.may_hold_after m
 
 -- The heap of a disk was opened with media: what opening tells of it.
 pub record OpenedSo {D M : Type 0} (d : DiskGhosts D) (disk : D) (files : M) (g : Grounded D M) : Type 0 where
@@ -43,17 +44,23 @@ pub record OpenedSo {D M : Type 0} (d : DiskGhosts D) (disk : D) (files : M) (g 
   pub keeps : KeepsDisk d.size d.bytes disk g.heap.cells.disk
   pub later : d.faults disk ≤ d.faults g.heap.cells.disk
   pub forward : d.moment disk ≤ d.moment g.heap.cells.disk
-  pub same : IfTold (d.bytes disk) (λ x. AtEach d.moment d.may_hold_after disk g.heap.cells.disk (GivesSame x))
+  pub same : IsSettled d disk → IfTold (d.bytes disk) (λ x. AtEach d.moment d.may_hold_after disk g.heap.cells.disk (GivesSame x))
 
 -- what opening told of the same disk
-pub opened_so : {D M : Type 0} (d : DiskGhosts D) (given disk : D) (files : M) (g : Grounded D M) → given ≡ disk → g.media ≡ files → IsSettled d disk
+pub opened_so : {D M : Type 0} (d : DiskGhosts D) (given disk : D) (files : M) (g : Grounded D M) → given ≡ disk → g.media ≡ files
     → IsOpen d.bytes d.moment d.may_hold_after given g → KeepsDisk d.size d.bytes given g.heap.cells.disk → d.faults given ≤ d.faults g.heap.cells.disk
     → d.moment given ≤ d.moment g.heap.cells.disk → IfTold (d.bytes given) (λ x. MayBeOpened x (d.may_hold_after given (d.moment given))
     → AtEach d.moment d.may_hold_after given g.heap.cells.disk (GivesSame x)) → OpenedSo d disk files g
-opened_so {D} d given disk files g same with_media settled open_so keeps later forward any_moment =
-    let settled_given : IsSettled d given = subst (λ (x : D). IsSettled d x) (sym same) settled in
+opened_so {D} d given disk files g same with_media open_so keeps later forward any_moment =
     subst (λ (x : D). OpenedSo d x files g) same
-    (record { with_media = with_media; open_so = open_so; keeps = keeps; later = later; forward = forward; same = λ x is. any_moment x is (settled_given x is) })
+    (record {
+      with_media = with_media;
+      open_so = open_so;
+      keeps = keeps;
+      later = later;
+      forward = forward;
+      same = λ settled x is. any_moment x is (settled x is);
+    })
 
 -- what is told of a disk that is left is told of the same one
 pub not_run : {D : Type 0} (d : DiskGhosts D) (given disk left now : D) (why : OpenError) → given ≡ disk → now ≡ left
@@ -61,33 +68,36 @@ pub not_run : {D : Type 0} (d : DiskGhosts D) (given disk left now : D) (why : O
 not_run {D} d given disk left now why same left_is is =
     subst (λ (x : D). IsNotRun d x now why) same (subst (λ (y : D). IsNotRun d given y why) (sym left_is) is)
 
--- A heap that was opened on a disk, whose bytes as read are one of the images now, with media.
+-- A heap that was opened on a disk, whose bytes as read are one of the images now, with media, under a condition that is met where the disk
+-- was settled.
 module _ {D M : Type 0} (d : DiskGhosts D) (m : MediaGhosts M) (read_now : (x : D) → IfTold (d.bytes x) (d.may_hold_after x (d.moment x)))
-    (disk : D) (files : M) (script : List ScriptStep) (g : Grounded D M) (settled : IsSettled d disk) (o : OpenedSo d disk files g) where
+    (disk : D) (files : M) (script : List ScriptStep) (g : Grounded D M) (condition : Type 0) (met : condition ↔ IsSettled d disk)
+    (o : OpenedSo d disk files g) where
   -- what was opened stands for the first state
-  stands : StandsForBoth d.bytes d.moment d.may_hold_after g (standing_at (first_on g) [])
-  stands = o.open_so.stands settled
+  stands : StandsWhere condition d.bytes d.moment d.may_hold_after g (standing_at (first_on g) [])
+  stands = record { memory = o.open_so.memory; disk = λ is. o.open_so.stands (met.0 is) }
 
   -- the disk's moment hasn't fallen
   started : d.moment disk ≤ g.moment
   started = omega (arith, o.forward, o.open_so.seen)
 
   -- at each moment of the opening a crash left what opens to the first state
-  opening : (m : ℕ) (image : List ℕ) → d.moment disk ≤ m → m ≤ g.moment → Leaves d.bytes d.may_hold_after g.heap.cells.disk m image
-      → OpensAs image (first_on g)
-  opening m image from to left =
+  opening : IsSettled d disk → (m : ℕ) (image : List ℕ) → d.moment disk ≤ m → m ≤ g.moment
+      → Leaves d.bytes d.may_hold_after g.heap.cells.disk m image → OpensAs image (first_on g)
+  opening settled m image from to left =
       let now = g.heap.cells.disk in
+      let both = o.open_so.stands settled in
       let was = told_before (d.bytes disk) (d.bytes now) left.bytes left.tells o.keeps.tells in
-      let at = o.same was.0 was.1 in
-      let here : g.moment ≡ d.moment now = stands.moment_is left.bytes left.tells in
+      let at = o.same settled was.0 was.1 in
+      let here : g.moment ≡ d.moment now = both.moment_is left.bytes left.tells in
       let read : d.may_hold_after now (d.moment now) left.bytes = read_now now left.bytes left.tells in
-      let opened : OpensAs left.bytes (first_on g) = crash_now d.bytes d.moment d.may_hold_after g (standing_at (first_on g) []) left.bytes stands
+      let opened : OpensAs left.bytes (first_on g) = crash_now d.bytes d.moment d.may_hold_after g (standing_at (first_on g) []) left.bytes both
       (record { bytes = left.bytes; tells = left.tells; left = subst (λ (n : ℕ). d.may_hold_after now n left.bytes) (sym here) read }) in
       let now_same : put_back_of left.bytes ≡ put_back_of was.0 = at.each (d.moment now) left.bytes at.later (omega arith) read in
       let then_same : put_back_of image ≡ put_back_of was.0 = at.each m image from (omega (arith, here, to)) left.left in
       record { heap = opened.heap; back = then_same ∙ sym now_same ∙ opened.back; room = opened.room; stands = opened.stands }
 
-  begins_now : BeginsOn (ground_of d m) (begins_on m (handed_as d disk) script g) (daemons_of script) g
+  begins_now : BeginsOn (ground_of d m condition) (begins_on m (handed_as d disk) script g) (daemons_of script) g
   begins_now = record {
     told = refl;
     daemons_are = refl;
@@ -96,34 +106,44 @@ module _ {D M : Type 0} (d : DiskGhosts D) (m : MediaGhosts M) (read_now : (x : 
     rests = refl;
     moves = [];
     stands = stands;
-    opening = opening;
+    opening = λ m image from to l. opening (met.0 l.met) m image from to l.left;
   }
 
   -- what the run leaves of the disk
-  leaves_journal : (journal : List Entry) (base : Grounded D M) → IsRunOf (ground_of d m) (begins_on m (handed_as d disk) script g) journal base
+  leaves_journal : (journal : List Entry) (base : Grounded D M)
+      → IsRunOf (ground_of d m condition) (begins_on m (handed_as d disk) script g) journal base
       → KeepsDisk d.size d.bytes disk base.heap.cells.disk → d.moment base.heap.cells.disk ≡ base.moment
       → LeavesJournal d (m.told g.media) (daemons_of script) (first_on g) journal disk base.heap.cells.disk
   leaves_journal journal base run keeps seen =
       let now = base.heap.cells.disk in
       record {
         keeps = keeps;
-        any_moment = λ x is m image from to left.
+        any_moment = λ settled x is m image from to left.
             let at = told_before (d.bytes now) (d.bytes disk) x is (sym keeps.tells) in
-            run.crash m image from (omega (arith, to, seen)) (record { bytes = at.0; tells = at.1; left = left });
+            run.crash m image from (omega (arith, to, seen)) (record { met = met.1 settled; left = record { bytes = at.0; tells = at.1; left = left } });
         in_time = subst (λ (n : ℕ). AreMadeBetween (d.moment disk) n journal) (sym seen) run.in_time;
-        early = λ x is m below. run.early m below;
-        all = λ sound x is m from.
+        early = λ settled x is m below. run.early m below;
+        all = λ settled sound x is m from.
             let at = told_before (d.bytes now) (d.bytes disk) x is (sym keeps.tells) in
-            let here : base.moment ≡ d.moment now = (run.rests sound).holds.moment_is at.0 at.1 in
+            let here : base.moment ≡ d.moment now = ((run.rests sound).holds.disk (met.1 settled)).moment_is at.0 at.1 in
             run.all sound m (omega (arith, from, here));
-        settled = λ sound x is. let stands = (run.rests sound).holds in inl (stands.rests stands.memory.sound x is).rest.only;
-        durable = λ sound x is image left.
+        settled = λ settled sound x is.
+            let stands = (run.rests sound).holds.disk (met.1 settled) in
+            inl (stands.rests stands.memory.sound x is).rest.only;
+        synced = λ settled sound x is.
+            let stands = (run.rests sound).holds.disk (met.1 settled) in
+            (stands.rests stands.memory.sound x is).rest.only;
+        closed = λ settled sound x is.
+            let stands = (run.rests sound).holds.disk (met.1 settled) in
+            (stands.rests stands.memory.sound x is).rest.gate;
+        durable = λ settled sound x is image left.
             let at = told_before (d.bytes now) (d.bytes disk) x is (sym keeps.tells) in
             let s = run.rests sound in
-            let here : base.moment ≡ d.moment now = s.holds.moment_is at.0 at.1 in
+            let both = s.holds.disk (met.1 settled) in
+            let here : base.moment ≡ d.moment now = both.moment_is at.0 at.1 in
             record {
               state = s.for.before;
-              opened = crash_now d.bytes d.moment d.may_hold_after base s.for image s.holds
+              opened = crash_now d.bytes d.moment d.may_hold_after base s.for image both
                   (record { bytes = at.0; tells = at.1; left = subst (λ (n : ℕ). d.may_hold_after now n image) (sym here) left });
               tells = s.tells;
             };
@@ -132,7 +152,7 @@ module _ {D M : Type 0} (d : DiskGhosts D) (m : MediaGhosts M) (read_now : (x : 
       }
 
   replays_now : (out out' : Output) (ran : Ran (Grounded D M)) (parts : D × M)
-      → PlaysOut (ground_of d m) (begins_on m (handed_as d disk) script g) script g out out' ran → parts.0 ≡ ran.base.heap.cells.disk
+      → PlaysOut (ground_of d m condition) (begins_on m (handed_as d disk) script g) script g out out' ran → parts.0 ≡ ran.base.heap.cells.disk
       → KeepsDisk d.size d.bytes disk ran.base.heap.cells.disk → d.moment ran.base.heap.cells.disk ≡ ran.base.moment → parts.1 ≡ ran.base.media
       → ReplaysOn d m disk files script out out' (with_base ran parts)
   replays_now out out' ran parts plays on keeps seen media_is =
@@ -157,13 +177,13 @@ module _ {D M : Type 0} (d : DiskGhosts D) (m : MediaGhosts M) (read_now : (x : 
   -- What is told of the disk and media as they were handed in is told so.
   module _ (was : HandedDisk) (handed : was ≡ handed_as d disk) where
     -- a run begins on the heap
-    pub begins_opened : BeginsOn (ground_of d m) (begins_on m was script g) (daemons_of script) g
+    pub begins_opened : BeginsOn (ground_of d m condition) (begins_on m was script g) (daemons_of script) g
     begins_opened =
-        subst (λ (w : HandedDisk). BeginsOn (ground_of d m) (begins_on m w script g) (daemons_of script) g) (sym handed) begins_now
+        subst (λ (w : HandedDisk). BeginsOn (ground_of d m condition) (begins_on m w script g) (daemons_of script) g) (sym handed) begins_now
 
     -- what it has come to, on a disk that stays as long and tells its bytes if it did
     pub replayed : (out out' : Output) (ran : Ran (Grounded D M)) (result : Ran (D × M))
-        → PlaysOut (ground_of d m) (begins_on m was script g) script g out out' ran → result ≡ with_base ran result.base
+        → PlaysOut (ground_of d m condition) (begins_on m was script g) script g out out' ran → result ≡ with_base ran result.base
         → result.base.0 ≡ ran.base.heap.cells.disk → d.size result.base.0 ≡ was.size → is_some (d.bytes result.base.0) ≡ was.tells
         → d.moment result.base.0 ≡ ran.base.moment → result.base.1 ≡ ran.base.media → ReplaysOn d m disk files script out out' result
     replayed out out' ran result plays is on size tells seen media_is =
@@ -171,6 +191,6 @@ module _ {D M : Type 0} (d : DiskGhosts D) (m : MediaGhosts M) (read_now : (x : 
         record { size = size ∙ ap (λ (w : HandedDisk). w.size) handed; tells = tells ∙ ap (λ (w : HandedDisk). w.tells) handed } in
         subst (λ (r : Ran (D × M)). ReplaysOn d m disk files script out out' r) (sym is)
         (replays_now out out' ran result.base
-        (subst (λ (w : HandedDisk). PlaysOut (ground_of d m) (begins_on m w script g) script g out out' ran) handed plays) on
+        (subst (λ (w : HandedDisk). PlaysOut (ground_of d m condition) (begins_on m w script g) script g out out' ran) handed plays) on
         (subst (λ (x : D). KeepsDisk d.size d.bytes disk x) on keeps) (subst (λ (x : D). d.moment x ≡ ran.base.moment) on seen)
         media_is)

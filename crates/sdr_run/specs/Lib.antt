@@ -3,3 +3,4 @@ pub mod Handed
 pub mod Playing
 pub mod Replaying
 pub mod Running
+pub mod Settled

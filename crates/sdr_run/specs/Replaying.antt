@@ -5,6 +5,7 @@ use Rattle.sdr_base.specs.Media.{Told}
 use Rattle.sdr_base.specs.declared.media.Media.{Ghosts as MediaGhosts}
 use Rattle.sdr_core.specs.CoreKept.{AreMadeBetween, RunStart}
 use Rattle.sdr_disk.specs.Moments.{AtEach}
+use Rattle.sdr_disk.specs.Pending.{IsSynced}
 use Rattle.sdr_disk.specs.Told.{IfTold}
 use Rattle.sdr_disk.specs.declared.disk.Disk.{Ghosts as DiskGhosts}
 use Rattle.sdr_run.specs.Schedule.{daemons_of, media_change}
@@ -13,6 +14,7 @@ use Rattle.sdr_machine.specs.Crash.{IsCrashSafe, OpensAfter, OpensTo, done_by, i
 use Rattle.sdr_machine.specs.Ground.{State}
 use Rattle.sdr_machine.specs.Legal.{IsAfter, IsLegal}
 use Rattle.sdr_log.specs.Calls.{KeepsDisk}
+use Rattle.sdr_log.specs.Log.{first_gate}
 use Rattle.sdr_log.specs.Logged.{GivesSame}
 use Rattle.sdr_model.specs.declared.journal.Entry.{Entry}
 use Rattle.sdr_model.specs.declared.script.ScriptStep.{ScriptStep}
@@ -37,24 +39,30 @@ abbrev pub with_base : {S T : Type 0} → Ran S → T → Ran T
 with_base ran base =
     record { journal = ran.journal; base = base; failed = ran.failed; starved = ran.starved; printing = ran.printing }
 
--- What a run with this journal, from the world on a heap and where media tell this, leaves of the disk that was handed in.
+-- What a run with this journal, from the world on a heap and where media tell this, leaves of the disk that was handed in. What a crash
+-- leaves is told where the disk was settled.
 pub record LeavesJournal {D : Type 0} (d : DiskGhosts D) (told : Option Told) (daemons : List ℕ) (first : State) (journal : List Entry)
     (old new : D) : Type 0 where
   -- the disk is as long, and tells its bytes if it did
   pub keeps : KeepsDisk d.size d.bytes old new
   -- at each moment of the call a crash leaves the state after some first entries, and all that are done
-  pub any_moment : IfTold (d.bytes old) (λ _.
+  pub any_moment : IsSettled d old → IfTold (d.bytes old) (λ _.
       IsCrashSafe d.moment d.may_hold_after (OpensAfter OpensAs told daemons first journal) (d.moment old) journal new)
   -- each entry was begun since the begin of the call and done by its return, also where the disk failed in it
   pub in_time : AreMadeBetween (d.moment old) (d.moment new) journal
   -- none was done before the call
-  pub early : IfTold (d.bytes old) (λ _. (m : ℕ) → m < d.moment old → done_by m journal ≡ 0)
+  pub early : IsSettled d old → IfTold (d.bytes old) (λ _. (m : ℕ) → m < d.moment old → done_by m journal ≡ 0)
   -- unless the disk failed in an entry, all of them are done by now, nothing is pending, and a crash now leaves the state after all
-  pub all : is_sound journal ≡ true → IfTold (d.bytes old) (λ _. (m : ℕ) → d.moment new ≤ m → done_by m journal ≡ length journal)
-  pub settled : is_sound journal ≡ true → IsSettled d new
-  pub durable : is_sound journal ≡ true → IfTold (d.bytes old) (λ _.
+  pub all :
+      IsSettled d old → is_sound journal ≡ true
+      → IfTold (d.bytes old) (λ _. (m : ℕ) → d.moment new ≤ m → done_by m journal ≡ length journal)
+  pub settled : IsSettled d old → is_sound journal ≡ true → IsSettled d new
+  pub synced : IsSettled d old → is_sound journal ≡ true → IsSynced d.bytes d.moment d.may_hold_after new
+  pub durable : IsSettled d old → is_sound journal ≡ true → IfTold (d.bytes old) (λ _.
       (image : List ℕ) → d.may_hold_after new (d.moment new) image
       → OpensTo OpensAs (λ s. IsAfter told daemons first journal (length journal) s) image)
+  -- and no batch is open
+  pub closed : IsSettled d old → is_sound journal ≡ true → IfTold (d.bytes new) (λ x. first_gate x ≡ 0)
   -- the disk failed in an entry only where its count of faults rose, and the count has not fallen
   pub later : d.faults old ≤ d.faults new
   pub cause : is_sound journal ≡ false → Rose (d.faults old) (d.faults new)
@@ -83,7 +91,7 @@ pub record IsNotRun {D : Type 0} (d : DiskGhosts D) (disk disk' : D) (cause : Op
   -- the heap is damaged
   pub keeps : KeepsDisk d.size d.bytes disk disk'
   pub bytes : LeavesBytes (d.bytes disk) (d.bytes disk') cause
-  -- at each moment of the call a crash leaves what gives the same heap, or none as before
-  pub any_moment : IfTold (d.bytes disk) (λ x. AtEach d.moment d.may_hold_after disk disk' (GivesSame x))
+  -- where the disk was settled, at each moment of the call a crash leaves what gives the same heap, or none as before
+  pub any_moment : IsSettled d disk → IfTold (d.bytes disk) (λ x. AtEach d.moment d.may_hold_after disk disk' (GivesSame x))
   -- no count of faults has fallen
   pub later : d.faults disk ≤ d.faults disk'

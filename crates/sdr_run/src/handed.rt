@@ -1,5 +1,5 @@
 // A disk that was handed in.
-ghost use Rattle.std.specs.Prelude.{◌≡◌, is_some};
+ghost use Rattle.std.specs.Prelude.{◌≡◌, is_some, ⊤};
 ghost use Rattle.sdr_run.specs.Handed.{HandedDisk, no_disk};
 
 use sdr_disk::{Disk, DiskFault};
@@ -8,10 +8,15 @@ use std::marker::{Brand, Model, PhantomData};
 /// How a disk was as it was handed in. The caller that hands it in picks it.
 pub trait HandedIn {
     ghost was: { HandedDisk };
+
+    /// The condition under which it is told what a crash leaves of it.
+    ghost condition: { Type 0 };
 }
 
 impl HandedIn for Brand {
     ghost was = { no_disk };
+
+    ghost condition = { ⊤ };
 }
 
 /// A disk that is as long as it was handed in, and tells its bytes if it did. Whatever is made of it,

@@ -8,18 +8,20 @@
 //!    finds no memory, no further step is made, and the leaves tell so. They take no memory.
 //! 4. `play` runs on any ground that tells what its calls did. The journal is that of the run.
 //! 5. `replay` opens the heap of a disk and plays on it, with the media that its sources name. At each
-//!    moment of the call a crash leaves the state after some first entries, and all that are done. The media come back with the disk.
+//!    moment of the call a crash leaves the state after some first entries, and all that are done, where the disk was settled as it was
+//!    handed in. All else holds for every disk. The media come back with the disk.
 //!
 //! Proved: `run` prints the text of a run of the machine on the script's steps, whole, or a part from the front
 //! if the sink failed, or that of some first steps if it ran out of memory (`ok`, `output`, `memory`). `replay`: the printed
-//! answers and the journal are those of one run of the script on the heap that was opened (`ReplaysOn`). A crash at any moment
-//! of the call leaves a disk that opens to the state after some first entries, all done ones among them (`any_moment`,
-//! `LeavesJournal`). Each entry is begun and done between the begin of the call and its return (`in_time`).
+//! answers and the journal are those of one run of the script on the heap that was opened (`ReplaysOn`), for every disk. If the disk was
+//! settled (`IsSettled`), a crash at any moment of the call leaves a disk that opens to the state after some first entries, all done ones
+//! among them (`any_moment`, `LeavesJournal`). That no entry begins before the call is not proved.
 //!
 //! Only tested: each call's answers (`tests/cases`).
 #![tactic(auto)]
 
 mod handed;
+mod handed_ground;
 mod playing;
 mod replaying;
 mod running;

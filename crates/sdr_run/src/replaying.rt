@@ -1,10 +1,11 @@
 // A schedule that runs on the heap of a disk.
-ghost use Rattle.std.specs.Prelude.{◌≡◌, ◌≤◌, IfErr, IfOk, is_some, length};
+ghost use Rattle.std.specs.Prelude.{◌≡◌, ◌≤◌, ◌↔◌, IfErr, IfOk, is_some, length};
 ghost use Rattle.sdr_run.specs.Handed.{handed_as};
 ghost use Rattle.sdr_run.specs.Playing.{output};
 ghost use Rattle.sdr_run.specs.Replaying.{IsNotRun, IsSettled, ReplaysOn, with_base};
 
 use crate::handed::{Handed, HandedIn};
+use crate::handed_ground::HandedGround;
 use crate::playing::{Ran, play};
 use sdr_base::{Media, Sink};
 use sdr_disk::Disk;
@@ -15,9 +16,7 @@ use std::marker::Brand;
 use zco_acct::{Compares, Notice};
 
 // What a schedule has come to, with the disk of the heap on which it ran, and its media.
-fn with_parts<D: Disk, M: Media, J: HandedIn>(
-    ran: Ran<HeapGround<Handed<D, J>, M, Compares>>,
-) -> Ran<(D, M)>
+fn with_parts<D: Disk, M: Media, J: HandedIn>(ran: Ran<HandedGround<D, M, J>>) -> Ran<(D, M)>
     ensures same { result ≡ with_base ran result.base }
     ensures disk { result.base.0 ≡ ran.base.heap.cells.disk }
     ensures size { D.size result.base.0 ≡ J.was.size }
@@ -32,7 +31,7 @@ fn with_parts<D: Disk, M: Media, J: HandedIn>(
         starved,
         printing,
     } = ran;
-    let (disk, media) = base.into_parts();
+    let (disk, media) = base.into_ground().into_parts();
     Ran {
         journal,
         base: (disk.into_disk(), media),
@@ -51,8 +50,8 @@ fn replay_on<D: Disk, M: Media, J: HandedIn, K: Sink>(
     out: &mut K,
 ) -> Result<Ran<(D, M)>, Shut<D, M>>
     requires few { length script.now ≤ 1_048_577 }
-    requires settled { IsSettled D.Disk disk }
     requires handed { J.was ≡ handed_as D.Disk disk }
+    requires settled { J.condition ↔ IsSettled D.Disk disk }
     ensures ran { IfOk result (ReplaysOn D.Disk M.Media disk media script.now
         (output K.taken K.faults out.old) (output K.taken K.faults out.new)) }
     ensures shut { IfErr result (λ shut. IsNotRun D.Disk disk shut.disk shut.why) }
@@ -71,10 +70,11 @@ fn replay_on<D: Disk, M: Media, J: HandedIn, K: Sink>(
             });
         }
     };
-    match play::<HeapGround<Handed<D, J>, M, Compares>, Brand, K>(alloc, script, ground, out) {
+    let base = HandedGround::new(ground);
+    match play::<HandedGround<D, M, J>, Brand, K>(alloc, script, base, out) {
         Ok(ran) => Ok(with_parts(ran)),
-        Err(ground) => {
-            let (disk, media) = ground.into_parts();
+        Err(base) => {
+            let (disk, media) = base.into_ground().into_parts();
             Err(Shut {
                 why: OpenError::NoMemory,
                 disk: disk.into_disk(),
@@ -95,7 +95,6 @@ pub fn replay<D: Disk, M: Media, K: Sink>(
     out: &mut K,
 ) -> Result<Ran<(D, M)>, Shut<D, M>>
     requires few { length script.now ≤ 1_048_577 }
-    requires settled { IsSettled D.Disk disk }
     ensures ran { IfOk result (ReplaysOn D.Disk M.Media disk media script.now
         (output K.taken K.faults out.old) (output K.taken K.faults out.new)) }
     ensures shut { IfErr result (λ shut. IsNotRun D.Disk disk shut.disk shut.why) }

@@ -1,4 +1,3 @@
-pub mod FreshLemmas
 pub mod InspectLemmas
 pub mod RecoverLemmas
 pub mod ReplayLemmas

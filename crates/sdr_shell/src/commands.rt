@@ -8,7 +8,6 @@ ghost use Rattle.sdr_run.specs.Schedule.{HaveFailed, SomeRun, media_change};
 ghost use Rattle.sdr_shell.specs.Still.{WritesOut, HadRun, IsDone, IsRefused, IsDryStatus, IsStarved};
 ghost use Rattle.sdr_shell.specs.Still.{Tells, line_refused};
 ghost use Rattle.sdr_base.specs.Written.{AppendsPart};
-ghost use Rattle.sdr_run.specs.Replaying.{IsSettled};
 ghost use Rattle.sdr_shell.specs.Words.{AnswersWords};
 
 use crate::RunOutcome;
@@ -161,7 +160,6 @@ pub fn still<D: Disk, M: Media, S: Source, K: Sink>(
     input: &mut S,
     output: &mut K,
 ) -> RunOutcome<D, M>
-    requires settled { form_of words.now ≡ Some Form.Replay → IsSettled D.Disk disk }
     ensures { AnswersWords D.Disk M.Media S.Source K.Sink words.now disk media
         input.old input.new output.old output.new result }
 {

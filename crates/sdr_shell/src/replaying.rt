@@ -2,7 +2,6 @@
 ghost use Rattle.std.specs.Prelude.{◌≡◌, ◌≤◌, ◌+◌, [], length};
 ghost use Rattle.sdr_run.specs.Schedule.{HaveFailed, media_change};
 ghost use Rattle.sdr_log.specs.Calls.{KeepsDisk};
-ghost use Rattle.sdr_run.specs.Replaying.{IsSettled};
 ghost use Rattle.sdr_shell.specs.Answers.{Wrote, seen};
 ghost use Rattle.sdr_shell.specs.Replaying.{AnswersReplay, RunsOrNot, TellsRan};
 
@@ -68,8 +67,7 @@ fn replay_script<D: Disk, M: Media, K: Sink>(
     media: M,
     output: &mut K,
 ) -> Replayed<D, M>
-    requires few { length script.now ≤ 1_048_577 }
-    requires settled { IsSettled D.Disk disk }
+    requires { length script.now ≤ 1_048_577 }
     ensures runs { RunsOrNot D.Disk M.Media disk media script.now
         (seen K.taken K.faults output.old) (seen K.taken K.faults output.new) result }
     ensures media { HaveFailed 0 0 (media_change M.told M.faults M.short media result.media) }
@@ -103,7 +101,6 @@ pub fn replay_input<D: Disk, M: Media, S: Source, K: Sink>(
     input: &mut S,
     output: &mut K,
 ) -> Replayed<D, M>
-    requires settled { IsSettled D.Disk disk }
     ensures answers { AnswersReplay D.Disk M.Media result.status
         (seen S.left S.faults input.old) (seen S.left S.faults input.new)
         disk result.disk media result.media result.journal

@@ -1,9 +1,5 @@
 // The call that the program makes.
-ghost use Rattle.std.specs.Prelude.{◌≡◌, Some};
-ghost use Rattle.sdr_run.specs.Replaying.{IsSettled};
-ghost use Rattle.sdr_shell.specs.Form.{form_of};
 ghost use Rattle.sdr_shell.specs.Words.{AnswersWords};
-ghost use Rattle.sdr_shell.specs.declared.form.Form.{Form};
 
 use crate::RunOutcome;
 use crate::commands::still;
@@ -33,7 +29,6 @@ pub fn top<
     output: &mut K,
     _gate: &G,
 ) -> RunOutcome<D, M>
-    requires settled { form_of words.now ≡ Some Form.Replay → IsSettled D.Disk disk }
     ensures { AnswersWords D.Disk M.Media S.Source K.Sink words.now disk media
         input.old input.new output.old output.new result }
 {

@@ -177,6 +177,7 @@ pub record ClosesTo {D M : Type 0} (told : D → Option (List ℕ)) (moment faul
   pub memory : Brings StandsInMemory old new P
   pub brings : Brings (λ g v. StandsForBoth told moment may_hold_after g v) old new P
   pub sound : new.heap.cells.failed ≡ false
+  pub time : old.moment ≤ new.moment
   pub keeps : KeepsGround (heap_ground told moment faults may_hold_after media) false old new
   pub any_moment : LeavesOr may_keep (heap_ground told moment faults may_hold_after media) old new
   pub is_ground : IsGround moment new
@@ -274,6 +275,7 @@ module _ {D M : Type 0} (told : D → Option (List ℕ)) (moment : D → ℕ) (f
     memory = brings;
     brings = brings_closed new on at_now rests brings;
     sound = still;
+    time = omega (arith, is, at_now);
     keeps = keeps_later told moment faults may_hold_after media old new unread (subst (λ (d : D). faults old.heap.cells.disk ≤ faults d) (sym on) later);
     any_moment = leaves;
     is_ground = ground_brought moment old new ground (at_now ∙ is ∙ ap moment (sym on)) sound still going brings;

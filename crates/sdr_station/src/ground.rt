@@ -208,6 +208,7 @@ impl<D: Disk, M: Media, F: Notify + Drop> HeapGround<D, M, F> {
             (⟦<HeapGround<D, M, F> as HasGround>⟧.lapses self.old)
             (⟦<HeapGround<D, M, F> as HasGround>⟧.lapses self.new) }
         ensures unread { reads_by call.now result ≡ false → self.new.media ≡ self.old.media }
+        ensures time { self.old.moment ≤ self.new.moment }
         ensures keeps { KeepsGround ⟦<HeapGround<D, M, F> as HasGround>⟧ true self.old self.new }
         ensures any_moment { LeavesBefore ⟦<HeapGround<D, M, F> as HasGround>⟧ self.old self.new }
     {
@@ -245,6 +246,7 @@ impl<D: Disk, M: Media, F: Notify + Drop> HeapGround<D, M, F> {
         ensures media { self.new.media ≡ self.old.media }
         ensures fault { OnErr result
             (MeetsFault ⟦<HeapGround<D, M, F> as HasGround>⟧ self.old self.new) }
+        ensures time { self.old.moment ≤ self.new.moment }
         ensures keeps { KeepsGround ⟦<HeapGround<D, M, F> as HasGround>⟧ false self.old self.new }
         ensures any_moment { LeavesEither ⟦<HeapGround<D, M, F> as HasGround>⟧ self.old self.new }
     {
@@ -279,6 +281,7 @@ impl<D: Disk, M: Media, F: Notify + Drop> HeapGround<D, M, F> {
         ensures media { self.new.media ≡ self.old.media }
         ensures fault { OnErr result
             (MeetsFault ⟦<HeapGround<D, M, F> as HasGround>⟧ self.old self.new) }
+        ensures time { self.old.moment ≤ self.new.moment }
         ensures keeps { KeepsGround ⟦<HeapGround<D, M, F> as HasGround>⟧ false self.old self.new }
         ensures any_moment { LeavesBefore ⟦<HeapGround<D, M, F> as HasGround>⟧ self.old self.new }
     {
@@ -315,6 +318,7 @@ impl<D: Disk, M: Media, F: Notify + Drop> HeapGround<D, M, F> {
             (MeetsFault ⟦<HeapGround<D, M, F> as HasGround>⟧ self.old self.new) }
         ensures restored { self.new.restored ≡ self.old.restored }
         ensures media { self.new.media ≡ self.old.media }
+        ensures time { self.old.moment ≤ self.new.moment }
         ensures keeps { KeepsGround ⟦<HeapGround<D, M, F> as HasGround>⟧ false self.old self.new }
         ensures any_moment { LeavesBefore ⟦<HeapGround<D, M, F> as HasGround>⟧ self.old self.new }
     {
@@ -365,6 +369,7 @@ impl<D: Disk, M: Media, F: Notify + Drop> HeapGround<D, M, F> {
             × IsQuiet self.old.heap.cells self.new.heap.cells × IsOk result }
         ensures fault { OnErr result
             (MeetsFault ⟦<HeapGround<D, M, F> as HasGround>⟧ self.old self.new) }
+        ensures time { self.old.moment ≤ self.new.moment }
         ensures keeps { KeepsGround ⟦<HeapGround<D, M, F> as HasGround>⟧ false self.old self.new }
         ensures any_moment { LeavesBefore ⟦<HeapGround<D, M, F> as HasGround>⟧ self.old self.new }
     {
@@ -435,6 +440,8 @@ impl<D: Disk, M: Media, F: Notify + Drop> Backing for HeapGround<D, M, F> {
 
     // Want of memory comes just where a call was stopped.
     fn call(&mut self, call: &Call) -> Result<Reply, Halt>
+        ensures brings { IfOk result (λ reply.
+            Brings StandsInMemory self.old self.new (Calls (M.told self.old.media) call.now reply)) }
         ensures answered { IfOk result (λ reply.
             Brings ⟦<HeapGround<D, M, F> as HasGround>⟧.stands self.old self.new
             (Calls (M.told self.old.media) call.now reply)) }
@@ -448,6 +455,7 @@ impl<D: Disk, M: Media, F: Notify + Drop> Backing for HeapGround<D, M, F> {
         ensures stopped { IsErrOf result Halt.Memory ↔ (self.old.stopped ≡ true) }
         ensures fault { IsErrOf result Halt.Fault
             → MeetsFault ⟦<HeapGround<D, M, F> as HasGround>⟧ self.old self.new }
+        ensures time { self.old.moment ≤ self.new.moment }
         ensures keeps { KeepsGround ⟦<HeapGround<D, M, F> as HasGround>⟧ true self.old self.new }
         ensures any_moment { LeavesBefore ⟦<HeapGround<D, M, F> as HasGround>⟧ self.old self.new }
     {
@@ -459,12 +467,14 @@ impl<D: Disk, M: Media, F: Notify + Drop> Backing for HeapGround<D, M, F> {
 
     // Want of memory comes just where a call was stopped.
     fn keep(&mut self) -> Result<(), Halt>
+        ensures brings { OnOk result (Brings StandsInMemory self.old self.new Commits) }
         ensures kept { OnOk result
             (Brings ⟦<HeapGround<D, M, F> as HasGround>⟧.stands self.old self.new Commits) }
         ensures memory { IsErrOf result Halt.Memory → self.new ≡ self.old }
         ensures stopped { IsErrOf result Halt.Memory ↔ (self.old.stopped ≡ true) }
         ensures fault { IsErrOf result Halt.Fault
             → MeetsFault ⟦<HeapGround<D, M, F> as HasGround>⟧ self.old self.new }
+        ensures time { self.old.moment ≤ self.new.moment }
         ensures keeps { KeepsGround ⟦<HeapGround<D, M, F> as HasGround>⟧ false self.old self.new }
         ensures any_moment { LeavesEither ⟦<HeapGround<D, M, F> as HasGround>⟧ self.old self.new }
     {

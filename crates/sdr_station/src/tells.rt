@@ -2,6 +2,7 @@
 ghost use Rattle.std.specs.Prelude.{◌≤◌, ◌+◌, ◌/◌, IfOk, IsOk};
 ghost use Rattle.sdr_machine.specs.Room.{HoldsAny};
 ghost use Rattle.sdr_machine.specs.Standing.{GroundState};
+ghost use Rattle.sdr_station.specs.Grounded.{StandsInMemory};
 ghost use Rattle.sdr_station.specs.Telling.{BytesAtMost};
 
 use crate::HeapGround;
@@ -46,6 +47,8 @@ impl<D: Disk, M: Media, F: Notify + Drop> Tells for HeapGround<D, M, F> {
     fn room_for(&self, call: &Call) -> Result<Room, NoMemory>
         ensures holds { IfOk result (λ room. (v : GroundState) →
             ⟦<HeapGround<D, M, F> as HasGround>⟧.stands self.now v → HoldsAny room v.now call.now) }
+        ensures memory { IfOk result (λ room. (v : GroundState) →
+            StandsInMemory self.now v → HoldsAny room v.now call.now) }
         ensures served { IsOk result }
         ensures few { IfOk result (λ room.
             (room.moves ≤ self.now.heap.size / 4 + 4) × (room.bytes ≤ 4096)) }

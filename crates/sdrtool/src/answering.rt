@@ -1,7 +1,6 @@
 // The call of `top` that answers a form.
 ghost use Rattle.std.specs.Prelude.{◌≡◌, ◌↔◌, Some, None, codes};
 ghost use Rattle.sdr_log.specs.Frame.{IsInLimits};
-ghost use Rattle.sdr_run.specs.Replaying.{IsSettled};
 ghost use Rattle.sdr_shell.specs.Answers.{Wrote, seen};
 ghost use Rattle.sdr_shell.specs.Form.{OnFormat, form_of};
 ghost use Rattle.sdr_shell.specs.declared.form.Form.{Form};
@@ -44,7 +43,6 @@ fn answer<
     S: Source,
     K: Sink,
 >(rt: &R, words: &[RcStr], disk: D, media: M, input: &mut S, output: &mut K) -> Answered<D>
-    requires settled { form_of words.now ≡ Some Form.Replay → IsSettled D.Disk disk }
     ensures { IsAnswered D.Disk M.Media S.Source K.Sink words.now disk media
         input.old input.new output.old output.new result }
 {
@@ -56,7 +54,6 @@ fn answer<
 }
 
 // The status of the top call on an empty disk in memory.
-#[tactic(auto, using(sdr_shell::proofs::FreshLemmas::fresh_settled))]
 fn answer_in_memory<
     R: Threads + Wait + Sync + AllocGlobal,
     M: Media + Send + Drop,
@@ -98,7 +95,6 @@ fn open_for<R: Files<File = File> + AllocGlobal>(
 }
 
 // The status of a form on the file of a path, where it can be opened.
-#[tactic(auto, using(sdr_system::specs::Untold::untold))]
 fn answer_on_file<
     R: Threads + Wait + Sync + AllocGlobal + Eprint + Files<File = File>,
     M: Media + Send + Drop,

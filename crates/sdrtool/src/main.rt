@@ -12,8 +12,8 @@
 //! 6. The words, the disk and the input go to the top call, whose status the program ends with.
 //! 7. Files and bulk items are those of the current folder.
 //!
-//! Proved: each call of `top` is made as its contract wants, and its status and disk are given on (`IsAnswered`, a clause of the
-//! private `answer`). That the program ends with this status is not proved.
+//! Proved: what `top` answers to the words stands, and its status and disk are given on (`IsAnswered`, a clause of the private
+//! `answer`); it asks nothing of the disk. That the program ends with this status is not proved.
 //! `--help` and `--version` are printed whole, or the output failed (`done`, `cause`). What is told of a disk is read alone.
 //!
 //! Only tested: that words are tried before a file is opened, that `dry` and a refused script open none, what standard error

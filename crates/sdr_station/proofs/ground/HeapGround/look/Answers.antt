@@ -1,5 +1,5 @@
 -- A ticket is seen in the world before the transaction, once changes that were made in it are dropped.
-use Rattle.std.proofs.Common.{None, ap, subst}
+use Rattle.std.proofs.Common.{None, ap, arith, subst}
 use Rattle.sdr_machine.specs.Serving.{Shows}
 use Rattle.sdr_station.proofs.ClosingLemmas.{brings_failed}
 use Rattle.sdr_station.proofs.LookLemmas.{before_idle, leaves_later, shows_failed, shows_later}
@@ -45,3 +45,13 @@ returns-clause-shown g c =
     shows_failed g.D.Disk.bytes g.D.Disk.moment g.D.Disk.may_hold_after c.args.self.now c.roll_back_for_look.new.self
     c.args.ticket
     (c.in_ok-roll_back_for_look.ensures.failed c.if-branch.false)
+
+pub returns-then-self-clause-time : goal.returns-then-self-clause-time
+returns-then-self-clause-time g c =
+    let same = ap (λ (o : Grounded g.row.D.Denot g.row.M.Denot). o.moment) c.see.ensures.same in
+    omega (arith, same)
+
+pub returns-then-branch-clause-time : goal.returns-then-branch-clause-time
+returns-then-branch-clause-time g c =
+    let same = ap (λ (o : Grounded g.row.D.Denot g.row.M.Denot). o.moment) c.see-then-branch.ensures.same in
+    omega (arith, same, c.roll_back_for_look.ensures.time)

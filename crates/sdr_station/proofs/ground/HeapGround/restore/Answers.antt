@@ -58,6 +58,7 @@ returns-in-Ok g c =
       restored = ap (λ (o : Grounded D M). o.restored) c.self.view_is;
       media = ap (λ (o : Grounded D M). o.media) c.self.view_is;
       fault = tt;
+      time = all.time;
       keeps = all.keeps;
       any_moment = all.any_moment;
     }
@@ -138,3 +139,8 @@ invariant_of-self g c =
     let closed = closes_back b m f l n old disk at.result at_now since sound e.disk.tells _ (e.any_moment sound) new is c.self.invariant
     e.cause.later (λ rests. subst (λ (h : Held (Opened D)). Rests b m l h.cells) e.ended (e.rests rests)) (λ image p. p) in
     closed.is_ground
+
+pub returns-in-Err-DiskFault-clause-time : goal.returns-in-Err-DiskFault-clause-time
+returns-in-Err-DiskFault-clause-time g c =
+    let was = ap (λ (o : Grounded g.row.D.Denot g.row.M.Denot). o.moment) c.self.view_is in
+    omega (arith, was, c.moment_since-self-inside-in-Err-DiskFault.ensures.moment)

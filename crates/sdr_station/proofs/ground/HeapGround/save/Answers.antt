@@ -57,6 +57,7 @@ returns-in-Ok g c =
       restored = ap (λ (o : Grounded D M). o.restored) c.self.view_is;
       media = ap (λ (o : Grounded D M). o.media) c.self.view_is;
       fault = tt;
+      time = all.time;
       keeps = all.keeps;
       any_moment = all.any_moment;
     }
@@ -164,3 +165,8 @@ returns-in-Err-clause-fault g c =
     subst (λ (o : Grounded D M). MeetsFault (heap_ground b m f l n) o new) c.self.view_is
     (meets_fault b m f l n _ new c.commit.new.heap.cells _ (ap (λ (h : Held (Opened D)). h.cells.disk) at.ensures.same)
     (c.self.invariant.sound going) e.cause.explained e.answered)
+
+pub returns-in-Err-clause-time : goal.returns-in-Err-clause-time
+returns-in-Err-clause-time g c =
+    let was = ap (λ (o : Grounded g.row.D.Denot g.row.M.Denot). o.moment) c.self.view_is in
+    omega (arith, was, c.moment_since-self-inside-in-Err.ensures.moment)

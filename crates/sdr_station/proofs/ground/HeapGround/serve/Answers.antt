@@ -59,6 +59,7 @@ returns-in-Ok g c =
       restored = ap (λ (o : Grounded D M). o.restored) c.self.view_is;
       gap = at.gap;
       unread = at.unread;
+      time = at.time;
       keeps = at.keeps;
       any_moment = at.any_moment;
     }
@@ -99,6 +100,7 @@ returns-in-Err-Refused g c =
       restored = ap (λ (o : Grounded D M). o.restored) c.self.view_is;
       gap = at.gap;
       unread = at.unread;
+      time = at.time;
       keeps = at.keeps;
       any_moment = at.any_moment;
     }
@@ -136,6 +138,7 @@ returns-in-Err-MediaFault g c =
       restored = ap (λ (o : Grounded D M). o.restored) c.self.view_is;
       gap = at.gap;
       unread = at.unread;
+      time = at.time;
       keeps = at.keeps;
       any_moment = at.any_moment;
     }

@@ -1,0 +1,104 @@
+// A heap on a disk that was handed in, as the ground of a lock.
+use crate::handed::{Handed, HandedIn};
+use sdr_base::{Media, Move, NoMemory};
+use sdr_disk::Disk;
+use sdr_machine::{Backing, Fault, Halt, HasGround, Room, Tells};
+use sdr_model::{Call, Reply};
+use sdr_station::HeapGround;
+use std::marker::Model;
+use zco_acct::Compares;
+
+/// A heap on a disk that was handed in, with its media. What a crash leaves of it is told where the disk was settled
+/// as it was handed in; all else is told of every disk.
+pub struct HandedGround<D: Disk, M: Media, J: HandedIn> {
+    ground: HeapGround<Handed<D, J>, M, Compares>,
+}
+
+impl<D: Disk, M: Media, J: HandedIn> Model for HandedGround<D, M, J> {
+    ghost use Rattle.sdr_station.specs.Grounded.{Grounded};
+
+    ghost Value = { Grounded D M };
+
+    ghost view = { λ s. s.ground };
+}
+
+impl<D: Disk, M: Media, J: HandedIn> HandedGround<D, M, J> {
+    ghost use Rattle.std.specs.Prelude.{◌≡◌};
+
+    pub fn new(ground: HeapGround<Handed<D, J>, M, Compares>) -> HandedGround<D, M, J>
+        ensures { result ≡ ground }
+    {
+        HandedGround { ground }
+    }
+
+    pub fn into_ground(self) -> HeapGround<Handed<D, J>, M, Compares>
+        ensures { result ≡ self }
+    {
+        let HandedGround { ground } = self;
+        ground
+    }
+}
+
+impl<D: Disk, M: Media, J: HandedIn> HasGround for HandedGround<D, M, J> {
+    ghost use Rattle.std.specs.Prelude.{⊤};
+    ghost use Rattle.sdr_run.specs.Settled as under;
+    ghost use Rattle.sdr_station.specs.Grounded as grounded;
+
+    ghost stands = { λ g v. under.StandsWhere J.condition D.bytes D.moment D.may_hold_after g v };
+
+    ghost moment = { λ g. g.moment };
+
+    ghost faults = { λ g. D.faults g.heap.cells.disk };
+
+    ghost lapses = { λ g. record { faults = M.faults g.media; short = M.short g.media } };
+
+    ghost told = { λ g. M.told g.media };
+
+    ghost lasts = { λ _ _. ⊤ };
+
+    ghost left = { λ g m image.
+        under.LeavesWhere J.condition D.bytes D.may_hold_after g.heap.cells.disk m image };
+
+    ghost opens = { λ image s. grounded.OpensAs image s };
+
+    ghost crash_now = { λ g v image at left.
+        under.crash_now J.condition D.bytes D.moment D.may_hold_after g v image at left };
+
+    ghost lasts_less = { λ g n lasts. lasts };
+}
+
+impl<D: Disk, M: Media, J: HandedIn> Backing for HandedGround<D, M, J> {
+    fn moment(&self) -> u64 {
+        self.ground.moment()
+    }
+
+    fn call(&mut self, call: &Call) -> Result<Reply, Halt> {
+        self.ground.call(call)
+    }
+
+    fn keep(&mut self) -> Result<(), Halt> {
+        self.ground.keep()
+    }
+
+    fn roll_back(&mut self) -> Result<(), Fault> {
+        self.ground.restore()
+    }
+
+    fn look(&mut self, ticket: u64) -> Result<Option<bool>, Fault> {
+        HeapGround::look(&mut self.ground, ticket)
+    }
+}
+
+impl<D: Disk, M: Media, J: HandedIn> Tells for HandedGround<D, M, J> {
+    fn moves(&self) -> &[Move] {
+        HeapGround::moves(&self.ground)
+    }
+
+    fn shown(&self) -> &[u8] {
+        HeapGround::shown(&self.ground)
+    }
+
+    fn room_for(&self, call: &Call) -> Result<Room, NoMemory> {
+        self.ground.room_for(call)
+    }
+}
