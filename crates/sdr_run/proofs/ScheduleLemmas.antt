@@ -12,10 +12,12 @@ use Rattle.sdr_machine.specs.declared.came.Came.{Came}
 use Rattle.sdr_base.specs.declared.moves.Move.{Move}
 use Rattle.sdr_model.specs.World.{empty_world}
 use Rattle.mem_machine.specs.Asking.{made_dry}
+use Rattle.mem_machine.specs.Leaves.{AllLeaveFrom}
+use Rattle.sdr_model.specs.declared.event.Leave.TheVariants as leaves
 use Rattle.sdr_base.specs.Media.{Told}
 use Rattle.sdr_words.specs.Bindings.{Binding, bound, event_of}
 use Rattle.sdr_run.proofs.MediaLemmas.{caused_later, caused_more, failed_refl}
-use Rattle.sdr_run.specs.Schedule.{StepAnswered, AreCaused, FollowsScript, HaveFailed, IsCaused, MakesEvent, MediaChange, RunsDry, SeenMedia, SomeAnswer, SomeRun, answer_line, bindings_after, run_text, daemons_of, from_to}
+use Rattle.sdr_run.specs.Schedule.{StepAnswered, AreCaused, FollowsScript, HaveFailed, IsCaused, MakesEvent, MediaChange, RunsDry, RunsTo, RunsWhole, SeenMedia, SomeAnswer, SomeRun, answer_line, bindings_after, run_text, daemons_of, from_to}
 use Rattle.sdr_text.proofs.TextLemmas.{part_later}
 use Rattle.sdr_text.specs.Text.{line_text}
 use Rattle.sdr_model.specs.declared.script.ScriptStep.{ScriptStep}
@@ -175,16 +177,36 @@ module _ (media between media' : SeenMedia) (script : List ScriptStep) (step : S
       running_some (from_to media media') script rest _ m' old later (running_next line.came line.answers line.caused line.printed)
 
 pub running_done : (media : MediaChange) (script rest : List ScriptStep) (bindings : List Binding) (m : Machine) (old now : Option (List ℕ))
-    → Running media script rest bindings m old now → rest ≡ []
-    → SomeRun media script (λ rest text. (rest ≡ []) × Appends old now text)
+    → Running media script rest bindings m old now → rest ≡ [] → RunsTo media script m (Appends old now)
 running_done media script rest bindings m old now r is = record {
-  rest = rest;
   made = r.made;
   core = r.at.core;
-  run = r.at.run;
+  run = subst (λ (steps : List ScriptStep). RunsDry media.before.told script steps r.made r.at.core) is r.at.run;
+  machine = r.at.machine;
   caused = r.caused;
-  printed = (is, r.printed);
+  printed = r.printed;
 }
+
+-- what has come to a machine is a run of all steps
+pub some_to : (media : MediaChange) (script : List ScriptStep) (m : Machine) (old now : Option (List ℕ)) → RunsTo media script m (Appends old now)
+    → SomeRun media script (λ rest text. Appends old now text)
+some_to media script m old now r = record { rest = []; made = r.made; core = r.core; run = r.run; caused = r.caused; printed = r.printed }
+
+-- and where all make their leaves on it, the run is whole
+pub whole_of : (media : MediaChange) (script : List ScriptStep) (m m' : Machine) (old now : Option (List ℕ)) → RunsTo media script m (Appends old now)
+    → AllLeaveFrom leaves.Done m m' → RunsWhole media script (Appends old now)
+whole_of media script m m' old now r left =
+    let go = left.each media.before.told r.core r.machine in
+    record {
+      made = r.made;
+      core = r.core;
+      run = r.run;
+      leaving = go.made;
+      last = go.core;
+      leaves = go.tells;
+      caused = r.caused;
+      printed = r.printed;
+    }
 
 -- what else holds of what a run has left and has printed
 pub some_weaker : (media : MediaChange) (script : List ScriptStep) (P Q : List ScriptStep → List ℕ → Type 0)

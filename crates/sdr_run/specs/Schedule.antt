@@ -6,6 +6,7 @@ use Rattle.sdr_base.specs.declared.refusal.Refusal.TheVariants as refusals
 use Rattle.sdr_machine.specs.Agreeing.{AgreesWith}
 use Rattle.sdr_machine.specs.Core.{Core, RunsCore, first_core}
 use Rattle.sdr_machine.specs.Ground.{bare}
+use Rattle.sdr_machine.specs.Leaving.{AllLeave}
 use Rattle.sdr_machine.specs.Machine.{Machine, Made}
 use Rattle.sdr_machine.specs.declared.came.Came.{Came}
 use Rattle.sdr_model.specs.World.{empty_world}
@@ -14,6 +15,7 @@ use Rattle.sdr_model.specs.declared.answer.Answer.{Answer}
 use Rattle.sdr_model.specs.declared.answer.Answer.TheVariants as answers
 use Rattle.sdr_model.specs.declared.answer.Reply.TheVariants as replies
 use Rattle.sdr_model.specs.declared.event.Event.{Event}
+use Rattle.sdr_model.specs.declared.event.Leave.TheVariants as leaves
 use Rattle.sdr_words.specs.Bindings.{Binding, event_of, bound}
 use Rattle.sdr_text.specs.Text.{line_text}
 use Rattle.sdr_model.specs.declared.script.ScriptStep.{ScriptStep}
@@ -158,3 +160,23 @@ pub record SomeRun (media : MediaChange) (script : List ScriptStep) (P : List Sc
     pub run : RunsDry media.before.told script rest made core
     pub caused : AreCaused made media
     pub printed : P rest (run_text made)
+
+-- All steps of the script were made, by which the machine came to this. P tells of the text of the answers.
+pub record RunsTo (media : MediaChange) (script : List ScriptStep) (m : Machine) (P : List ℕ → Type 0) : Type 0 where
+  pub made : List Made
+  pub core : Core
+  pub run : RunsDry media.before.told script [] made core
+  pub machine : core.machine ≡ m
+  pub caused : AreCaused made media
+  pub printed : P (run_text made)
+
+-- All steps of the script were made, and behind them all daemons made their leaves. P tells of the text of the answers.
+pub record RunsWhole (media : MediaChange) (script : List ScriptStep) (P : List ℕ → Type 0) : Type 0 where
+  pub made : List Made
+  pub core : Core
+  pub run : RunsDry media.before.told script [] made core
+  pub leaving : List Made
+  pub last : Core
+  pub leaves : AllLeave media.before.told leaves.Done core leaving last
+  pub caused : AreCaused made media
+  pub printed : P (run_text made)

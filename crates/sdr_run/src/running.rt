@@ -8,7 +8,7 @@ ghost use Rattle.mem_machine.specs.Asking.{Asks};
 ghost use Rattle.mem_machine.specs.Plain.{first_plain, machine_of};
 ghost use Rattle.sdr_model.specs.Pieces.{pieces_told};
 ghost use Rattle.sdr_model.specs.declared.event.Event.{Event};
-ghost use Rattle.sdr_run.specs.Schedule.{StepAnswered, HaveFailed, IsCaused, Responds, SomeAnswer, SomeLine, SomeRun, SomeStep, all_daemons, answer_line, daemons_of, media_change};
+ghost use Rattle.sdr_run.specs.Schedule.{StepAnswered, HaveFailed, IsCaused, Responds, RunsTo, RunsWhole, SomeAnswer, SomeLine, SomeRun, SomeStep, all_daemons, answer_line, daemons_of, media_change};
 
 use mem_machine::Plain;
 use sdr_base::{Media, NoMemory, Refusal, Sink, SinkFault};
@@ -210,8 +210,8 @@ fn run_on<M: Media, K: Sink>(
     requires plain { plain.old ≡ first_plain (daemons_of script.now) }
     requires bindings { bindings.old ≡ [] }
     ensures ok { OnOk result (
-        SomeRun (media_change M.told M.faults M.short media.old media.new) script.now (λ rest text.
-        (rest ≡ []) × Appends (K.taken out.old) (K.taken out.new) text)) }
+        RunsTo (media_change M.told M.faults M.short media.old media.new) script.now
+        (machine_of plain.new) (Appends (K.taken out.old) (K.taken out.new))) }
     ensures memory { result ≡ Err RunError.NoMemory →
         SomeRun (media_change M.told M.faults M.short media.old media.new) script.now (λ rest text.
         Appends (K.taken out.old) (K.taken out.new) text) }
@@ -244,8 +244,8 @@ fn run_through<M: Media, K: Sink>(
     requires plain { plain.old ≡ first_plain (daemons_of script.now) }
     requires daemons { length plain.old.roll.daemons ≤ 256 }
     ensures ok { OnOk result (
-        SomeRun (media_change M.told M.faults M.short media.old media.new) script.now (λ rest text.
-        (rest ≡ []) × Appends (K.taken out.old) (K.taken out.new) text)) }
+        RunsWhole (media_change M.told M.faults M.short media.old media.new) script.now
+        (Appends (K.taken out.old) (K.taken out.new))) }
     ensures memory { result ≡ Err RunError.NoMemory →
         SomeRun (media_change M.told M.faults M.short media.old media.new) script.now (λ rest text.
         Appends (K.taken out.old) (K.taken out.new) text) }
@@ -262,7 +262,8 @@ fn run_through<M: Media, K: Sink>(
 }
 
 /// Makes the steps of a script in order, on a plain machine of the daemons that it names, and prints
-/// the line of each answer. Media are asked for the bytes that lie with them.
+/// the line of each answer. Media are asked for the bytes that lie with them. Behind the last step all daemons make their
+/// leaves, which print nothing.
 pub fn run<M: Media, K: Sink>(
     alloc: Global,
     script: &[ScriptStep],
@@ -271,8 +272,8 @@ pub fn run<M: Media, K: Sink>(
 ) -> Result<(), RunError>
     requires few { length script.now ≤ 1_048_577 }
     ensures ok { OnOk result (
-        SomeRun (media_change M.told M.faults M.short media.old media.new) script.now (λ rest text.
-        (rest ≡ []) × Appends (K.taken out.old) (K.taken out.new) text)) }
+        RunsWhole (media_change M.told M.faults M.short media.old media.new) script.now
+        (Appends (K.taken out.old) (K.taken out.new))) }
     ensures memory { result ≡ Err RunError.NoMemory →
         SomeRun (media_change M.told M.faults M.short media.old media.new) script.now (λ rest text.
         Appends (K.taken out.old) (K.taken out.new) text) }

@@ -1,10 +1,11 @@
 -- What a last line adds to a run, and what follows from the statuses.
-use Rattle.std.proofs.Common.{◌≡◌, ◌≤◌, ◌<◌, ◌↔◌, ℕ, List, ◌++◌, ◌⊎◌, inl, inr, Option, Some, None, Ok, Err, IsOk, IsErr, true≢false, sym, subst, arith}
+use Rattle.std.proofs.Common.{◌≡◌, ◌≤◌, ◌<◌, ◌+◌, ◌↔◌, IfSome, ℕ, List, ◌++◌, ◌⊎◌, inl, inr, Option, Some, None, Ok, Err, IsOk, IsErr, length, true≢false, sym, subst, arith}
 use Rattle.std.specs.Io.KnownBytes.{Appends}
 use Rattle.std.proofs.KnownBytes.{Appends-trans}
 use Rattle.sdr_base.specs.Causes.{Rose}
 use Rattle.sdr_base.proofs.WrittenLemmas.{rose_later}
 use Rattle.sdr_log.specs.declared.frame.Frame.{Frame}
+use Rattle.std.specs.Prelude.{codes}
 use Rattle.sdr_shell.specs.Form.{OnFormat}
 use Rattle.sdr_shell.specs.declared.form.Form.{Form}
 use Rattle.sdr_run.specs.Schedule.{MediaChange, SomeRun}
@@ -55,6 +56,27 @@ pub tells_refused : (error : ScriptError) (status : ℕ) (left old new : Option 
 tells_refused errors.Input status left old new before now t is bad = absurd (omega (arith, t.0, is))
 tells_refused (errors.Line line) status left old new before now t is bad = record { line = line; input = bad; written = t.1 }
 tells_refused errors.NoMemory status left old new before now t is bad = absurd (omega (arith, t.0, is))
+
+-- and one that tells of no memory for it
+pub tells_starved : (error : ScriptError) (status : ℕ) (old new : Option (List ℕ)) (before now : ℕ)
+    → Tells error status old new before now → status ≡ NO_MEMORY → WritesOut old new before now (codes "no memory\n")
+tells_starved errors.Input status old new before now t is = absurd (omega (arith, t.0, is))
+tells_starved (errors.Line line) status old new before now t is = absurd (omega (arith, t.0, is))
+tells_starved errors.NoMemory status old new before now t is = t.1
+
+-- the status of a script that was run tells of no fault or refusal of its input
+pub ran_reads : (status : ℕ) → (status ≡ DONE) ⊎ (status ≡ OUTPUT_FAULT) ⊎ (status ≡ NO_MEMORY) → (status ≡ INPUT_FAULT) ⊎ (status ≡ REFUSED_LINE) → ⊥
+ran_reads status (inl done) (inl input) = omega (arith, done, input)
+ran_reads status (inl done) (inr line) = omega (arith, done, line)
+ran_reads status (inr (inl output)) (inl input) = omega (arith, output, input)
+ran_reads status (inr (inl output)) (inr line) = omega (arith, output, line)
+ran_reads status (inr (inr starved)) (inl input) = omega (arith, starved, input)
+ran_reads status (inr (inr starved)) (inr line) = omega (arith, starved, line)
+
+-- an input that isn't read
+pub reads_none : (left : Option (List ℕ)) (reads : ℕ) → IfSome left (λ bytes. reads ≤ reads + length bytes + 1)
+reads_none None reads = tt
+reads_none (Some bytes) reads = omega arith
 
 -- what a told input has refused
 pub told_line : (left : Option (List ℕ)) (bytes : List ℕ) (line : ℕ) → left ≡ Some bytes → HadBadLine left line → input_script bytes ≡ Err line

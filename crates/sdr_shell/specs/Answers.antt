@@ -3,10 +3,11 @@ use Rattle.std.specs.Prelude.{◌≡◌, ◌≢◌, ◌≤◌, ◌<◌, ◌↔�
 use Rattle.std.specs.Io.KnownBytes.{Appends}
 use Rattle.sdr_base.specs.Causes.{Rose}
 use Rattle.sdr_base.specs.Written.{AppendsPart}
+use Rattle.sdr_base.specs.declared.media.Media.{Ghosts as MediaGhosts}
 use Rattle.sdr_log.specs.Frame.{disk_bytes}
 use Rattle.sdr_log.specs.declared.frame.Frame.{Frame}
 use Rattle.sdr_shell.specs.Formatting.{line_formatted, line_too_small, IsFormatted, HasFormatted, IsFormatStatus}
-use Rattle.sdr_run.specs.Schedule.{MediaChange}
+use Rattle.sdr_run.specs.Schedule.{MediaChange, media_change}
 use Rattle.sdr_shell.specs.Still.{WritesOut, HadRun, IsDone, IsDryStatus, IsRefused, IsStarved}
 use Rattle.sdr_words.specs.Script.{input_script}
 use Rattle.sdr_shell.specs.declared.status.TheConstants.{DONE, INPUT_FAULT, OUTPUT_FAULT, DISK_FAULT, REFUSED_LINE, NO_MEMORY, TOO_SMALL}
@@ -20,21 +21,28 @@ pub record Seen : Type 0 where
 abbrev pub seen : {X : Type 0} → (X → Option (List ℕ)) → (X → ℕ) → X → Seen
 seen bytes faults x = record { bytes = bytes x; faults = faults x }
 
+-- what is seen of media as they were and as they are
+abbrev pub change_of : {M : Type 0} → MediaGhosts M → M → M → MediaChange
+change_of m files files' = media_change m.told m.faults m.short files files'
+
 -- the text was written whole, or a part of it from the front where the sink failed
 abbrev pub Wrote : Seen → Seen → List ℕ → Type 0
 Wrote sink sink' text = WritesOut sink.bytes sink'.bytes sink.faults sink'.faults text
 
--- What a dry run answers. A script that is refused is not run; one that is accepted is run to its end, unless there is a
--- fault or no memory.
-pub record AnswersDry (status : ℕ) (source source' : Seen) (media : MediaChange) (sink sink' : Seen) : Type 0 where
+-- What a dry run answers. A script that is refused is not run, and media stay as they are; one that is accepted is run to its end, unless
+-- there is a fault or no memory.
+pub record AnswersDry {M : Type 0} (m : MediaGhosts M) (status : ℕ) (source source' : Seen) (files files' : M) (sink sink' : Seen) : Type 0 where
   pub known : IsDryStatus status
-  pub done : status ≡ DONE → IsDone source.bytes source'.bytes media sink.bytes sink'.bytes
+  pub done : status ≡ DONE → IsDone source.bytes source'.bytes (change_of m files files') sink.bytes sink'.bytes
+  pub unread : (status ≡ INPUT_FAULT) ⊎ (status ≡ REFUSED_LINE) → files' ≡ files
   pub input : status ≡ INPUT_FAULT → Rose source.faults source'.faults
   pub input_text : status ≡ INPUT_FAULT → Wrote sink sink' (codes "input fault\n")
   pub output : status ≡ OUTPUT_FAULT → Rose sink.faults sink'.faults
-  pub part : status ≡ OUTPUT_FAULT → HadRun source.bytes media (λ rest text. AppendsPart sink.bytes sink'.bytes text)
+  pub part : status ≡ OUTPUT_FAULT → HadRun source.bytes (change_of m files files') (λ rest text. AppendsPart sink.bytes sink'.bytes text)
   pub refused : status ≡ REFUSED_LINE → IsRefused source.bytes sink.bytes sink'.bytes sink.faults sink'.faults
-  pub starved : status ≡ NO_MEMORY → IsStarved source.bytes media sink.bytes sink'.bytes sink.faults sink'.faults
+  pub starved :
+      status ≡ NO_MEMORY
+      → IsStarved source.bytes (change_of m files files') (files' ≡ files) sink.bytes sink'.bytes sink.faults sink'.faults
   pub exact : (bytes : List ℕ) → source.bytes ≡ Some bytes → IsErr (input_script bytes) → (status ≢ DONE) × (status ≢ OUTPUT_FAULT)
   pub complete : (bytes : List ℕ) → source.bytes ≡ Some bytes → IsOk (input_script bytes) → ¬ Rose source.faults source'.faults
       → ¬ Rose sink.faults sink'.faults → (status ≡ DONE) ⊎ (status ≡ NO_MEMORY)

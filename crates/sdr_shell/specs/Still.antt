@@ -1,9 +1,9 @@
 -- What the still call answers: by status, what was read and what was written.
-use Rattle.std.specs.Prelude.{◌≡◌, ℕ, List, [], ◌++◌, ◌⊎◌, Option, Some, None, Ok, Err, codes, decimal, ⊤}
+use Rattle.std.specs.Prelude.{◌≡◌, ℕ, List, ◌++◌, ◌⊎◌, Option, Some, None, Ok, Err, codes, decimal, ⊤}
 use Rattle.std.specs.Io.KnownBytes.{Appends, IsAtEnd}
 use Rattle.sdr_base.specs.Causes.{Rose}
 use Rattle.sdr_base.specs.Written.{AppendsPart}
-use Rattle.sdr_run.specs.Schedule.{MediaChange, SomeRun}
+use Rattle.sdr_run.specs.Schedule.{MediaChange, RunsWhole, SomeRun}
 use Rattle.sdr_words.specs.Script.{input_script}
 use Rattle.sdr_words.specs.declared.error.ScriptError.{ScriptError}
 use Rattle.sdr_words.specs.declared.error.ScriptError.TheVariants as errors
@@ -43,10 +43,13 @@ pub record HadRun (left : Option (List ℕ)) (media : MediaChange) (P : List Scr
   pub input : HadScript left script
   pub run : SomeRun media script P
 
--- All of the source's input was read, all steps were made, and the lines of all answers were written.
+-- All of the source's input was read and spelled a script, all steps were made, behind which all daemons made their leaves, and the lines of
+-- all answers were written.
 pub record IsDone (left left' : Option (List ℕ)) (media : MediaChange) (old new : Option (List ℕ)) : Type 0 where
   pub read : IsAtEnd left'
-  pub run : HadRun left media (λ rest text. (rest ≡ []) × Appends old new text)
+  pub script : List ScriptStep
+  pub input : HadScript left script
+  pub run : RunsWhole media script (Appends old new)
 
 -- the last line of a refused script
 abbrev pub line_refused : ℕ → List ℕ
@@ -58,10 +61,10 @@ pub record IsRefused (left old new : Option (List ℕ)) (before now : ℕ) : Typ
   pub input : HadBadLine left line
   pub written : WritesOut old new before now (line_refused line)
 
--- Memory was wanted: before a step was made, or behind some steps, whose answers stand before the last line.
-abbrev pub IsStarved : Option (List ℕ) → MediaChange → Option (List ℕ) → Option (List ℕ) → ℕ → ℕ → Type 0
-IsStarved left media old new before now =
-    WritesOut old new before now (codes "no memory\n")
+-- Memory was wanted: before the run, and this held, or behind some steps, whose answers stand before the last line.
+abbrev pub IsStarved : Option (List ℕ) → MediaChange → Type 0 → Option (List ℕ) → Option (List ℕ) → ℕ → ℕ → Type 0
+IsStarved left media Unrun old new before now =
+    (Unrun × WritesOut old new before now (codes "no memory\n"))
     ⊎ HadRun left media (λ rest text. WritesOut old new before now (text ++ codes "no memory\n"))
 
 -- the statuses with which a dry run ends

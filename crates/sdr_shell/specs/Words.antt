@@ -1,5 +1,5 @@
 -- What the public calls answer to the words of a command line.
-use Rattle.std.specs.Prelude.{◌≡◌, ◌≢◌, ◌≤◌, ◌+◌, ◌↔◌, List, [], None, Some, codes, false, is_some}
+use Rattle.std.specs.Prelude.{◌≡◌, ◌≢◌, ◌≤◌, ◌+◌, ◌↔◌, IfSome, List, [], None, Some, codes, false, is_some, length}
 use Rattle.std.specs.declared.alloc.Global.{Global}
 use Rattle.std.specs.declared.rc.RcStr.{RcStr}
 use Rattle.sdr_base.specs.declared.media.Media.{Ghosts as MediaGhosts}
@@ -25,11 +25,13 @@ pub record AnswersWords {D M S K : Type 0} (d : DiskGhosts D) (m : MediaGhosts M
   pub usage : (result.status ≡ USAGE) ↔ (form_of words ≡ None)
   -- and then the output is the one line that tells so
   pub usage_text : result.status ≡ USAGE → Wrote (seen k.taken k.faults output) (seen k.taken k.faults output') (codes "usage\n")
+  -- they read no input
+  pub usage_input : form_of words ≡ None → input' ≡ input
   -- `dry` leaves the disk, and answers as a dry run does
   pub dry :
       form_of words ≡ Some forms.Dry → (result.disk ≡ disk)
-      × AnswersDry result.status (seen s.left s.faults input) (seen s.left s.faults input') (media_change m.told m.faults m.short files result.media)
-      (seen k.taken k.faults output) (seen k.taken k.faults output')
+      × AnswersDry m result.status (seen s.left s.faults input) (seen s.left s.faults input') files result.media (seen k.taken k.faults output)
+      (seen k.taken k.faults output')
   -- `format` reads no input, and answers by what it leaves on the disk
   pub format :
       OnFormat (form_of words) (λ frame. (input' ≡ input)
@@ -41,6 +43,8 @@ pub record AnswersWords {D M S K : Type 0} (d : DiskGhosts D) (m : MediaGhosts M
   pub counts :
       (s.faults input ≤ s.faults input') × (k.faults output ≤ k.faults output') × (d.faults disk ≤ d.faults result.disk)
       × (s.reads input' ≤ s.reads input + 1048577)
+  -- each read of the input but the last gave a byte
+  pub each : IfSome (s.left input) (λ bytes. s.reads input' ≤ s.reads input + length bytes + 1)
   -- `replay` answers by what it made of the schedule with these media, and what is left of the disk
   pub replay :
       form_of words ≡ Some forms.Replay

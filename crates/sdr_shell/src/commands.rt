@@ -1,10 +1,10 @@
 // The calls that wait for nobody.
 ghost use Rattle.std.specs.Prelude.{◌≡◌, ◌≤◌, ◌<◌, ◌+◌, ◌⊎◌, ◌++◌, codes};
-ghost use Rattle.std.specs.Prelude.{None, Some, [], length};
+ghost use Rattle.std.specs.Prelude.{None, Some, [], length, IfSome};
 ghost use Rattle.std.specs.Io.KnownBytes.{Appends};
 ghost use Rattle.sdr_base.specs.Causes.{Rose};
 ghost use Rattle.sdr_shell.specs.Form.{form_of};
-ghost use Rattle.sdr_run.specs.Schedule.{HaveFailed, SomeRun, media_change};
+ghost use Rattle.sdr_run.specs.Schedule.{HaveFailed, RunsWhole, SomeRun, media_change};
 ghost use Rattle.sdr_shell.specs.Still.{WritesOut, HadRun, IsDone, IsRefused, IsDryStatus, IsStarved};
 ghost use Rattle.sdr_shell.specs.Still.{Tells, line_refused};
 ghost use Rattle.sdr_base.specs.Written.{AppendsPart};
@@ -55,8 +55,8 @@ fn run_script<M: Media, K: Sink>(
     ensures media { HaveFailed 0 0 (media_change M.told M.faults M.short media.old media.new) }
     ensures later { K.faults output.old ≤ K.faults output.new }
     ensures done { result ≡ DONE →
-        SomeRun (media_change M.told M.faults M.short media.old media.new) script.now (λ rest text.
-        (rest ≡ []) × Appends (K.taken output.old) (K.taken output.new) text) }
+        RunsWhole (media_change M.told M.faults M.short media.old media.new) script.now
+        (Appends (K.taken output.old) (K.taken output.new)) }
     ensures fault { result ≡ OUTPUT_FAULT → Rose (K.faults output.old) (K.faults output.new) }
     ensures part { result ≡ OUTPUT_FAULT →
         SomeRun (media_change M.told M.faults M.short media.old media.new) script.now (λ rest text.
@@ -111,6 +111,8 @@ fn dry<M: Media, S: Source, K: Sink>(
         × (K.faults output.old ≤ K.faults output.new) }
     ensures media { HaveFailed 0 0 (media_change M.told M.faults M.short media.old media.new) }
     ensures reads { S.reads input.new ≤ S.reads input.old + 1048577 }
+    ensures each { IfSome (S.left input.old)
+        (λ bytes. S.reads input.new ≤ S.reads input.old + length bytes + 1) }
     ensures done { result ≡ DONE →
         IsDone (S.left input.old) (S.left input.new)
         (media_change M.told M.faults M.short media.old media.new)
@@ -125,8 +127,9 @@ fn dry<M: Media, S: Source, K: Sink>(
         AppendsPart (K.taken output.old) (K.taken output.new) text) }
     ensures refused { result ≡ REFUSED_LINE → IsRefused (S.left input.old)
         (K.taken output.old) (K.taken output.new) (K.faults output.old) (K.faults output.new) }
+    ensures unread { (result ≡ INPUT_FAULT) ⊎ (result ≡ REFUSED_LINE) → media.new ≡ media.old }
     ensures starved { result ≡ NO_MEMORY → IsStarved (S.left input.old)
-        (media_change M.told M.faults M.short media.old media.new)
+        (media_change M.told M.faults M.short media.old media.new) (media.new ≡ media.old)
         (K.taken output.old) (K.taken output.new) (K.faults output.old) (K.faults output.new) }
 {
     match read_script(alloc, input) {

@@ -1,5 +1,5 @@
 // A replay of the input's schedule on the heap of a disk, and what is said of it.
-ghost use Rattle.std.specs.Prelude.{◌≡◌, ◌≤◌, ◌+◌, [], length};
+ghost use Rattle.std.specs.Prelude.{◌≡◌, ◌≤◌, ◌+◌, [], length, IfSome};
 ghost use Rattle.sdr_run.specs.Schedule.{HaveFailed, media_change};
 ghost use Rattle.sdr_log.specs.Calls.{KeepsDisk};
 ghost use Rattle.sdr_shell.specs.Answers.{Wrote, seen};
@@ -108,6 +108,8 @@ pub fn replay_input<D: Disk, M: Media, S: Source, K: Sink>(
     ensures later { (S.faults input.old ≤ S.faults input.new)
         × (K.faults output.old ≤ K.faults output.new) × (D.faults disk ≤ D.faults result.disk) }
     ensures reads { S.reads input.new ≤ S.reads input.old + 1048577 }
+    ensures each { IfSome (S.left input.old)
+        (λ bytes. S.reads input.new ≤ S.reads input.old + length bytes + 1) }
     ensures keeps { KeepsDisk D.size D.bytes disk result.disk }
     ensures media { HaveFailed 0 0 (media_change M.told M.faults M.short media result.media) }
 {

@@ -1,8 +1,9 @@
 -- How an input is read line by line.
-use Rattle.std.proofs.Common.{◌≡◌, ◌==◌, ◌<◌, ◌≤◌, ◌+◌, ◌++◌, ℕ, List, [], ◌∷◌, None, Some, Ok, Err, length, ◌-◌, take, drop, refl, ap, sym, ◌∙◌, append_assoc, append-nil, arith}
+use Rattle.std.proofs.Common.{◌≡◌, ◌==◌, ◌<◌, ◌≤◌, ◌+◌, ◌++◌, IfSome, ℕ, List, [], ◌∷◌, Option, None, Some, Ok, Err, length, ◌-◌, take, drop, refl, ap, sym, ◌∙◌, append_assoc, append-nil, length-append, arith}
 use Rattle.std.proofs.lemmas.List.Splits.{length-slice_split}
 use Rattle.sdr_words.proofs.SplitLemmas.{split_cut, split_uncut}
 use Rattle.std.proofs.KnownBytes.{Consumes-nil, Consumes-trans, Consumes-kept}
+use Rattle.std.specs.Io.KnownBytes.{Consumes}
 use Rattle.sdr_base.specs.Causes.{Rose, counted}
 use Rattle.bstr.specs.Find.{IsFirstByte, is_byte}
 use Rattle.sdr_words.specs.LineAnswers.{Stops}
@@ -109,4 +110,12 @@ rose_later first before now le rose = omega (arith, le, rose)
 pub counted_once : (before now : ℕ) → now ≡ counted before → now ≤ before + 1
 counted_once before now is = omega (arith, is)
 
-pub ruleset taking = (Consumes-nil, Consumes-trans, Consumes-kept, rose_later, counted_once)
+-- where each read gave a byte but one, the reads are at most one more than the bytes that there were
+pub reads_each : (old new : Option (List ℕ)) (taken : List ℕ) (first before now : ℕ) → Consumes old new taken → before ≤ first + length taken
+    → now ≤ before + 1 → IfSome old (λ bytes. now ≤ first + length bytes + 1)
+reads_each None new taken first before now consumes each once = tt
+reads_each (Some bytes) None taken first before now consumes each once = absurd consumes
+reads_each (Some bytes) (Some rest) taken first before now consumes each once =
+    omega (arith, each, once, ap (λ (xs : List ℕ). length xs) consumes, length-append taken rest)
+
+pub ruleset taking = (Consumes-nil, Consumes-trans, Consumes-kept, rose_later, counted_once, reads_each)

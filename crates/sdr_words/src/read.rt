@@ -1,5 +1,5 @@
 // Reading a script from a source.
-ghost use Rattle.std.specs.Prelude.{◌≡◌, ◌≤◌, ◌<◌, ◌+◌, ◌^◌, length, IfOk, IfErr, IsErrOf};
+ghost use Rattle.std.specs.Prelude.{◌≡◌, ◌≤◌, ◌<◌, ◌+◌, ◌^◌, length, IfOk, IfErr, IfSome, IsErrOf};
 ghost use Rattle.sdr_base.specs.Causes.{Rose};
 ghost use Rattle.sdr_words.specs.LineAnswers.{GivesScript};
 ghost use Rattle.sdr_words.specs.Reading.{ReadsScript, ReadsInput, NamesLine, NamesNoLine};
@@ -26,6 +26,8 @@ fn read_input<S: Source>(alloc: Global, source: &mut S) -> Result<Vec<u8>, Scrip
     ensures no_line { IfErr result NamesNoLine }
     ensures later { S.faults source.old ≤ S.faults source.new }
     ensures reads { S.reads source.new ≤ S.reads source.old + 1048577 }
+    ensures each { IfSome (S.left source.old)
+        (λ bytes. S.reads source.new ≤ S.reads source.old + length bytes + 1) }
     ensures input { IsErrOf result ScriptError.Input →
         Rose (S.faults source.old) (S.faults source.new) }
 {
@@ -76,12 +78,15 @@ fn input_script(alloc: Global, input: &[u8]) -> Result<Script, ScriptError>
     refused_behind(alloc, front)
 }
 
-/// Reads a script to the end of its input, in at most 1,048,577 reads: each but the last gave a byte.
+/// Reads a script to the end of its input and not past it, in at most 1,048,577 reads: each but the last gave a byte. Where the source
+/// tells its bytes, the reads are at most one more than these.
 pub fn read_script<S: Source>(alloc: Global, source: &mut S) -> Result<Script, ScriptError>
     ensures script { IfOk result (ReadsScript (S.left source.old) (S.left source.new)) }
     ensures line { IfErr result (NamesLine (S.left source.old) (S.left source.new)) }
     ensures later { S.faults source.old ≤ S.faults source.new }
     ensures reads { S.reads source.new ≤ S.reads source.old + 1048577 }
+    ensures each { IfSome (S.left source.old)
+        (λ bytes. S.reads source.new ≤ S.reads source.old + length bytes + 1) }
     ensures input { IsErrOf result ScriptError.Input →
         Rose (S.faults source.old) (S.faults source.new) }
 {

@@ -1,6 +1,10 @@
-use Rattle.sdr_run.proofs.ScheduleLemmas.{some_weaker}
+use Rattle.mem_machine.specs.Plain.{machine_of}
+use Rattle.sdr_run.proofs.ScheduleLemmas.{some_to, whole_of}
 use Rattle.sdr_run.proofs.running.run_through.Goals as goal
 
 pub returns-in_err-leave_all-clause-memory : goal.returns-in_err-leave_all-clause-memory
-returns-in_err-leave_all-clause-memory g c is =
-    some_weaker _ _ _ _ (λ rest text done. done.1) c.in_ok-run_on.ensures.ok
+returns-in_err-leave_all-clause-memory g c is = some_to _ _ _ _ _ c.in_ok-run_on.ensures.ok
+
+pub returns-clause-ok : goal.returns-clause-ok
+returns-clause-ok g c =
+    whole_of _ _ (machine_of c.run_on.new.plain) (machine_of c.leave_all.new.self) _ _ c.in_ok-run_on.ensures.ok c.in_ok-leave_all.ensures.left

@@ -1,18 +1,28 @@
-use Rattle.std.proofs.Common.{◌≡◌, ◌++◌, [], inr}
+use Rattle.std.proofs.Common.{◌≡◌, ◌++◌, List, inl, inr, refl, subst}
 use Rattle.std.specs.Io.KnownBytes.{Appends}
 use Rattle.std.specs.Prelude.{codes}
 use Rattle.sdr_base.specs.Written.{AppendsPart}
 use Rattle.sdr_shell.proofs.ScriptRead.{bad_line_of, had_script, read_to_the_end}
-use Rattle.sdr_shell.proofs.StillLemmas.{had_run, tells_refused}
+use Rattle.sdr_shell.proofs.StillLemmas.{had_run, ran_reads, tells_refused, tells_starved}
+use Rattle.sdr_model.specs.declared.script.ScriptStep.{ScriptStep}
+use Rattle.sdr_run.specs.Schedule.{RunsWhole, media_change}
 use Rattle.sdr_shell.specs.Still.{WritesOut}
 use Rattle.sdr_shell.proofs.commands.dry.Goals as goal
 
 pub returns-in-Ok-clause-done : goal.returns-in-Ok-clause-done
 returns-in-Ok-clause-done g c is = record {
   read = read_to_the_end _ _ _ c.in-Ok.ensures.script;
-  run = had_run _ _ c.in-Ok.script _ (λ rest text. (rest ≡ []) × Appends (g.K.Sink.taken c.args.output.now) (g.K.Sink.taken c.run_script.new.output) text)
-      (had_script _ _ _ c.in-Ok.ensures.script) c.as_slice.ensures (c.run_script.ensures.done is);
+  script = c.in-Ok.script;
+  input = had_script _ _ _ c.in-Ok.ensures.script;
+  run = subst (λ (steps : List ScriptStep). RunsWhole (media_change g.M.Media.told g.M.Media.faults g.M.Media.short c.args.media.now c.run_script.new.media)
+      steps (Appends (g.K.Sink.taken c.args.output.now) (g.K.Sink.taken c.run_script.new.output))) c.as_slice.ensures (c.run_script.ensures.done is);
 }
+
+pub returns-in-Ok-clause-unread : goal.returns-in-Ok-clause-unread
+returns-in-Ok-clause-unread g c none = absurd (ran_reads _ c.run_script.ensures.known none)
+
+pub returns-in-Err-clause-starved : goal.returns-in-Err-clause-starved
+returns-in-Err-clause-starved g c is = inl (refl, tells_starved c.in-Err.error _ _ _ _ _ c.tell.ensures.told is)
 
 pub returns-in-Ok-clause-part : goal.returns-in-Ok-clause-part
 returns-in-Ok-clause-part g c is =

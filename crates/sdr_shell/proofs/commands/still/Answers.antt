@@ -2,7 +2,6 @@ use Rattle.std.proofs.Common.{rules, ◌≡◌, ◌∙◌, Some, ap, is_some, re
 use Rattle.sdr_disk.specs.Pending.{IsSynced}
 use Rattle.sdr_shell.specs.Formatting.{HasFormatted}
 use Rattle.sdr_shell.specs.Answers.{AnswersDry, AnswersFormat, seen}
-use Rattle.sdr_run.specs.Schedule.{media_change}
 use Rattle.sdr_shell.specs.Form.{form_of, OnFormat}
 use Rattle.sdr_shell.specs.declared.form.Form.TheVariants.{Dry, Format, Inspect, Recover, Replay}
 use Rattle.sdr_shell.specs.Inspecting.{AnswersInspect}
@@ -10,7 +9,7 @@ use Rattle.sdr_shell.specs.Recovering.{AnswersRecover}
 use Rattle.sdr_shell.proofs.InspectLemmas as inspection
 use Rattle.sdr_shell.proofs.RecoverLemmas as recovery
 use Rattle.sdr_shell.proofs.ReplayLemmas.{never_usage}
-use Rattle.sdr_shell.proofs.StillLemmas.{dry_completes, format_completes, not_run, on_form}
+use Rattle.sdr_shell.proofs.StillLemmas.{dry_completes, format_completes, not_run, on_form, reads_none, spells_none}
 use Rattle.sdr_shell.proofs.commands.still.Goals as goal
 
 pub returns-in-Some-Dry : goal.returns-in-Some-Dry
@@ -20,29 +19,29 @@ returns-in-Some-Dry g c =
     let sink = seen g.K.Sink.taken g.K.Sink.faults c.args.output.now in
     let sink' = seen g.K.Sink.taken g.K.Sink.faults c.dry-status.new.output in
     let e = c.dry-status.ensures in
-    let media = media_change g.M.Media.told g.M.Media.faults g.M.Media.short c.args.media c.dry-status.new.media in
-    let answers : AnswersDry c.dry-status.result source source' media sink sink' = record {
+    let answers : AnswersDry g.M.Media c.dry-status.result source source' c.args.media c.dry-status.new.media sink sink' = record {
       known = e.known;
       done = e.done;
+      unread = e.unread;
       input = e.input;
       input_text = e.input_text;
       output = e.output;
       part = e.part;
       refused = e.refused;
       starved = e.starved;
-      exact = λ bytes told refused. (λ is. not_run _ bytes _ _ told refused (e.done is).run, λ is. not_run _ bytes _ _ told refused (e.part is));
+      exact = λ bytes told refused. (λ is. spells_none _ bytes _ told refused (e.done is).input, λ is. not_run _ bytes _ _ told refused (e.part is));
       complete = λ bytes told ok no_input no_output. dry_completes _ _ _ _ _ _ _ _ bytes e.known e.input e.output e.refused told ok no_input no_output;
     } in
     let form : form_of c.args.words.now ≡ Some Dry = search rules in
     record {
       usage = search rules;
       usage_text = search rules;
+      usage_input = λ none. absurd (search rules);
+      each = e.each;
       dry = λ _. (
         c.outcome.ensures.disk,
-        subst (λ s. AnswersDry s source source'
-            (media_change g.M.Media.told g.M.Media.faults g.M.Media.short c.args.media c.outcome.result.media) sink sink') (sym c.outcome.ensures.status)
-            (subst (λ m. AnswersDry c.dry-status.result source source'
-            (media_change g.M.Media.told g.M.Media.faults g.M.Media.short c.args.media m) sink sink') (sym c.outcome.ensures.media) answers),
+        subst (λ s. AnswersDry g.M.Media s source source' c.args.media c.outcome.result.media sink sink') (sym c.outcome.ensures.status)
+            (subst (λ m. AnswersDry g.M.Media c.dry-status.result source source' c.args.media m sink sink') (sym c.outcome.ensures.media) answers),
       );
       replay = search rules;
       recover = search rules;
@@ -82,6 +81,8 @@ returns-in-Some-Format g c =
     record {
       usage = search rules;
       usage_text = search rules;
+      usage_input = λ none. absurd (search rules);
+      each = reads_none _ _;
       dry = search rules;
       replay = search rules;
       recover = search rules;
@@ -111,6 +112,8 @@ returns-in-Some-Replay g c =
     record {
       usage = (λ is. absurd (never_usage _ _ _ _ _ _ _ _ _ _ _ _ e.answers.comes is), λ none. absurd (search rules));
       usage_text = λ is. absurd (never_usage _ _ _ _ _ _ _ _ _ _ _ _ e.answers.comes is);
+      usage_input = λ none. absurd (search rules);
+      each = e.each;
       dry = search rules;
       replay = λ _. e.answers;
       recover = search rules;
@@ -139,6 +142,8 @@ returns-in-Some-Recover g c =
     record {
       usage = (λ is. absurd (recovery.never_usage _ _ _ _ _ _ answers.comes is), λ none. absurd (search rules));
       usage_text = λ is. absurd (recovery.never_usage _ _ _ _ _ _ answers.comes is);
+      usage_input = λ none. absurd (search rules);
+      each = reads_none _ _;
       dry = search rules;
       replay = search rules;
       recover = λ _. (refl, answers);
@@ -167,6 +172,8 @@ returns-in-Some-Inspect g c =
     record {
       usage = (λ is. absurd (inspection.never_usage _ _ _ _ _ _ answers.comes is), λ none. absurd (search rules));
       usage_text = λ is. absurd (inspection.never_usage _ _ _ _ _ _ answers.comes is);
+      usage_input = λ none. absurd (search rules);
+      each = reads_none _ _;
       dry = search rules;
       replay = search rules;
       recover = search rules;
