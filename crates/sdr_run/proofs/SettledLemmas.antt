@@ -1,6 +1,6 @@
 -- What is known of a heap in memory and on its disk is known of it under a condition on the disk.
 use Rattle.std.proofs.Common.{◌≡◌, ◌≤◌, ◌⊎◌, ℕ, List, Bool, Option, sym, subst}
-use Rattle.std.specs.Prelude.{⊤, IfOk, OnOk, Result, Ok, Err}
+use Rattle.std.specs.Prelude.{⊤, IfOk, OnErr, OnOk, Result, Ok, Err}
 use Rattle.sdr_base.specs.declared.media.Media.{Ghosts as MediaGhosts}
 use Rattle.sdr_machine.specs.Crash.{LeavesBefore, LeavesEither}
 use Rattle.sdr_machine.specs.Ground.{Ground, HasHeap}
@@ -88,3 +88,7 @@ if_ok_both (Err e) P Q R join p q = tt
 pub on_ok_both : {T E : Type 0} (r : Result T E) (P Q R : Type 0) → (P → Q → R) → OnOk r P → OnOk r Q → OnOk r R
 on_ok_both (Ok x) P Q R join p q = join p q
 on_ok_both (Err e) P Q R join p q = tt
+
+pub on_err_more : {T E : Type 0} (r : Result T E) (P Q : Type 0) → (P → Q) → OnErr r P → OnErr r Q
+on_err_more (Ok x) P Q more p = tt
+on_err_more (Err e) P Q more p = more p

@@ -1,9 +1,8 @@
 use Rattle.std.proofs.Common.{subst, false}
-use Rattle.std.proofs.lemmas.Result.{on_err_weaker}
 use Rattle.sdr_machine.specs.Crash.{LeavesBefore}
 use Rattle.sdr_machine.specs.Serving.{Brings, KeepsGround, MeetsFault, RollsBack}
 use Rattle.sdr_machine.specs.Standing.{GroundState}
-use Rattle.sdr_run.proofs.SettledLemmas.{brings_where, ground_where, keeps_where, leaves_where, meets_where, on_ok_both}
+use Rattle.sdr_run.proofs.SettledLemmas.{brings_where, ground_where, keeps_where, leaves_where, meets_where, on_err_more, on_ok_both}
 use Rattle.sdr_run.specs.Settled.{StandsWhere}
 use Rattle.sdr_station.specs.Grounded.{Grounded}
 use Rattle.sdr_run.proofs.handed_ground.HandedGroundBacking.roll_back.Goals as goal
@@ -23,7 +22,7 @@ returns-clause-fault g c =
     let D = g.row.D.Denot in
     let M = g.row.M.Denot in
     let d = g.D.Disk in
-    on_err_weaker c.restore.result _ _
+    on_err_more c.restore.result _ (MeetsFault (ground_where g.J.HandedIn.condition d.bytes d.moment d.faults d.may_hold_after g.M.Media) c.args.self.now c.restore.new.self)
     (λ fault. subst (λ (o : Grounded D M). MeetsFault (ground_where g.J.HandedIn.condition d.bytes d.moment d.faults d.may_hold_after g.M.Media) o c.restore.new.self) c.self.view_is
     (meets_where g.J.HandedIn.condition d.bytes d.moment d.faults d.may_hold_after g.M.Media c.self.inside.ground c.restore.new.self fault))
     c.restore.ensures.fault
