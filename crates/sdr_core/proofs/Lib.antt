@@ -1,4 +1,5 @@
 pub mod AddedLemmas
+pub mod CausedLemmas
 pub mod CoreLemmas
 pub mod CrashLemmas
 pub mod EndLemmas
@@ -13,6 +14,7 @@ pub mod OpeningLemmas
 pub mod PlaceLemmas
 pub mod RunLemmas
 pub mod SafeLemmas
+pub mod SaidLemmas
 pub mod SpokenLemmas
 pub mod StepLemmas
 pub mod TimeLemmas

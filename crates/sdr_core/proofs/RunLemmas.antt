@@ -24,7 +24,9 @@ use Rattle.law_runs.proofs.RunLemmas.{run_is_legal}
 use Rattle.sdr_machine.specs.declared.came.Came.{Came}
 use Rattle.sdr_machine.specs.declared.daemon.Daemon.{Daemon}
 use Rattle.sdr_machine.specs.declared.has_ground.HasGround.{Ghosts}
-use Rattle.sdr_core.specs.CoreKept.{RunStart, BeginsOn, LoggedLock, KeepsRun, MakesCoreStep, HasState, StepsCore, core_at, last_done}
+use Rattle.sdr_core.proofs.CausedLemmas.{answer_caused, caused_more}
+use Rattle.sdr_core.specs.Caused.{media_on}
+use Rattle.sdr_core.specs.CoreKept.{first_media, RunStart, BeginsOn, LoggedLock, KeepsRun, MakesCoreStep, HasState, StepsCore, core_at, last_done}
 
 -- a run and one event more
 runs_more : (told : Option Told) (c mid c' : Core) (made : List Made) (e : Made) → RunsCore told c made mid → CoreStep told mid e c' → RunsCore told c (made ++ e ∷ []) c'
@@ -170,6 +172,9 @@ keeps_after g b keeps daemon line event a old new steps asks run =
       media = asks.kept.media ∙ run.media;
       in_time = in_time_more b.start run.made e run.in_time run.done (later g keeps a old.lock new.lock run.for run.stood asks);
       done = let is = last_done-more b.start run.made e in omega arith;
+      caused =
+          caused_more run.made e (first_media b) (media_on g old.lock.base) (media_on g new.lock.base) run.caused
+          (answer_caused g old.lock.base new.lock.base a.answer asks.kept.media asks.kept.lapses asks.gap);
     }
 
 -- before any event
@@ -185,6 +190,7 @@ keeps_first g b daemons base begins =
       media = begins.told;
       in_time = tt;
       done = begins.later;
+      caused = record { told = begins.told; faults = omega (arith, begins.lapses.faults); short = omega (arith, begins.lapses.short) };
     }
 
 -- as a core is made

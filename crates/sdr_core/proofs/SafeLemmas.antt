@@ -28,8 +28,10 @@ use Rattle.sdr_core.proofs.CrashLemmas.{done_by-done, done_by-open, done_by-unso
 use Rattle.sdr_core.proofs.EndLemmas.{EndsOrFaults, IsOuterEnd, end_keeps, outer_end}
 use Rattle.sdr_core.proofs.OpeningLemmas.{WouldStand, failed_safe, faulted_safe, still_safe, whole_safe}
 use Rattle.sdr_core.proofs.RunLemmas.{keeps_legal, later}
+use Rattle.sdr_core.proofs.SaidLemmas.{entries_caused}
 use Rattle.sdr_core.proofs.TimeLemmas.{between_more, run_between}
-use Rattle.sdr_core.specs.CoreKept.{RunStart, BeginsOn, IsRunOf, LoggedLock, KeepsRun, KeepsSafe, StepsCore, core_at, last_done}
+use Rattle.sdr_core.specs.Caused.{from_to, media_on}
+use Rattle.sdr_core.specs.CoreKept.{RunStart, BeginsOn, IsRunOf, LoggedLock, KeepsRun, KeepsSafe, StepsCore, core_at, first_media, last_done}
 
 both : (a b : Bool) → (a && b) ≡ true → (a ≡ true) × (b ≡ true)
 both true b e = (refl, e)
@@ -359,6 +361,7 @@ run_ends {T} g b k journal base same_journal same_base run safe =
       in_time =
           between_more b.start (last_done b.start run.made) (g.moment k.lock.base) run.done k.log.journal
           (run_between b.told b.start b.start run.made (first_core b.daemons b.first) (core_at k run.for) (omega arith) tt run.in_time run.runs);
+      caused = entries_caused b.told b.daemons b.first (from_to (first_media b) (media_on g k.lock.base)) run.made (core_at k run.for) run.runs run.caused;
       crash = safe.crash;
       early = safe.early;
       all = λ sound m ge. safe.all (none_of k.lock.roll.failed (sym safe.sound ∙ sound)) m ge;

@@ -7,6 +7,7 @@ use Rattle.sdr_machine.specs.Core.{AreInTime, Core, CoreStep, Log, RunsCore, fir
 use Rattle.sdr_machine.specs.Crash.{IsCrashSafe, OpensAfter, done_by, is_sound, commits_by}
 use Rattle.sdr_machine.specs.Ground.{Ground, State, resting}
 use Rattle.sdr_machine.specs.Machine.{Made}
+use Rattle.sdr_machine.specs.Lapses.{Lapses, LapsesLast, no_lapses}
 use Rattle.sdr_machine.specs.Legal.{IsAfter, IsLegal}
 use Rattle.sdr_machine.specs.Serving.{Asks, LeadsLock, Locked, SomeState, IsInState, IsInSomeState, machine_at, made_by}
 use Rattle.sdr_machine.specs.Standing.{GroundState}
@@ -16,6 +17,7 @@ use Rattle.sdr_model.specs.World.{fresh_world}
 use Rattle.sdr_model.specs.declared.event.Event.{Event}
 use Rattle.sdr_model.specs.declared.journal.Entry.{Entry}
 use Rattle.sdr_base.specs.declared.moves.Move.{Move}
+use Rattle.sdr_core.specs.Caused.{AreCaused, EntriesAreCaused, SeenMedia, from_to, media_on}
 use Rattle.sdr_machine.specs.Standing.{standing_at}
 
 -- a lock, and the log of its run
@@ -27,17 +29,23 @@ pub record LoggedLock (T : Type 0) : Type 0 where
 abbrev pub core_at : {T : Type 0} → LoggedLock T → GroundState → Core
 core_at k v = record { machine = machine_at k.lock.roll v; log = k.log }
 
--- what a run begins from: what media tell, the daemons, the first state, the disk's first moment, and its count of faults then
+-- what a run begins from: what media tell, the daemons, the first state, the disk's first moment, its count of faults then, and how often
+-- media had failed and given too few bytes
 pub record RunStart : Type 0 where
   pub told : Option Told
   pub daemons : List ℕ
   pub first : State
   pub start : ℕ
   pub faults : ℕ
+  pub lapses : Lapses
+
+-- what media showed as the run began
+abbrev pub first_media : RunStart → SeenMedia
+first_media b = record { told = b.told; faults = b.lapses.faults; short = b.lapses.short }
 
 -- without a heap, a thing or a daemon
 abbrev pub bare_begins : RunStart
-bare_begins = record { told = None; daemons = []; first = resting (fresh_world 0) Ground.NoHeap; start = 0; faults = 0 }
+bare_begins = record { told = None; daemons = []; first = resting (fresh_world 0) Ground.NoHeap; start = 0; faults = 0; lapses = no_lapses }
 
 -- The ground is where the run begins: it stands for the first state, in which no transaction is open, and at each moment since
 -- the first a crash left what opens to that state.
@@ -46,6 +54,7 @@ pub record BeginsOn {T : Type 0} (g : Ghosts T) (b : RunStart) (daemons : List �
   pub daemons_are : daemons ≡ b.daemons
   pub later : b.start ≤ g.moment base
   pub faults : b.faults ≤ g.faults base
+  pub lapses : LapsesLast b.lapses (g.lapses base)
   pub rests : b.first ≡ resting b.first.world b.first.base
   pub moves : List Move
   pub stands : g.stands base (standing_at b.first moves)
@@ -67,6 +76,7 @@ pub record KeepsRun {T : Type 0} (g : Ghosts T) (b : RunStart) (k : LoggedLock T
   pub media : g.told k.lock.base ≡ b.told
   pub in_time : AreInTime b.start made
   pub done : last_done b.start made ≤ g.moment k.lock.base
+  pub caused : AreCaused made (from_to (first_media b) (media_on g k.lock.base))
 
 -- the last event of the entry was made between these moments of the disk
 pub record IsMadeBetween (from to : ℕ) (e : Entry) : Type 0 where
@@ -115,6 +125,7 @@ pub record MakesCoreStep {T : Type 0} (g : Ghosts T) (daemon line : ℕ) (event 
 pub record IsRunOf {T : Type 0} (g : Ghosts T) (b : RunStart) (journal : List Entry) (base : T) : Type 0 where
   pub legal : IsLegal b.told b.daemons b.first journal
   pub in_time : AreMadeBetween b.start (g.moment base) journal
+  pub caused : EntriesAreCaused journal (from_to (first_media b) (media_on g base))
   pub crash : IsCrashSafe g.moment g.left (OpensAfter g.opens b.told b.daemons b.first journal) b.start journal base
   pub early : (m : ℕ) → m < b.start → done_by m journal ≡ 0
   pub all : is_sound journal ≡ true → (m : ℕ) → g.moment base ≤ m → done_by m journal ≡ length journal

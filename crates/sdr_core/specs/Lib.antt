@@ -1,3 +1,4 @@
+pub mod Caused
 pub mod Copying
 pub mod CoreFacts
 pub mod CoreKept

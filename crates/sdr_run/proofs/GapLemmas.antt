@@ -9,7 +9,7 @@ use Rattle.sdr_model.specs.declared.answer.Answer.TheVariants as answers
 use Rattle.sdr_model.specs.declared.answer.Reply.TheVariants as replies
 use Rattle.sdr_model.specs.declared.event.Event.{Event}
 use Rattle.mem_machine.specs.Asking.{AsksNothing, StepsAt, is_gap, made_dry}
-use Rattle.sdr_run.proofs.MediaLemmas.{failed_refl}
+use Rattle.sdr_core.proofs.CausedLemmas.{failed_refl}
 use Rattle.sdr_run.specs.Schedule.{IsCaused, Responds, SeenMedia, from_to}
 
 -- an answer that tells of no gap needs no cause

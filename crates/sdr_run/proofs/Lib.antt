@@ -1,6 +1,5 @@
 mod GreetingExample
 pub mod GapLemmas
-pub mod MediaLemmas
 pub mod ScheduleLemmas
 pub mod PlayingLemmas
 pub mod SettledLemmas

@@ -5,24 +5,19 @@ use Rattle.std.specs.Io.KnownBytes.{Appends}
 use Rattle.sdr_base.proofs.WrittenLemmas.{rose_later}
 use Rattle.sdr_base.specs.Causes.{Rose}
 use Rattle.sdr_base.specs.Written.{AppendsPart}
-use Rattle.sdr_base.specs.declared.refusal.Refusal.TheVariants as refusals
 use Rattle.sdr_core.specs.CoreKept.{RunStart, BeginsOn, IsRunOf, LoggedLock, core_at}
 use Rattle.sdr_core.specs.Leaving.{RunLeads}
-use Rattle.sdr_run.proofs.MediaLemmas.{caused_later, caused_more, failed_refl}
+use Rattle.sdr_core.proofs.CausedLemmas.{answer_caused, caused_later, caused_more, failed_refl, media_later}
 use Rattle.sdr_run.proofs.ScheduleLemmas.{bindings_after-push, follows-push, run_text-push, runs-push}
 use Rattle.sdr_run.specs.Schedule.{AreCaused, HaveFailed, IsCaused, MakesEvent, bindings_after, daemons_of, from_to, run_text}
 use Rattle.sdr_machine.specs.Core.{CoreStep, RunsCore, first_core}
 use Rattle.sdr_machine.specs.Crash.{is_sound}
-use Rattle.sdr_machine.specs.Lapses.{LapsesLast, HasLapseCause}
 use Rattle.sdr_machine.specs.Leaving.{AllLeave}
 use Rattle.sdr_machine.specs.Machine.{Made}
 use Rattle.sdr_machine.specs.Roll.{first_roll}
 use Rattle.sdr_machine.specs.Serving.{IsInSomeState, made_by}
 use Rattle.sdr_machine.specs.Standing.{standing_at}
 use Rattle.sdr_machine.specs.declared.has_ground.HasGround.{Ghosts}
-use Rattle.sdr_model.specs.declared.answer.Answer.{Answer}
-use Rattle.sdr_model.specs.declared.answer.Answer.TheVariants as answers
-use Rattle.sdr_model.specs.declared.answer.Reply.TheVariants as replies
 use Rattle.sdr_model.specs.declared.journal.Entry.{Entry}
 use Rattle.sdr_model.specs.declared.script.ScriptStep.{ScriptStep}
 use Rattle.sdr_run.specs.Playing.{IsPrinted, Output, PlaysOut, PrintsMore, leave_of, media_on}
@@ -60,21 +55,6 @@ pub printed_none : (p : Bool) (old : Output) (line : List ℕ) → p ≡ false �
 printed_none p old line is =
     subst (λ (b : Bool). PrintsMore b b old old line) (sym is)
     (λ first text below printed. (printed.0, part_more first.taken old.taken text line printed.1))
-
--- the media of a ground tell the same, and no count of theirs has fallen
-media_later : {T : Type 0} (g : Ghosts T) (old new : T) → g.told new ≡ g.told old → LapsesLast (g.lapses old)
-    (g.lapses new)
-    → HaveFailed 0 0 (from_to (media_on g old) (media_on g new))
-media_later g old new same later = record { told = same; faults = omega (arith, later.faults); short = omega (arith, later.short) }
-
--- so an answer that tells that they failed, or gave too few bytes, is caused where the ground tells its cause
-answer_caused : {T : Type 0} (g : Ghosts T) (old new : T) (answer : Answer) → g.told new ≡ g.told old → LapsesLast (g.lapses old) (g.lapses new)
-    → HasLapseCause answer (g.lapses old) (g.lapses new) → IsCaused answer (from_to (media_on g old) (media_on g new))
-answer_caused g old new (answers.Reply replies.MediaFault) same later rose =
-    record { told = same; faults = rose; short = omega (arith, later.short) }
-answer_caused g old new (answers.Reply (replies.Refused (refusals.SourceShort have want))) same later rose =
-    record { told = same; faults = omega (arith, later.faults); short = rose }
-answer_caused g old new answer same later rose = media_later g old new same later
 
 -- nothing was made yet
 pub running_start : {T : Type 0} (g : Ghosts T) (b : RunStart) (script : List ScriptStep) (daemons : List ℕ) (base : T) (k : LoggedLock T) (out : Output)

@@ -103,6 +103,7 @@ module _ {D M : Type 0} (d : DiskGhosts D) (m : MediaGhosts M) (read_now : (x : 
     daemons_are = refl;
     later = started;
     faults = o.later;
+    lapses = record { faults = omega arith; short = omega arith };
     rests = refl;
     moves = [];
     stands = stands;

@@ -16,7 +16,7 @@ use Rattle.mem_machine.specs.Leaves.{AllLeaveFrom}
 use Rattle.sdr_model.specs.declared.event.Leave.TheVariants as leaves
 use Rattle.sdr_base.specs.Media.{Told}
 use Rattle.sdr_words.specs.Bindings.{Binding, bound, event_of}
-use Rattle.sdr_run.proofs.MediaLemmas.{caused_later, caused_more, failed_refl}
+use Rattle.sdr_core.proofs.CausedLemmas.{caused_later, caused_more, failed_refl}
 use Rattle.sdr_run.specs.Schedule.{StepAnswered, AreCaused, FollowsScript, HaveFailed, IsCaused, MakesEvent, MediaChange, RunsDry, RunsTo, RunsWhole, SeenMedia, SomeAnswer, SomeRun, answer_line, bindings_after, run_text, daemons_of, from_to}
 use Rattle.sdr_text.proofs.TextLemmas.{part_later}
 use Rattle.sdr_text.specs.Text.{line_text}

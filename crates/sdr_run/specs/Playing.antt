@@ -4,6 +4,7 @@ use Rattle.std.specs.Io.KnownBytes.{Appends}
 use Rattle.sdr_base.specs.Causes.{Rose}
 use Rattle.sdr_base.specs.Written.{AppendsPart}
 use Rattle.sdr_core.specs.CoreKept.{RunStart, IsRunOf}
+pub use Rattle.sdr_core.specs.Caused.{media_on}
 use Rattle.sdr_run.specs.Schedule.{AreCaused, FollowsScript, MediaChange, SeenMedia, daemons_of, from_to, run_text}
 use Rattle.sdr_machine.specs.Core.{Core, RunsCore, first_core}
 use Rattle.sdr_machine.specs.Crash.{is_sound}
@@ -47,10 +48,6 @@ bytes_by a v = if a.called then bytes_given a.answer v.now.world.shown else []
 abbrev pub leave_of : Bool → Leave
 leave_of true = leaves.Memory
 leave_of false = leaves.Done
-
--- what is seen of the media of a ground
-abbrev pub media_on : {T : Type 0} → Ghosts T → T → SeenMedia
-media_on g base = record { told = g.told base; faults = (g.lapses base).faults; short = (g.lapses base).short }
 
 -- The script's steps but the last ones of these were made in order, on a core of the script's daemons, with these answers; then
 -- all made their leaves, and the journal is the one of this run. P tells of the steps that are left and the text of the answers.

@@ -2,6 +2,7 @@
 use Rattle.std.specs.Prelude.{◌≡◌, ◌≤◌, ℕ, ◌+◌, ◌-◌, ◌^◌, min, List, [], ◌∷◌, ◌++◌, ◌==◌, Bool, true, false, filter, sum_by, Option, if◌then◌else◌}
 use Rattle.std.specs.List.{list_any, range_with_len}
 use Rattle.sdr_base.specs.Media.{Told}
+pub use Rattle.sdr_core.specs.Caused.{AreCaused, HaveFailed, IsCaused, MediaChange, RoseBy, SeenMedia, from_to, is_media_fault, is_short, media_change, media_faults, once, seen_media, short_answers}
 use Rattle.sdr_base.specs.declared.refusal.Refusal.TheVariants as refusals
 use Rattle.sdr_machine.specs.Agreeing.{AgreesWith}
 use Rattle.sdr_machine.specs.Core.{Core, RunsCore, first_core}
@@ -27,65 +28,6 @@ all_daemons = range_with_len 1 16
 -- the daemons that a script names
 abbrev pub daemons_of : List ScriptStep → List ℕ
 daemons_of script = filter (λ daemon. list_any (λ step. step.daemon == daemon) script) all_daemons
-
--- what media show: what they hold, where they tell it, and how often they have failed and have given too few bytes
-pub record SeenMedia : Type 0 where
-  pub told : Option Told
-  pub faults : ℕ
-  pub short : ℕ
-
--- what is seen of media
-abbrev pub seen_media : {X : Type 0} → (X → Option Told) → (X → ℕ) → (X → ℕ) → X → SeenMedia
-seen_media told faults short x = record { told = told x; faults = faults x; short = short x }
-
--- what is seen of media before and after
-pub record MediaChange : Type 0 where
-  pub before : SeenMedia
-  pub after : SeenMedia
-
--- a change of what is seen of media, from this to that
-abbrev pub from_to : SeenMedia → SeenMedia → MediaChange
-from_to before after = record { before = before; after = after }
-
--- what is seen of media as they were and as they are
-abbrev pub media_change : {X : Type 0} → (X → Option Told) → (X → ℕ) → (X → ℕ) → X → X → MediaChange
-media_change told faults short old new = from_to (seen_media told faults short old) (seen_media told faults short new)
-
--- a count went up so often, or stands at the end of its type
-abbrev pub RoseBy : ℕ → ℕ → ℕ → Type 0
-RoseBy often before now = min (before + often) (2 ^ 64 - 1) ≤ now
-
--- one where a test is passed, else none
-abbrev pub once : Bool → ℕ
-once passed = if passed then 1 else 0
-
--- whether the answer is a fault of media
-abbrev pub is_media_fault : Answer → Bool
-is_media_fault (answers.Reply replies.MediaFault) = true
-is_media_fault answer = false
-
--- whether the answer is that media gave too few bytes
-abbrev pub is_short : Answer → Bool
-is_short (answers.Reply (replies.Refused (refusals.SourceShort have want))) = true
-is_short answer = false
-
--- Media still tell the same, and have failed and given too few bytes at least so often since.
-pub record HaveFailed (failures lacks : ℕ) (media : MediaChange) : Type 0 where
-  pub told : media.after.told ≡ media.before.told
-  pub faults : RoseBy failures media.before.faults media.after.faults
-  pub short : RoseBy lacks media.before.short media.after.short
-
--- how many answers of these are faults of media
-abbrev pub media_faults : List Made → ℕ
-media_faults = sum_by (λ e. once (is_media_fault e.said.answer))
-
--- how many are that media gave too few bytes
-abbrev pub short_answers : List Made → ℕ
-short_answers = sum_by (λ e. once (is_short e.said.answer))
-
--- The answers that tell of faults of media, and of too few bytes, are at most as many as these since.
-abbrev pub AreCaused : List Made → MediaChange → Type 0
-AreCaused made = HaveFailed (media_faults made) (short_answers made)
 
 -- the step makes this event, under what the names hold
 pub record MakesEvent (bindings : List Binding) (step : ScriptStep) (e : Made) : Type 0 where
@@ -122,10 +64,6 @@ answer_line step a m' = line_text step.line step.daemon a.answer (bytes_answered
 abbrev pub run_text : List Made → List ℕ
 run_text [] = []
 run_text (e ∷ made) = line_text e.said.line e.daemon e.said.answer e.said.bytes ++ run_text made
-
--- media failed, or gave too few bytes, where the answer tells so
-abbrev pub IsCaused : Answer → MediaChange → Type 0
-IsCaused answer = HaveFailed (once (is_media_fault answer)) (once (is_short answer))
 
 -- Some answer to the event of a step, of whose printed line P tells.
 pub record SomeLine (media : MediaChange) (m : Machine) (step : ScriptStep) (event : Event) (m' : Machine) (P : List ℕ → Type 0) : Type 0 where

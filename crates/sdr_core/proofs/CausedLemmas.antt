@@ -1,9 +1,15 @@
--- How often media have failed.
+-- How often media have failed, and the answers that tell so.
 use Rattle.std.proofs.Common.{◌≡◌, ◌+◌, ℕ, List, [], ◌∷◌, ◌++◌, refl, sym, ◌∙◌, subst, arith}
 use Rattle.std.specs.List.{sum_by}
 use Rattle.std.proofs.lemmas.List.Sums.{sum_by-append, sum_by-cons}
+use Rattle.sdr_base.specs.declared.refusal.Refusal.TheVariants as refusals
+use Rattle.sdr_machine.specs.Lapses.{HasLapseCause, LapsesLast}
 use Rattle.sdr_machine.specs.Machine.{Made}
-use Rattle.sdr_run.specs.Schedule.{AreCaused, HaveFailed, IsCaused, MediaChange, RoseBy, SeenMedia, from_to, is_media_fault, is_short, media_faults, once, short_answers}
+use Rattle.sdr_machine.specs.declared.has_ground.HasGround.{Ghosts}
+use Rattle.sdr_model.specs.declared.answer.Answer.{Answer}
+use Rattle.sdr_model.specs.declared.answer.Answer.TheVariants as answers
+use Rattle.sdr_model.specs.declared.answer.Reply.TheVariants as replies
+use Rattle.sdr_core.specs.Caused.{AreCaused, HaveFailed, IsCaused, MediaChange, media_on, RoseBy, SeenMedia, from_to, is_media_fault, is_short, media_faults, once, short_answers}
 
 -- a count that rose so often, and so often more
 rose-more : (a b before between now : ℕ) → RoseBy a before between → RoseBy b between now → RoseBy (a + b) before now
@@ -51,3 +57,18 @@ caused_later made media between media' before later = record {
   faults = omega (arith, before.faults, later.faults);
   short = omega (arith, before.short, later.short);
 }
+
+-- the media of a ground tell the same, and no count of theirs has fallen
+pub media_later : {T : Type 0} (g : Ghosts T) (old new : T) → g.told new ≡ g.told old → LapsesLast (g.lapses old)
+    (g.lapses new)
+    → HaveFailed 0 0 (from_to (media_on g old) (media_on g new))
+media_later g old new same later = record { told = same; faults = omega (arith, later.faults); short = omega (arith, later.short) }
+
+-- so an answer that tells that they failed, or gave too few bytes, is caused where the ground tells its cause
+pub answer_caused : {T : Type 0} (g : Ghosts T) (old new : T) (answer : Answer) → g.told new ≡ g.told old → LapsesLast (g.lapses old) (g.lapses new)
+    → HasLapseCause answer (g.lapses old) (g.lapses new) → IsCaused answer (from_to (media_on g old) (media_on g new))
+answer_caused g old new (answers.Reply replies.MediaFault) same later rose =
+    record { told = same; faults = rose; short = omega (arith, later.short) }
+answer_caused g old new (answers.Reply (replies.Refused (refusals.SourceShort have want))) same later rose =
+    record { told = same; faults = omega (arith, later.faults); short = rose }
+answer_caused g old new answer same later rose = media_later g old new same later
