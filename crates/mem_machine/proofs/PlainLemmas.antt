@@ -100,6 +100,7 @@ one_leave told leave daemon a c m m' steps at =
       leaves = record {
         daemon_is = refl;
         event = refl;
+        line = refl;
         step = record {
           next = m';
           step = subst (λ (n : Machine). MachineStep n e m') (sym at) steps.step;

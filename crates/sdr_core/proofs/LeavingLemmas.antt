@@ -59,29 +59,30 @@ module _ (r : Roll) (d : Daemon) (may : HoldFirst [] r.daemons) (served : served
       turn : (b : Bool) → (h.number == served_number r) ≡ true → (served_number r == h.number) ≡ true
       turn b is = grind (arith, nat_tests)
 
-module _ {T : Type 0} (g : Ghosts T) (line : ℕ) (leave : Leave) (a : Came) (old new : Locked T) (was log : Log) where
+module _ {T : Type 0} (g : Ghosts T) (leave : Leave) (a : Came) (old new : Locked T) (was log : Log) where
   -- a leave that was made
-  pub one_leave : (daemon : ℕ) (told : Option Told) → told ≡ g.told old.base → MakesCoreStep g daemon line (events.Leaves leave) a old was new log → (v : GroundState)
+  pub one_leave : (daemon : ℕ) (told : Option Told) → told ≡ g.told old.base → MakesCoreStep g daemon 0 (events.Leaves leave) a old was new log → (v : GroundState)
       → (s : IsInSomeState g.stands new (λ v'. CoreStep (g.told old.base) (core_at (record { lock = old; log = was }) v)
-      (made_by daemon (events.Leaves leave) a (g.moment old.base) (g.moment new.base) line v') (core_at (record { lock = new; log = log }) v')))
-      → MakesLeave told leave daemon (core_at (record { lock = old; log = was }) v) (made_by daemon (events.Leaves leave) a (g.moment old.base) (g.moment new.base) line s.for)
+      (made_by daemon (events.Leaves leave) a (g.moment old.base) (g.moment new.base) 0 v') (core_at (record { lock = new; log = log }) v')))
+      → MakesLeave told leave daemon (core_at (record { lock = old; log = was }) v) (made_by daemon (events.Leaves leave) a (g.moment old.base) (g.moment new.base) 0 s.for)
       (core_at (record { lock = new; log = log }) s.for)
   one_leave daemon told same makes v s = record {
     daemon_is = refl;
     event = refl;
-    step = subst (λ t. CoreStep t (core_at (record { lock = old; log = was }) v) (made_by daemon (events.Leaves leave) a (g.moment old.base) (g.moment new.base) line s.for)
+    line = refl;
+    step = subst (λ t. CoreStep t (core_at (record { lock = old; log = was }) v) (made_by daemon (events.Leaves leave) a (g.moment old.base) (g.moment new.base) 0 s.for)
         (core_at (record { lock = new; log = log }) s.for)) (sym same) s.tells;
   }
 
   -- the served daemon's leave gives its number up
-  module _ (d : Daemon) (makes : MakesCoreStep g d.id line (events.Leaves leave) a old was new log) (stands : HasState g.stands old) (may : HoldFirst [] old.roll.daemons)
+  module _ (d : Daemon) (makes : MakesCoreStep g d.id 0 (events.Leaves leave) a old was new log) (stands : HasState g.stands old) (may : HoldFirst [] old.roll.daemons)
       (served : served_daemon old.roll ≡ Some d) where
     abbrev stood : IsInSomeState g.stands new (λ v'. CoreStep (g.told old.base) (core_at (record { lock = old; log = was }) stands.for)
-        (made_by d.id (events.Leaves leave) a (g.moment old.base) (g.moment new.base) line v') (core_at (record { lock = new; log = log }) v'))
+        (made_by d.id (events.Leaves leave) a (g.moment old.base) (g.moment new.base) 0 v') (core_at (record { lock = new; log = log }) v'))
     stood = makes.step.each stands.for stands.stood
 
     abbrev made : Made
-    made = made_by d.id (events.Leaves leave) a (g.moment old.base) (g.moment new.base) line stood.for
+    made = made_by d.id (events.Leaves leave) a (g.moment old.base) (g.moment new.base) 0 stood.for
 
     first : IsFirst [] old.roll.daemons d
     first = served_first old.roll d may served
@@ -106,11 +107,11 @@ module _ {T : Type 0} (g : Ghosts T) (line : ℕ) (leave : Leave) (a : Came) (ol
     leave_many = ap (λ (ds : List Daemon). length ds) is.roll ∙ put_length is.after old.roll.daemons
 
   -- it lasts on
-  pub lasts_on : (daemon : ℕ) → MakesCoreStep g daemon line (events.Leaves leave) a old was new log → LastsOn g old.base → LastsOn g new.base
+  pub lasts_on : (daemon : ℕ) → MakesCoreStep g daemon 0 (events.Leaves leave) a old was new log → LastsOn g old.base → LastsOn g new.base
   lasts_on daemon makes lasts n = makes.asks.kept.lasts n (lasts (suc n))
 
   -- one leaves, and then the others
-  pub holders_more : (d : Daemon) (next : LoggedLock T) → served_daemon old.roll ≡ Some d → MakesCoreStep g d.id line (events.Leaves leave) a old was new log
+  pub holders_more : (d : Daemon) (next : LoggedLock T) → served_daemon old.roll ≡ Some d → MakesCoreStep g d.id 0 (events.Leaves leave) a old was new log
       → RunLeads g (HoldersLeave (g.told new.base) leave) (record { lock = new; log = log }) next
       → RunLeads g (HoldersLeave (g.told old.base) leave) (record { lock = old; log = was }) next
   holders_more d next served makes rest = record {
@@ -121,7 +122,7 @@ module _ {T : Type 0} (g : Ghosts T) (line : ℕ) (leave : Leave) (a : Came) (ol
           for = r.for;
           stood = r.stood;
           tells = record {
-            made = made_by d.id (events.Leaves leave) a (g.moment old.base) (g.moment new.base) line s.for ∷ r.tells.made;
+            made = made_by d.id (events.Leaves leave) a (g.moment old.base) (g.moment new.base) 0 s.for ∷ r.tells.made;
             tells = on_some _ _ (served_daemon old.roll) d served (record {
               next = core_at (record { lock = new; log = log }) s.for;
               leaves = one_leave d.id (g.told old.base) refl makes v s;
@@ -133,7 +134,7 @@ module _ {T : Type 0} (g : Ghosts T) (line : ℕ) (leave : Leave) (a : Came) (ol
     lapses = lapses_then _ _ _ makes.asks.kept.lapses rest.lapses;
   }
 
-  pub turn_more : (daemon : ℕ) (daemons : List ℕ) (next : LoggedLock T) → MakesCoreStep g daemon line (events.Leaves leave) a old was new log
+  pub turn_more : (daemon : ℕ) (daemons : List ℕ) (next : LoggedLock T) → MakesCoreStep g daemon 0 (events.Leaves leave) a old was new log
       → RunLeads g (LeaveInTurn (g.told new.base) leave daemons) (record { lock = new; log = log }) next
       → RunLeads g (LeaveInTurn (g.told old.base) leave (daemon ∷ daemons)) (record { lock = old; log = was }) next
   turn_more daemon daemons next makes rest = record {
@@ -144,7 +145,7 @@ module _ {T : Type 0} (g : Ghosts T) (line : ℕ) (leave : Leave) (a : Came) (ol
           for = r.for;
           stood = r.stood;
           tells = record {
-            made = made_by daemon (events.Leaves leave) a (g.moment old.base) (g.moment new.base) line s.for ∷ r.tells.made;
+            made = made_by daemon (events.Leaves leave) a (g.moment old.base) (g.moment new.base) 0 s.for ∷ r.tells.made;
             tells = record {
               next = core_at (record { lock = new; log = log }) s.for;
               leaves = one_leave daemon (g.told old.base) refl makes v s;

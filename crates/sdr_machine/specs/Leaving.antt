@@ -10,10 +10,11 @@ use Rattle.sdr_machine.specs.Roll.{Roll, served_number}
 use Rattle.sdr_machine.specs.declared.daemon.Daemon.{Daemon}
 use Rattle.sdr_machine.specs.declared.daemon.Holding.{Holding}
 
--- a daemon has made its event of a leave, by which the core has come to another
+-- a daemon has made its event of a leave, which stands on no line, by which the core has come to another
 pub record MakesLeave (told : Option Told) (leave : Leave) (daemon : ℕ) (c : Core) (e : Made) (c' : Core) : Type 0 where
   pub daemon_is : e.daemon ≡ daemon
   pub event : e.said.event ≡ events.Leaves leave
+  pub line : e.said.line ≡ 0
   pub step : CoreStep told c e c'
 
 -- a daemon makes its leave first, and what then holds of the rest

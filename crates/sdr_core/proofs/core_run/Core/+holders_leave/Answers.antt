@@ -16,8 +16,8 @@ holders_leave-requires g t c κs within =
     let next = c.make_leave.new.self in
     let d = c.in-Some.daemon in
     let served : served_daemon self.lock.roll ≡ Some d = subst (λ r. served_daemon r ≡ Some d) c.roll.ensures.roll (sym c.in-Some.ensures) in
-    let fewer = leave_fewer g.T.HasGround 0 c.args.leave c.make_leave.result self.lock next.lock self.log next.log d c.make_leave.ensures c.roll.ensures.stands c.roll.ensures.first served in
-    (omega (arith, fewer), (within.0, (within.1, lasts_on g.T.HasGround 0 c.args.leave c.make_leave.result self.lock next.lock self.log next.log d.id c.make_leave.ensures c.requires.lasts)))
+    let fewer = leave_fewer g.T.HasGround c.args.leave c.make_leave.result self.lock next.lock self.log next.log d c.make_leave.ensures c.roll.ensures.stands c.roll.ensures.first served in
+    (omega (arith, fewer), (within.0, (within.1, lasts_on g.T.HasGround c.args.leave c.make_leave.result self.lock next.lock self.log next.log d.id c.make_leave.ensures c.requires.lasts)))
 
 pub returns-in-Some-clause-left : goal.returns-in-Some-clause-left
 returns-in-Some-clause-left g t c =
@@ -25,7 +25,7 @@ returns-in-Some-clause-left g t c =
     let next = c.make_leave.new.self in
     let d = c.in-Some.daemon in
     let served : served_daemon self.lock.roll ≡ Some d = subst (λ r. served_daemon r ≡ Some d) c.roll.ensures.roll (sym c.in-Some.ensures) in
-    holders_more g.T.HasGround 0 c.args.leave c.make_leave.result self.lock next.lock self.log next.log d c.holders_leave.new.self served c.make_leave.ensures c.holders_leave.ensures.left
+    holders_more g.T.HasGround c.args.leave c.make_leave.result self.lock next.lock self.log next.log d c.holders_leave.new.self served c.make_leave.ensures c.holders_leave.ensures.left
 
 pub returns-in-Some-clause-daemons : goal.returns-in-Some-clause-daemons
 returns-in-Some-clause-daemons g t c =
@@ -34,7 +34,7 @@ returns-in-Some-clause-daemons g t c =
     let d = c.in-Some.daemon in
     let served : served_daemon self.lock.roll ≡ Some d = subst (λ r. served_daemon r ≡ Some d) c.roll.ensures.roll (sym c.in-Some.ensures) in
     c.holders_leave.ensures.daemons
-    ∙ leave_many g.T.HasGround 0 c.args.leave c.make_leave.result self.lock next.lock self.log next.log d c.make_leave.ensures c.roll.ensures.stands c.roll.ensures.first served
+    ∙ leave_many g.T.HasGround c.args.leave c.make_leave.result self.lock next.lock self.log next.log d c.make_leave.ensures c.roll.ensures.stands c.roll.ensures.first served
 
 pub returns-in-Some-clause-drawn : goal.returns-in-Some-clause-drawn
 returns-in-Some-clause-drawn g t c =
@@ -42,7 +42,7 @@ returns-in-Some-clause-drawn g t c =
     let next = c.make_leave.new.self in
     let d = c.in-Some.daemon in
     let served : served_daemon self.lock.roll ≡ Some d = subst (λ r. served_daemon r ≡ Some d) c.roll.ensures.roll (sym c.in-Some.ensures) in
-    let fewer = leave_fewer g.T.HasGround 0 c.args.leave c.make_leave.result self.lock next.lock self.log next.log d c.make_leave.ensures c.roll.ensures.stands c.roll.ensures.first served in
+    let fewer = leave_fewer g.T.HasGround c.args.leave c.make_leave.result self.lock next.lock self.log next.log d c.make_leave.ensures c.roll.ensures.stands c.roll.ensures.first served in
     let one = c.make_leave.ensures.drawn in
     let more = c.holders_leave.ensures.drawn in
     omega (arith, fewer, one, more)

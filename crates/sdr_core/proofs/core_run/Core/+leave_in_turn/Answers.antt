@@ -21,5 +21,5 @@ returns-in-len1-up g t c =
     let told = g.T.HasGround.told self.lock.base in
     record {
       left = subst (λ (ds : List ℕ). RunLeads g.T.HasGround (LeaveInTurn told c.args.leave ds) self next) (sym (first_of c.args.daemons.now 0 c.in-len1-up.len_at_least))
-          (turn_more g.T.HasGround 0 c.args.leave c.make_leave.result self.lock mid.lock self.log mid.log _ _ next c.make_leave.ensures c.leave_in_turn.ensures.left);
+          (turn_more g.T.HasGround c.args.leave c.make_leave.result self.lock mid.lock self.log mid.log _ _ next c.make_leave.ensures c.leave_in_turn.ensures.left);
     }
