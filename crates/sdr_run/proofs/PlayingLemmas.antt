@@ -9,7 +9,8 @@ use Rattle.sdr_core.specs.CoreKept.{RunStart, BeginsOn, IsRunOf, LoggedLock, cor
 use Rattle.sdr_core.specs.Leaving.{RunLeads}
 use Rattle.sdr_core.proofs.CausedLemmas.{answer_caused, caused_later, caused_more, failed_refl, media_later}
 use Rattle.sdr_run.proofs.ScheduleLemmas.{bindings_after-push, follows-push, run_text-push, runs-push}
-use Rattle.sdr_run.specs.Schedule.{AreCaused, HaveFailed, IsCaused, MakesEvent, bindings_after, daemons_of, from_to, run_text}
+use Rattle.sdr_core.specs.Caused.{AreCaused, HaveFailed, IsCaused, from_to}
+use Rattle.sdr_run.specs.Schedule.{MakesEvent, bindings_after, daemons_of, run_text}
 use Rattle.sdr_machine.specs.Core.{CoreStep, RunsCore, first_core}
 use Rattle.sdr_machine.specs.Crash.{is_sound}
 use Rattle.sdr_machine.specs.Leaving.{AllLeave}
@@ -20,7 +21,8 @@ use Rattle.sdr_machine.specs.Standing.{standing_at}
 use Rattle.sdr_machine.specs.declared.has_ground.HasGround.{Ghosts}
 use Rattle.sdr_model.specs.declared.journal.Entry.{Entry}
 use Rattle.sdr_model.specs.declared.script.ScriptStep.{ScriptStep}
-use Rattle.sdr_run.specs.Playing.{IsPrinted, Output, PlaysOut, PrintsMore, leave_of, media_on}
+use Rattle.sdr_core.specs.Caused.{media_on}
+use Rattle.sdr_run.specs.Playing.{IsPrinted, Output, PlaysOut, PrintsMore, leave_of}
 use Rattle.sdr_run.specs.Running.{AnswersStep, HasMade, HasRun, Running}
 use Rattle.sdr_text.proofs.TextLemmas.{part_later}
 use Rattle.sdr_words.specs.Bindings.{Binding, bound, event_of}

@@ -1,7 +1,8 @@
 -- A schedule that runs, step by step.
 use Rattle.std.specs.Prelude.{◌≡◌, ℕ, List, [], ◌++◌, true}
 use Rattle.sdr_core.specs.CoreKept.{RunStart, LoggedLock, MakesCoreStep, core_at}
-use Rattle.sdr_run.specs.Schedule.{AreCaused, FollowsScript, bindings_after, daemons_of, from_to, run_text}
+use Rattle.sdr_core.specs.Caused.{AreCaused, from_to, media_on}
+use Rattle.sdr_run.specs.Schedule.{FollowsScript, bindings_after, daemons_of, run_text}
 use Rattle.sdr_machine.specs.Core.{RunsCore, first_core}
 use Rattle.sdr_machine.specs.Machine.{Made}
 use Rattle.sdr_machine.specs.Serving.{IsInState}
@@ -9,7 +10,7 @@ use Rattle.sdr_machine.specs.Standing.{GroundState}
 use Rattle.sdr_machine.specs.declared.came.Came.{Came}
 use Rattle.sdr_machine.specs.declared.has_ground.HasGround.{Ghosts}
 use Rattle.sdr_model.specs.declared.script.ScriptStep.{ScriptStep}
-use Rattle.sdr_run.specs.Playing.{bytes_by, media_on}
+use Rattle.sdr_run.specs.Playing.{bytes_by}
 use Rattle.sdr_text.specs.Text.{line_text}
 use Rattle.sdr_words.specs.Bindings.{Binding, bound, event_of}
 

@@ -1,9 +1,8 @@
 -- A dry run of a script: which events its steps make, and what is printed of them.
-use Rattle.std.specs.Prelude.{◌≡◌, ◌≤◌, ℕ, ◌+◌, ◌-◌, ◌^◌, min, List, [], ◌∷◌, ◌++◌, ◌==◌, Bool, true, false, filter, sum_by, Option, if◌then◌else◌}
+use Rattle.std.specs.Prelude.{◌≡◌, ℕ, ◌+◌, ◌-◌, List, [], ◌∷◌, ◌++◌, ◌==◌, filter, Option}
 use Rattle.std.specs.List.{list_any, range_with_len}
 use Rattle.sdr_base.specs.Media.{Told}
-pub use Rattle.sdr_core.specs.Caused.{AreCaused, HaveFailed, IsCaused, MediaChange, RoseBy, SeenMedia, from_to, is_media_fault, is_short, media_change, media_faults, once, seen_media, short_answers}
-use Rattle.sdr_base.specs.declared.refusal.Refusal.TheVariants as refusals
+use Rattle.sdr_core.specs.Caused.{AreCaused, IsCaused, MediaChange}
 use Rattle.sdr_machine.specs.Agreeing.{AgreesWith}
 use Rattle.sdr_machine.specs.Core.{Core, RunsCore, first_core}
 use Rattle.sdr_machine.specs.Ground.{bare}
@@ -12,9 +11,7 @@ use Rattle.sdr_machine.specs.Machine.{Machine, Made}
 use Rattle.sdr_machine.specs.declared.came.Came.{Came}
 use Rattle.sdr_model.specs.World.{empty_world}
 use Rattle.mem_machine.specs.Asking.{StepsAt, bytes_answered}
-use Rattle.sdr_model.specs.declared.answer.Answer.{Answer}
 use Rattle.sdr_model.specs.declared.answer.Answer.TheVariants as answers
-use Rattle.sdr_model.specs.declared.answer.Reply.TheVariants as replies
 use Rattle.sdr_model.specs.declared.event.Event.{Event}
 use Rattle.sdr_model.specs.declared.event.Leave.TheVariants as leaves
 use Rattle.sdr_words.specs.Bindings.{Binding, event_of, bound}

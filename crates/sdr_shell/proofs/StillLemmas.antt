@@ -8,7 +8,8 @@ use Rattle.sdr_log.specs.declared.frame.Frame.{Frame}
 use Rattle.std.specs.Prelude.{codes}
 use Rattle.sdr_shell.specs.Form.{OnFormat}
 use Rattle.sdr_shell.specs.declared.form.Form.{Form}
-use Rattle.sdr_run.specs.Schedule.{MediaChange, SomeRun}
+use Rattle.sdr_core.specs.Caused.{MediaChange}
+use Rattle.sdr_run.specs.Schedule.{SomeRun}
 use Rattle.sdr_shell.specs.Formatting.{IsFormatStatus}
 use Rattle.sdr_shell.specs.Still.{WritesOut, HadScript, HadBadLine, HadRun, IsDryStatus, IsRefused, NamesBadLine, Tells}
 use Rattle.sdr_words.specs.Script.{input_script}

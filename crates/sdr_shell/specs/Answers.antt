@@ -7,7 +7,7 @@ use Rattle.sdr_base.specs.declared.media.Media.{Ghosts as MediaGhosts}
 use Rattle.sdr_log.specs.Frame.{disk_bytes}
 use Rattle.sdr_log.specs.declared.frame.Frame.{Frame}
 use Rattle.sdr_shell.specs.Formatting.{line_formatted, line_too_small, IsFormatted, HasFormatted, IsFormatStatus}
-use Rattle.sdr_run.specs.Schedule.{MediaChange, media_change}
+use Rattle.sdr_core.specs.Caused.{MediaChange, media_change}
 use Rattle.sdr_shell.specs.Still.{WritesOut, HadRun, IsDone, IsDryStatus, IsRefused, IsStarved}
 use Rattle.sdr_words.specs.Script.{input_script}
 use Rattle.sdr_shell.specs.declared.status.TheConstants.{DONE, INPUT_FAULT, OUTPUT_FAULT, DISK_FAULT, REFUSED_LINE, NO_MEMORY, TOO_SMALL}

@@ -3,7 +3,8 @@ use Rattle.std.specs.Prelude.{◌≡◌, ℕ, List, ◌++◌, ◌⊎◌, Option,
 use Rattle.std.specs.Io.KnownBytes.{Appends, IsAtEnd}
 use Rattle.sdr_base.specs.Causes.{Rose}
 use Rattle.sdr_base.specs.Written.{AppendsPart}
-use Rattle.sdr_run.specs.Schedule.{MediaChange, RunsWhole, SomeRun}
+use Rattle.sdr_core.specs.Caused.{MediaChange}
+use Rattle.sdr_run.specs.Schedule.{RunsWhole, SomeRun}
 use Rattle.sdr_words.specs.Script.{input_script}
 use Rattle.sdr_words.specs.declared.error.ScriptError.{ScriptError}
 use Rattle.sdr_words.specs.declared.error.ScriptError.TheVariants as errors

@@ -13,7 +13,7 @@ use Rattle.sdr_shell.specs.Inspecting.{AnswersInspect}
 use Rattle.sdr_shell.specs.Recovering.{AnswersRecover}
 use Rattle.sdr_shell.specs.Replaying.{AnswersReplay}
 use Rattle.sdr_shell.specs.Formatting.{HasFormatted, LeavesDisk}
-use Rattle.sdr_run.specs.Schedule.{HaveFailed, media_change}
+use Rattle.sdr_core.specs.Caused.{HaveFailed, media_change}
 use Rattle.sdr_shell.specs.declared.form.Form.TheVariants as forms
 use Rattle.sdr_shell.specs.declared.outcome.RunOutcome.{RunOutcome}
 use Rattle.sdr_shell.specs.declared.status.TheConstants.{USAGE}

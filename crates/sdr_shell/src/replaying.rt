@@ -1,6 +1,6 @@
 // A replay of the input's schedule on the heap of a disk, and what is said of it.
 ghost use Rattle.std.specs.Prelude.{◌≡◌, ◌≤◌, ◌+◌, [], length, IfSome};
-ghost use Rattle.sdr_run.specs.Schedule.{HaveFailed, media_change};
+ghost use Rattle.sdr_core.specs.Caused.{HaveFailed, media_change};
 ghost use Rattle.sdr_log.specs.Calls.{KeepsDisk};
 ghost use Rattle.sdr_shell.specs.Answers.{Wrote, seen};
 ghost use Rattle.sdr_shell.specs.Replaying.{AnswersReplay, RunsOrNot, TellsRan};

@@ -4,7 +4,7 @@ use Rattle.std.proofs.lemmas.Result.{err_from_is_err_and}
 use Rattle.mem_machine.specs.Plain.{Plain, machine_of}
 use Rattle.sdr_run.specs.declared.running.RunError.TheVariants.{NoMemory, Output}
 use Rattle.sdr_run.proofs.ScheduleLemmas.{Running, running_start, running_next, running_kept, running_cut, running_done}
-use Rattle.sdr_run.specs.Schedule.{from_to, seen_media}
+use Rattle.sdr_core.specs.Caused.{from_to, seen_media}
 use Rattle.sdr_run.proofs.running.run_on.Goals as goal
 
 pub loop-step-init : goal.loop-step-init

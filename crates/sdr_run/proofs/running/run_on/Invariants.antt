@@ -1,6 +1,6 @@
 use Rattle.std.proofs.Common.{◌≡◌, ◌≤◌, ◌+◌, length}
 use Rattle.mem_machine.specs.Plain.{machine_of}
-use Rattle.sdr_run.specs.Schedule.{media_change}
+use Rattle.sdr_core.specs.Caused.{media_change}
 use Rattle.sdr_run.proofs.ScheduleLemmas.{Running}
 use Rattle.sdr_run.proofs.running.run_on.Given as goal
 

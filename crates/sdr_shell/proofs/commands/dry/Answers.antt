@@ -5,7 +5,8 @@ use Rattle.sdr_base.specs.Written.{AppendsPart}
 use Rattle.sdr_shell.proofs.ScriptRead.{bad_line_of, had_script, read_to_the_end}
 use Rattle.sdr_shell.proofs.StillLemmas.{had_run, ran_reads, tells_refused, tells_starved}
 use Rattle.sdr_model.specs.declared.script.ScriptStep.{ScriptStep}
-use Rattle.sdr_run.specs.Schedule.{RunsWhole, media_change}
+use Rattle.sdr_core.specs.Caused.{media_change}
+use Rattle.sdr_run.specs.Schedule.{RunsWhole}
 use Rattle.sdr_shell.specs.Still.{WritesOut}
 use Rattle.sdr_shell.proofs.commands.dry.Goals as goal
 
