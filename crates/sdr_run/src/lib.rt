@@ -15,7 +15,7 @@
 //! if the sink failed, or that of some first steps if it ran out of memory (`ok`, `output`, `memory`). `replay`: the printed
 //! answers and the journal are those of one run of the script on the heap that was opened (`ReplaysOn`), for every disk. If the disk was
 //! settled (`IsSettled`), a crash at any moment of the call leaves a disk that opens to the state after some first entries, all done ones
-//! among them (`any_moment`, `LeavesJournal`). That no entry begins before the call is not proved.
+//! among them (`any_moment`, `LeavesJournal`). Each entry is begun and done between the begin of the call and its return (`in_time`).
 //!
 //! Only tested: each call's answers (`tests/cases`).
 #![tactic(auto)]
