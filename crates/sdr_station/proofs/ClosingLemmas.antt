@@ -275,7 +275,7 @@ module _ {D M : Type 0} (told : D → Option (List ℕ)) (moment : D → ℕ) (f
     memory = brings;
     brings = brings_closed new on at_now rests brings;
     sound = still;
-    time = omega (arith, is, at_now);
+    time = omega (arith, since, at_now);
     keeps = keeps_later told moment faults may_hold_after media old new unread (subst (λ (d : D). faults old.heap.cells.disk ≤ faults d) (sym on) later);
     any_moment = leaves;
     is_ground = ground_brought moment old new ground (at_now ∙ is ∙ ap moment (sym on)) sound still going brings;

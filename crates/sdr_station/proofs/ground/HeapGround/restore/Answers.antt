@@ -143,4 +143,6 @@ invariant_of-self g c =
 pub returns-in-Err-DiskFault-clause-time : goal.returns-in-Err-DiskFault-clause-time
 returns-in-Err-DiskFault-clause-time g c =
     let was = ap (λ (o : Grounded g.row.D.Denot g.row.M.Denot). o.moment) c.self.view_is in
-    omega (arith, was, c.moment_since-self-inside-in-Err-DiskFault.ensures.moment)
+    let at = c.moment_of-self-inside-in-Err-DiskFault in
+    let at_now = at.ensures.moment ∙ ap (λ (h : Held (Opened g.row.D.Denot)). g.D.Disk.moment h.cells.disk) at.ensures.same in
+    omega (arith, was, at_now, c.self.invariant.seen, c.in-Err-DiskFault.ensures.forward)

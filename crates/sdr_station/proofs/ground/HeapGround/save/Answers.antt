@@ -169,4 +169,6 @@ returns-in-Err-clause-fault g c =
 pub returns-in-Err-clause-time : goal.returns-in-Err-clause-time
 returns-in-Err-clause-time g c =
     let was = ap (λ (o : Grounded g.row.D.Denot g.row.M.Denot). o.moment) c.self.view_is in
-    omega (arith, was, c.moment_since-self-inside-in-Err.ensures.moment)
+    let at = c.moment_of-self-inside-in-Err in
+    let at_now = at.ensures.moment ∙ ap (λ (h : Held (Opened g.row.D.Denot)). g.D.Disk.moment h.cells.disk) at.ensures.same in
+    omega (arith, was, at_now, c.self.invariant.seen, c.in-Err.ensures.forward)
