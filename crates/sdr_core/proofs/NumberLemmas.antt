@@ -11,7 +11,6 @@ use Rattle.sdr_machine.specs.Ground.{State}
 use Rattle.sdr_machine.specs.Holders.{HoldFirst, holders}
 use Rattle.sdr_machine.specs.Leaving.{holds_number}
 use Rattle.sdr_machine.specs.Machine.{Made, MachineStep}
-use Rattle.sdr_machine.specs.Roll.{newcomer}
 use Rattle.sdr_machine.specs.declared.daemon.Daemon.{Daemon}
 use Rattle.sdr_machine.specs.declared.daemon.Holding.{Holding}
 use Rattle.law_runs.proofs.RollLemmas.{HoldsWithin, IsWithin, among}

@@ -6,7 +6,7 @@ use Rattle.std.specs.List.{sum_by}
 use Rattle.std.specs.Option.{option_map, option_map_or, option_to_list}
 use Rattle.std.specs.Prelude.{if◌then◌else◌, ⊤}
 use Rattle.sdr_base.specs.Media.{Told}
-use Rattle.sdr_machine.specs.Core.{Core, CoreStep, Log, RunsCore, Under, Work, all_said, closed_by, entry_of, first_core, log_after, said_by, under, was_outside, what_added, what_of, with_said, without_work}
+use Rattle.sdr_machine.specs.Core.{Core, CoreStep, Log, RunsCore, Under, Work, all_said, closed_by, entry_of, first_core, log_after, said_by, under, was_outside, what_added, with_said, without_work}
 use Rattle.sdr_machine.specs.Ground.{State}
 use Rattle.sdr_machine.specs.Machine.{Made}
 use Rattle.sdr_machine.specs.Roll.{daemon_of}

@@ -1,5 +1,5 @@
 -- The moments of the entries of a core run.
-use Rattle.std.proofs.Common.{◌≡◌, ◌≤◌, ◌++◌, ℕ, List, [], ◌∷◌, false, Option, None, Some, subst, sym, arith, append-nil}
+use Rattle.std.proofs.Common.{◌≤◌, ◌++◌, ℕ, List, [], ◌∷◌, false, Option, None, Some, subst, sym, arith, append-nil}
 use Rattle.std.specs.Option.{option_map, option_map_or, option_to_list}
 use Rattle.sdr_base.specs.Media.{Told}
 use Rattle.sdr_machine.specs.Core.{AreInTime, Core, CoreStep, RunsCore, Under, entry_of, under, what_of}
