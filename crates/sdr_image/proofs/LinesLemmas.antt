@@ -121,23 +121,6 @@ are_good-permutation n a b p good =
     good-times n b (λ line is. below-good n a line good (sym (names_line-permutation a b line p) ∙ is))
     (λ line. omega (arith, sum_by-IsPermutation (times line) a b p, times-good n a line good))
 
--- Records put into a heap stand there.
-
-pub HoldLines-put_records : (n : ℕ) (records : List Record) (heap : List ℕ) → are_good n records ≡ true →
-    AreLines records → 64 * n ≤ length heap → HoldLines (put_records records heap) records
-HoldLines-put_records n [] heap good lines le = tt
-HoldLines-put_records n (r ∷ records) heap good lines le =
-    let g = are_good-cons n r records good in
-    let inside : 64 * r.line + length r.bytes ≤ length heap = omega (arith, g.0, lines.0) in
-    let one = overwrite (64 * r.line) r.bytes heap in
-    let long = length-overwrite (64 * r.line) r.bytes heap inside in
-    let rest = SameBut-put_records n records one g.2 lines.1 (omega (arith, long)) in (
-      sym (part-same_but records r.line one (put_records records one) rest g.1 (omega (arith, long, inside, lines.0))
-          ∙ ap (λ (k : ℕ). part (64 * r.line) k one) (sym lines.0)
-          ∙ part-overwrite (64 * r.line) r.bytes heap inside),
-      HoldLines-put_records n records one g.2 lines.1 (omega (arith, long)),
-    )
-
 -- Records of the lines of others, with the bytes of a heap.
 
 pub lines_named-lines_in : (heap : List ℕ) (lines : List ℕ) → lines_named (lines_in heap lines) ≡ lines
