@@ -6,15 +6,16 @@ ghost use Rattle.std.proofs.Common.{◌∙◌};
 ghost use Rattle.sdr_base.specs.Cells.{is_among, with_lines, lines_of};
 ghost use Rattle.sdr_base.specs.Parts.{overwrite};
 ghost use Rattle.sdr_base.specs.Transaction.{HasReason, IfRefused};
-ghost use Rattle.sdr_disk.specs.Moments.{AtEach, Reads};
+ghost use Rattle.sdr_disk.specs.Moments.{AtEach, Only, Reads};
 ghost use Rattle.sdr_disk.specs.Told.{IfTold};
 ghost use Rattle.sdr_log.specs.Calls.{KeepsDisk};
 ghost use Rattle.sdr_log.specs.Frame.{room_of};
+ghost use Rattle.sdr_log.specs.Left.{IsLeftFrom};
 ghost use Rattle.sdr_log.specs.Log.{first_gate, put_back_of};
 ghost use Rattle.sdr_log.specs.Logged.{GivesHeap, GivesSame};
 ghost use Rattle.sdr_image.specs.Changed.{GivesEither};
 ghost use Rattle.sdr_image.specs.Opened.{transaction_of, KeepsBegun, LeavesHeap, Rests, StaysAt};
-ghost use Rattle.sdr_image.specs.Opening.{MayBeOpened, OnNotFormatted};
+ghost use Rattle.sdr_image.specs.Opening.{MayBeOpened, OnNotFormatted, UnlessFault};
 ghost use Rattle.sdr_image.specs.Saved.{Saves, calls_of};
 
 use crate::opening::load;
@@ -82,11 +83,17 @@ impl<D: Disk> Image<D> {
         ensures not_formatted { IfErr result (λ shut. OnNotFormatted shut.why
             (IfTold (D.bytes disk) (λ x. put_back_of x ≡ None))) }
         ensures disk { Returns D.size D.bytes D.faults disk result }
+        // Where it refuses, it has read alone, and so it has where no batch is open.
+        ensures same { IfErr result (λ shut. UnlessFault shut.why
+            (Reads D.bytes D.moment D.may_hold_after disk shut.disk)) }
         ensures quiet { IfTold (D.bytes disk) (λ x. first_gate x ≡ 0
             → Reads D.bytes D.moment D.may_hold_after disk (disk_in result)) }
         ensures forward { D.moment disk ≤ D.moment (disk_in result) }
         ensures calls { IfOk result (λ i.
             D.moment i.disk ≤ D.moment disk + 2 * (i.restored + 3)) }
+        // Where nothing was pending, a crash leaves what a recovery that was stopped may leave.
+        ensures left { IfTold (D.bytes disk) (λ x. Only x (D.may_hold_after disk (D.moment disk))
+            → AtEach D.moment D.may_hold_after disk (disk_in result) (IsLeftFrom x)) }
         ensures any_moment { IfTold (D.bytes disk)
             (λ x. MayBeOpened x (D.may_hold_after disk (D.moment disk))
             → AtEach D.moment D.may_hold_after disk (disk_in result) (GivesSame x)) }
