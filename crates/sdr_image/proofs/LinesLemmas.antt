@@ -1,5 +1,5 @@
 -- Records of lines in another order, and with the bytes of another heap.
-use Rattle.std.proofs.Common.{◌≡◌, ◌≤◌, ◌<◌, inl, inr, ℕ, zero, suc, ◌+◌, ◌*◌, ◌/◌, Bool, true, false, ◌||◌, ◌==◌, cond}
+use Rattle.std.proofs.Common.{◌≡◌, ◌≤◌, ◌<◌, inl, inr, ℕ, zero, suc, ◌*◌, ◌/◌, Bool, true, false, ◌||◌, ◌==◌, cond}
 use Rattle.std.proofs.Common.{List, [], ◌∷◌, length, refl, sym, ap, ◌∙◌, arith}
 use Rattle.std.specs.Prelude.{IsPermutation}
 use Rattle.std.specs.List.{All, sum_by}
@@ -8,13 +8,13 @@ use Rattle.std.proofs.lemmas.Bool.Decides.{nat_tests}
 use Rattle.std.proofs.lemmas.List.Sorted.{All-permutation, IsPermutation-map, list_any-IsPermutation}
 use Rattle.std.proofs.lemmas.List.Sorted.{sum_by-IsPermutation}
 use Rattle.std.proofs.lemmas.List.Sums.{sum_by-cons}
-use Rattle.sdr_base.proofs.PartsLemmas.{length-overwrite, length-part, part-overwrite}
-use Rattle.sdr_base.specs.Parts.{overwrite, part}
+use Rattle.sdr_base.proofs.PartsLemmas.{length-part}
+use Rattle.sdr_base.specs.Parts.{part}
 use Rattle.sdr_log.specs.Calls.{AreBelow, AreNamed, HoldLines}
 use Rattle.sdr_log.specs.Log.{AreLines, are_good, names_line, put_records}
 use Rattle.sdr_log.specs.declared.record.Record.{Record}
 use Rattle.sdr_log.proofs.GoodLemmas.{AreBelow-good, put_records-all_own}
-use Rattle.sdr_log.proofs.RecordsLemmas.{SameBut, SameBut-put_records, are_good-cons, part-same_but}
+use Rattle.sdr_log.proofs.RecordsLemmas.{SameBut, are_good-cons}
 use Rattle.sdr_log.proofs.RecordsLemmas.{put_records-same_but}
 use Rattle.sdr_image.specs.Changed.{lines_in}
 use Rattle.sdr_image.specs.Opened.{lines_named}
