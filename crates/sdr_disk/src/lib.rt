@@ -12,7 +12,7 @@
 //!
 //! Proved: the trait `Disk` says what each call does to the bytes and the moment, and which images a crash may
 //! leave at each moment (`moments`, `past`, `durable`). `MemoryDisk` keeps to it, and fails exactly at listed
-//! calls, at the last moment, or out of memory.
+//! calls, at the last moment, out of memory, or once it has stopped (`answers`).
 //!
 //! Only tested: the images of each moment of a short row of calls, with each tear, against literals.
 #![tactic(auto)]

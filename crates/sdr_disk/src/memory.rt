@@ -14,8 +14,8 @@ use crate::{Disk, DiskFault, Torn};
 use sdr_base::NoMemory;
 use std::marker::Model;
 
-/// A disk that tells its bytes, keeps a record of its writes and syncs, and fails at listed calls
-/// and where its record can't grow.
+/// A disk that tells its bytes, keeps a record of its writes and syncs, and fails at listed calls,
+/// where its record can't grow, and once it has stopped.
 #[derive(Drop)]
 pub struct MemoryDisk {
     history: History,
@@ -25,6 +25,8 @@ pub struct MemoryDisk {
     starved: u64,
     /// The numbers of the calls that fail, counted from 1.
     failing: Vec<u64>,
+    /// For how many writes and syncs more it goes on; none where it isn't to stop.
+    left: Option<u64>,
 }
 
 impl Model for MemoryDisk {
@@ -38,12 +40,13 @@ impl Model for MemoryDisk {
       faults = d.faults;
       starved = d.starved;
       failing = d.failing.items;
+      left = d.left;
     } };
 }
 
 impl MemoryDisk {
     ghost use Rattle.sdr_disk.specs.History.{image_of};
-    ghost use Rattle.sdr_disk.specs.MemoryDisk.{Memory, called};
+    ghost use Rattle.sdr_disk.specs.MemoryDisk.{Memory, called, is_stopped, spent};
 
     /// A disk of these bytes, whose calls of read, write and sync fail where their numbers, counted
     /// from 1, are in `failing`.
@@ -56,6 +59,7 @@ impl MemoryDisk {
           faults = 0;
           starved = 0;
           failing = failing.items;
+          left = None;
         } }
     {
         MemoryDisk {
@@ -64,7 +68,17 @@ impl MemoryDisk {
             faults: 0,
             starved: 0,
             failing,
+            left: None,
         }
+    }
+
+    /// Lets so many writes and syncs more go on as before, also those that fail for another cause. Then
+    /// the disk has stopped: each call, a read too, fails and changes nothing but its counts. Where it
+    /// was to stop before, that no longer counts.
+    pub fn stop_after(&mut self, changes: u64)
+        ensures { self.new ≡ record self.old { left = Some changes } }
+    {
+        self.left = Some(changes);
     }
 
     /// The image of a crash at a moment that leaves so much of each write that had begun by then
@@ -102,6 +116,25 @@ impl MemoryDisk {
             Outcome::Failed
         } else {
             Outcome::Done
+        }
+    }
+
+    // Whether it has stopped.
+    fn is_stopped(&self) -> bool
+        ensures { result ≡ is_stopped self.now }
+    {
+        match self.left {
+            Some(changes) => changes == 0,
+            None => false,
+        }
+    }
+
+    // Counts a write or a sync that goes on.
+    fn spend(&mut self)
+        ensures { self.new ≡ spent self.old }
+    {
+        if let Some(changes) = self.left {
+            self.left = Some(changes.saturating_sub(1));
         }
     }
 
@@ -166,10 +199,11 @@ impl Disk for MemoryDisk {
         ensures time { moment_now self.new ≡ moment_now self.old }
         ensures past { SamePast (moment_now self.old) (CrashLeaves self.old) (CrashLeaves self.new) }
 
-        // It fails just where its number is listed.
+        // It fails just where its number is listed, and once the disk has stopped.
         ensures answers { AnswersRead result self.old self.new }
     {
-        if self.begin() == Outcome::Failed {
+        let outcome = self.begin();
+        if outcome == Outcome::Failed || self.is_stopped() {
             return Err(self.fault());
         }
         let place = place as usize;
@@ -197,14 +231,15 @@ impl Disk for MemoryDisk {
 
         ensures moments { Writes moment_now CrashLeaves place (length from.now) self.old self.new }
 
-        // It fails just where its number is listed, at the end of the moments, and where its record
-        // found no memory.
+        // It fails just where its number is listed, at the end of the moments, where its record found
+        // no memory, and once the disk has stopped.
         ensures answers { CallsDisk (Write place from.now) result self.old self.new }
     {
         let outcome = self.begin();
-        if self.history.is_at_end() {
+        if self.is_stopped() || self.history.is_at_end() {
             return Err(self.fault());
         }
+        self.spend();
         let Ok(()) = self.history.write(place, from, outcome) else {
             return Err(self.starve());
         };
@@ -230,14 +265,15 @@ impl Disk for MemoryDisk {
             (λ x. Only x (CrashLeaves self.new (moment_now self.new)))) }
         ensures moments { Syncs moment_now CrashLeaves self.old self.new }
 
-        // It fails just where its number is listed, at the end of the moments, and where its record
-        // found no memory.
+        // It fails just where its number is listed, at the end of the moments, where its record found
+        // no memory, and once the disk has stopped.
         ensures answers { CallsDisk Sync result self.old self.new }
     {
         let outcome = self.begin();
-        if self.history.is_at_end() {
+        if self.history.is_at_end() || self.is_stopped() {
             return Err(self.fault());
         }
+        self.spend();
         let Ok(()) = self.history.sync(outcome) else {
             return Err(self.starve());
         };

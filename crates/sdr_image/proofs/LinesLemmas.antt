@@ -1,5 +1,5 @@
 -- Records of lines in another order, and with the bytes of another heap.
-use Rattle.std.proofs.Common.{◌≡◌, ◌≤◌, ◌<◌, inl, inr, ℕ, zero, suc, ◌+◌, ◌*◌, ◌/◌, Bool, true, false, ◌||◌, ◌==◌, cond}
+use Rattle.std.proofs.Common.{◌≡◌, ◌≤◌, ◌<◌, inl, inr, ℕ, zero, suc, ◌*◌, ◌/◌, Bool, true, false, ◌||◌, ◌==◌, cond}
 use Rattle.std.proofs.Common.{List, [], ◌∷◌, length, refl, sym, ap, ◌∙◌, arith}
 use Rattle.std.specs.Prelude.{IsPermutation}
 use Rattle.std.specs.List.{All, sum_by}
@@ -8,13 +8,13 @@ use Rattle.std.proofs.lemmas.Bool.Decides.{nat_tests}
 use Rattle.std.proofs.lemmas.List.Sorted.{All-permutation, IsPermutation-map, list_any-IsPermutation}
 use Rattle.std.proofs.lemmas.List.Sorted.{sum_by-IsPermutation}
 use Rattle.std.proofs.lemmas.List.Sums.{sum_by-cons}
-use Rattle.sdr_base.proofs.PartsLemmas.{length-overwrite, length-part, part-overwrite}
-use Rattle.sdr_base.specs.Parts.{overwrite, part}
+use Rattle.sdr_base.proofs.PartsLemmas.{length-part}
+use Rattle.sdr_base.specs.Parts.{part}
 use Rattle.sdr_log.specs.Calls.{AreBelow, AreNamed, HoldLines}
 use Rattle.sdr_log.specs.Log.{AreLines, are_good, names_line, put_records}
 use Rattle.sdr_log.specs.declared.record.Record.{Record}
 use Rattle.sdr_log.proofs.GoodLemmas.{AreBelow-good, put_records-all_own}
-use Rattle.sdr_log.proofs.RecordsLemmas.{SameBut, SameBut-put_records, are_good-cons, part-same_but}
+use Rattle.sdr_log.proofs.RecordsLemmas.{SameBut, are_good-cons}
 use Rattle.sdr_log.proofs.RecordsLemmas.{put_records-same_but}
 use Rattle.sdr_image.specs.Changed.{lines_in}
 use Rattle.sdr_image.specs.Opened.{lines_named}
@@ -120,23 +120,6 @@ pub are_good-permutation : (n : ℕ) (a b : List Record) → IsPermutation a b �
 are_good-permutation n a b p good =
     good-times n b (λ line is. below-good n a line good (sym (names_line-permutation a b line p) ∙ is))
     (λ line. omega (arith, sum_by-IsPermutation (times line) a b p, times-good n a line good))
-
--- Records put into a heap stand there.
-
-pub HoldLines-put_records : (n : ℕ) (records : List Record) (heap : List ℕ) → are_good n records ≡ true →
-    AreLines records → 64 * n ≤ length heap → HoldLines (put_records records heap) records
-HoldLines-put_records n [] heap good lines le = tt
-HoldLines-put_records n (r ∷ records) heap good lines le =
-    let g = are_good-cons n r records good in
-    let inside : 64 * r.line + length r.bytes ≤ length heap = omega (arith, g.0, lines.0) in
-    let one = overwrite (64 * r.line) r.bytes heap in
-    let long = length-overwrite (64 * r.line) r.bytes heap inside in
-    let rest = SameBut-put_records n records one g.2 lines.1 (omega (arith, long)) in (
-      sym (part-same_but records r.line one (put_records records one) rest g.1 (omega (arith, long, inside, lines.0))
-          ∙ ap (λ (k : ℕ). part (64 * r.line) k one) (sym lines.0)
-          ∙ part-overwrite (64 * r.line) r.bytes heap inside),
-      HoldLines-put_records n records one g.2 lines.1 (omega (arith, long)),
-    )
 
 -- Records of the lines of others, with the bytes of a heap.
 

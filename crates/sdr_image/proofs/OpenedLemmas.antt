@@ -7,7 +7,7 @@ use Rattle.sdr_disk.specs.Moments.{AtEach, Reads}
 use Rattle.sdr_disk.specs.Pending.{IsSynced}
 use Rattle.sdr_base.specs.Parts.{part}
 use Rattle.sdr_disk.specs.Told.{Both, IfTold}
-use Rattle.sdr_disk.proofs.MomentsLemmas.{at_both, at_first, at_read}
+use Rattle.sdr_disk.proofs.MomentsLemmas.{at_first, at_read}
 use Rattle.sdr_disk.proofs.ToldLemmas.{told_before}
 use Rattle.sdr_log.specs.Calls.{MayPutBack, PutsBack}
 use Rattle.sdr_log.specs.Frame.{frame_of}
@@ -16,6 +16,7 @@ use Rattle.sdr_log.specs.Logged.{GivesHeap, GivesSame, IsLogged}
 use Rattle.sdr_log.specs.declared.frame.Frame.{Frame}
 use Rattle.sdr_log.specs.declared.record.Record.{Record}
 use Rattle.sdr_log.proofs.LoggedLemmas.{logged_same}
+use Rattle.sdr_log.proofs.RestoringLemmas.{at_restored}
 use Rattle.sdr_image.specs.Opened.{HasBytes, HoldsHeap, IsImage, IsQuiet, KeepsBegun, LeavesHeap, Opened, Rests}
 use Rattle.sdr_image.specs.Opening.{MayBeOpened}
 use Rattle.sdr_image.specs.Undo.{Olds}
@@ -76,7 +77,7 @@ module _ {D : Type 0} (told : D → Option (List ℕ)) (moment : D → ℕ) (may
 -- The disk before it is opened.
 
 -- what a crash leaves gives the same heap
-opened_same : (x image : List ℕ) (left : List ℕ → Type 0) → MayBeOpened x left → left image → GivesSame x image
+pub opened_same : (x image : List ℕ) (left : List ℕ → Type 0) → MayBeOpened x left → left image → GivesSame x image
 opened_same x image left (inl only) of_left = ap put_back_of (only image of_left)
 opened_same x image left (inr stopped) of_left = logged_same stopped.frame x image left stopped.logged of_left
 
@@ -112,21 +113,14 @@ module _ {D : Type 0} (bytes : D → Option (List ℕ)) (moment : D → ℕ) (ma
     pub reads_synced : IsSynced bytes moment may_hold_after old → IsSynced bytes moment may_hold_after now
     reads_synced synced x is image of_left = synced x (sym r.same ∙ is) image (left_before image of_left)
 
-    pub at_reads : (x : List ℕ) → MayBeOpened x (may_hold_after old (moment old)) →
-        AtEach moment may_hold_after old now (GivesSame x)
-    at_reads x may =
-        at_read moment may_hold_after old old now (GivesSame x)
-        (at_first moment may_hold_after old (GivesSame x) (λ image l. opened_same x image _ may l)) r.time r.past
-
   -- at each moment of reads, other calls, and reads
-  pub at_between : (old mid mid' new : D) (x : List ℕ) → Reads bytes moment may_hold_after old mid →
-      MayBeOpened x (may_hold_after old (moment old)) → AtEach moment may_hold_after mid mid' (GivesSame x) →
-      Reads bytes moment may_hold_after mid' new → AtEach moment may_hold_after old new (GivesSame x)
-  at_between old mid mid' new x f may g r =
-      at_read moment may_hold_after old mid' new (GivesSame x)
-      (at_both moment may_hold_after old mid mid' (GivesSame x) (GivesSame x) (GivesSame x) (at_reads old mid f x may) g
-      (λ image s. s) (λ image s. s))
-      r.time r.past
+  pub at_between : (old mid mid' new : D) (P : List ℕ → Type 0) → Reads bytes moment may_hold_after old mid →
+      ((image : List ℕ) → may_hold_after old (moment old) image → P image) →
+      AtEach moment may_hold_after mid mid' P → Reads bytes moment may_hold_after mid' new →
+      AtEach moment may_hold_after old new P
+  at_between old mid mid' new P f before g r =
+      at_read moment may_hold_after old mid' new P
+      (at_restored bytes moment may_hold_after old mid f P before mid' g) r.time r.past
 
   -- the heap that was read, of a disk whose open batches were put back
   pub loaded : (f : Frame) (count : ℕ) (heap y : List ℕ) (first old new : D) →

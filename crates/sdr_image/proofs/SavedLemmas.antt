@@ -15,7 +15,7 @@ use Rattle.sdr_log.specs.Log.{AreLines, are_good, heap_of, put_back_of, put_reco
 use Rattle.sdr_log.specs.Logged.{GivesHeap, IsAtRest}
 use Rattle.sdr_log.specs.declared.frame.Frame.{Frame}
 use Rattle.sdr_log.specs.declared.record.Record.{Record}
-use Rattle.sdr_log.proofs.GoodLemmas.{AreBelow-good, AreNamed-own}
+use Rattle.sdr_log.proofs.GoodLemmas.{AreBelow-good, AreNamed-own, HoldLines-put_records}
 use Rattle.sdr_log.proofs.LogLemmas.{put_back_of-closed}
 use Rattle.sdr_log.proofs.LoggedLemmas.{HasRegions-limits, rest_gives}
 use Rattle.sdr_log.proofs.RecordsLemmas.{SameBut-put_records}
@@ -24,7 +24,7 @@ use Rattle.sdr_image.specs.Opened.{HasBytes, HoldsHeap, Opened, Rests, lines_nam
 use Rattle.sdr_image.specs.Saved.{HasMemory, MaySave, Saves, calls_of}
 use Rattle.sdr_image.specs.Undo.{Olds}
 use Rattle.sdr_image.proofs.LinesLemmas.{AreBelow-lines_in, AreLines-lines_in, AreNamed-lines_in, HoldLines-lines_in}
-use Rattle.sdr_image.proofs.LinesLemmas.{HoldLines-permutation, HoldLines-put_records, are_good-permutation}
+use Rattle.sdr_image.proofs.LinesLemmas.{HoldLines-permutation, are_good-permutation}
 use Rattle.sdr_image.proofs.LinesLemmas.{names_line-permutation, length-lines_in, put_records-lines_in}
 
 -- old lines by rising number, and the same lines as they are in a region

@@ -40,12 +40,15 @@ StaysAt (Err DiskFault) old new = new ≡ record old { disk = new.disk; failed =
 StaysAt (Err stop) old new = new ≡ old
 StaysAt (Ok value) old new = ⊤
 
--- the disk, its regions, the bytes at begin, and whether the disk has failed are the same
+-- the disk, its regions, the bytes at begin, whether the disk has failed, and how many lines opening put back are the
+-- same; and a transaction that was open is open
 pub record IsQuiet {D : Type 0} (old new : Opened D) : Type 0 where
   pub disk : new.disk ≡ old.disk
   pub frame : new.frame ≡ old.frame
   pub begun : new.begun ≡ old.begun
   pub failed : new.failed ≡ old.failed
+  pub restored : new.restored ≡ old.restored
+  pub still_open : old.is_open ≡ true → new.is_open ≡ true
 
 -- the numbers of the lines of these records
 abbrev pub lines_named : List Record → List ℕ

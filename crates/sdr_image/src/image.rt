@@ -3,18 +3,19 @@ ghost use Rattle.std.specs.Prelude.{◌≡◌, ◌≤◌, ◌<◌, ◌+◌, ◌-
 ghost use Rattle.std.specs.Prelude.{length, refl, IfOk, IfErr, OnOk, Some, None};
 ghost use Rattle.std.specs.List.{range_with_len};
 ghost use Rattle.std.proofs.Common.{◌∙◌};
-ghost use Rattle.sdr_base.specs.Cells.{is_among, with_lines, lines_of};
-ghost use Rattle.sdr_base.specs.Parts.{overwrite};
-ghost use Rattle.sdr_base.specs.Transaction.{HasReason, IfRefused};
-ghost use Rattle.sdr_disk.specs.Moments.{AtEach, Reads};
+ghost use Rattle.sdr_base.specs.Cells.{is_among, with_lines, lines_of, TouchesLines};
+ghost use Rattle.sdr_base.specs.Parts.{overwrite, part};
+ghost use Rattle.sdr_base.specs.Transaction.{HasReason, IfRefused, TouchesNone};
+ghost use Rattle.sdr_disk.specs.Moments.{AtEach, Only, Reads};
 ghost use Rattle.sdr_disk.specs.Told.{IfTold};
 ghost use Rattle.sdr_log.specs.Calls.{KeepsDisk};
 ghost use Rattle.sdr_log.specs.Frame.{room_of};
+ghost use Rattle.sdr_log.specs.Left.{IsLeftFrom};
 ghost use Rattle.sdr_log.specs.Log.{first_gate, put_back_of};
 ghost use Rattle.sdr_log.specs.Logged.{GivesHeap, GivesSame};
 ghost use Rattle.sdr_image.specs.Changed.{GivesEither};
 ghost use Rattle.sdr_image.specs.Opened.{transaction_of, KeepsBegun, LeavesHeap, Rests, StaysAt};
-ghost use Rattle.sdr_image.specs.Opening.{MayBeOpened, OnNotFormatted};
+ghost use Rattle.sdr_image.specs.Opening.{MayBeOpened, OnNotFormatted, UnlessFault};
 ghost use Rattle.sdr_image.specs.Saved.{Saves, calls_of};
 
 use crate::opening::load;
@@ -82,11 +83,17 @@ impl<D: Disk> Image<D> {
         ensures not_formatted { IfErr result (λ shut. OnNotFormatted shut.why
             (IfTold (D.bytes disk) (λ x. put_back_of x ≡ None))) }
         ensures disk { Returns D.size D.bytes D.faults disk result }
+        // Where it refuses, it has read alone, and so it has where no batch is open.
+        ensures same { IfErr result (λ shut. UnlessFault shut.why
+            (Reads D.bytes D.moment D.may_hold_after disk shut.disk)) }
         ensures quiet { IfTold (D.bytes disk) (λ x. first_gate x ≡ 0
             → Reads D.bytes D.moment D.may_hold_after disk (disk_in result)) }
         ensures forward { D.moment disk ≤ D.moment (disk_in result) }
         ensures calls { IfOk result (λ i.
             D.moment i.disk ≤ D.moment disk + 2 * (i.restored + 3)) }
+        // Where nothing was pending, a crash leaves what a recovery that was stopped may leave.
+        ensures left { IfTold (D.bytes disk) (λ x. Only x (D.may_hold_after disk (D.moment disk))
+            → AtEach D.moment D.may_hold_after disk (disk_in result) (IsLeftFrom x)) }
         ensures any_moment { IfTold (D.bytes disk)
             (λ x. MayBeOpened x (D.may_hold_after disk (D.moment disk))
             → AtEach D.moment D.may_hold_after disk (disk_in result) (GivesSame x)) }
@@ -207,8 +214,8 @@ impl<D: Disk> Image<D> {
     }
 
     /// Ends the transaction with the bytes as they were at its begin, which a crash leaves up to
-    /// the return and after it. Where it touched no line, no call of the disk is made, else at most
-    /// as many as a commit makes. Where none was begun, it is as if one had been.
+    /// the return and after it. It makes no call of the disk. Where none was begun, it is as if one
+    /// had been.
     pub fn cancel(&mut self) -> Result<(), Stop>
         ensures ended { OnOk result (self.new ≡ record self.old {
           disk = self.new.disk;
@@ -225,6 +232,7 @@ impl<D: Disk> Image<D> {
             (transaction_of D.faults self.new) result }
         ensures stays { StaysAt result self.old self.new }
 
+        ensures same_disk { self.new.disk ≡ self.old.disk }
         ensures disk { KeepsDisk D.size D.bytes self.old.disk self.new.disk }
         ensures idle { self.old.touched ≡ [] → self.new.disk ≡ self.old.disk }
         ensures forward { D.moment self.old.disk ≤ D.moment self.new.disk }
@@ -360,7 +368,21 @@ impl<D: Disk> Cells for Image<D> {
         LINE * self.frame.heap_lines
     }
 
-    fn read(&mut self, place: u64, into: &mut [u8]) -> Result<(), Stop> {
+    fn read(&mut self, place: u64, into: &mut [u8]) -> Result<(), Stop>
+        requires inside { place + length into.old ≤ length self.old.bytes }
+
+        ensures given { OnOk result (into.new ≡ part place (length into.old) self.old.bytes) }
+
+        ensures same { self.new.bytes ≡ self.old.bytes }
+        ensures room { TouchesNone (transaction_of D.faults self.old)
+            (transaction_of D.faults self.new) result }
+        ensures cause { HasReason (transaction_of D.faults self.old)
+            (transaction_of D.faults self.new) result }
+        ensures quiet { IsQuiet self.old self.new }
+
+        // It begins no transaction and ends none.
+        ensures still_open { self.new.is_open ≡ self.old.is_open }
+    {
         if self.failed {
             return Err(Stop::Failed);
         }
@@ -368,7 +390,23 @@ impl<D: Disk> Cells for Image<D> {
         Ok(())
     }
 
-    fn write(&mut self, place: u64, from: &[u8]) -> Result<(), Stop> {
+    fn write(&mut self, place: u64, from: &[u8]) -> Result<(), Stop>
+        requires inside { place + length from.now ≤ length self.old.bytes }
+
+        ensures written { OnOk result (self.new.bytes ≡ overwrite place from.now self.old.bytes) }
+
+        ensures size { length self.new.bytes ≡ length self.old.bytes }
+        ensures same { IfRefused result (λ _. self.new.bytes ≡ self.old.bytes) }
+        ensures room { TouchesLines (lines_of place (length from.now))
+            (transaction_of D.faults self.old) (transaction_of D.faults self.new) result }
+        ensures cause { HasReason (transaction_of D.faults self.old)
+            (transaction_of D.faults self.new) result }
+        ensures quiet { IsQuiet self.old self.new }
+
+        // Where none was begun, it begins one. What isn't written changes nothing.
+        ensures begins { OnOk result (self.new.is_open ≡ true) }
+        ensures stays { StaysAt result self.old self.new }
+    {
         if self.failed {
             return Err(Stop::Failed);
         }
@@ -383,13 +421,22 @@ impl<D: Disk> Cells for Image<D> {
         Ok(())
     }
 
-    ghost quiet_refl = { λ a. record { disk = refl; frame = refl; begun = refl; failed = refl } };
+    ghost quiet_refl = { λ a. record {
+      disk = refl;
+      frame = refl;
+      begun = refl;
+      failed = refl;
+      restored = refl;
+      still_open = λ e. e;
+    } };
 
     ghost quiet_trans = { λ a b c f g. record {
       disk = g.disk ∙ f.disk;
       frame = g.frame ∙ f.frame;
       begun = g.begun ∙ f.begun;
       failed = g.failed ∙ f.failed;
+      restored = g.restored ∙ f.restored;
+      still_open = λ e. g.still_open (f.still_open e);
     } };
 
     ghost quiet_begun = { λ a b f. f.begun };

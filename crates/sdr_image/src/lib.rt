@@ -23,7 +23,8 @@
 //!
 //! Proved: a commit is whole or nothing: a crash at any moment leaves the bytes at its begin or at its end, after
 //! `Ok` those at its end (`any_moment`, `saved`). `LogFull` comes exactly where the touched lines exceed the
-//! room, `NotFormatted` exactly where the disk gives no heap. `peek` gives the heap that the disk gives, put back
+//! room, `NotFormatted` exactly where the disk gives no heap. However often recovery is stopped and begun again, the
+//! heap is the same (`recover_many`), and opening leaves just what a stopped one may leave (`left`). `peek` gives the heap that the disk gives, put back
 //! in memory (`heap`), and only reads the disk (`reads`).
 //!
 //! Only tested: what opening makes of each image of a crash in a commit; a fault at each of its calls; the calls
@@ -35,6 +36,7 @@ mod empty;
 mod error;
 mod fresh;
 mod image;
+mod laws;
 mod opening;
 mod peeking;
 mod region;
@@ -46,5 +48,6 @@ mod zeros;
 pub use empty::format;
 pub use error::{FormatError, ImageError, ImageShut};
 pub use image::Image;
+pub use laws::recover_many;
 pub use peeking::peek;
 pub use still::Still;

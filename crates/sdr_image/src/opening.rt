@@ -1,11 +1,12 @@
 // A disk, read for the first time.
 ghost use Rattle.std.specs.Prelude.{◌≡◌, ◌≤◌, ◌<◌, ◌+◌, ◌*◌, IfOk, IfErr, OnOk, None, length};
 ghost use Rattle.sdr_base.specs.Causes.{HasCause};
-ghost use Rattle.sdr_disk.specs.Moments.{AtEach, Reads};
+ghost use Rattle.sdr_disk.specs.Moments.{AtEach, Only, Reads};
 ghost use Rattle.sdr_disk.specs.Pending.{IsSynced};
 ghost use Rattle.sdr_disk.specs.Told.{Both, IfTold};
 ghost use Rattle.sdr_log.specs.Calls.{IsFramed, KeepsDisk, PutsBack};
 ghost use Rattle.sdr_log.specs.Frame.{IsInLimits, disk_bytes};
+ghost use Rattle.sdr_log.specs.Left.{IsLeftFrom};
 ghost use Rattle.sdr_log.specs.Log.{first_gate, heap_of, put_back_of};
 ghost use Rattle.sdr_log.specs.Logged.{GivesSame};
 ghost use Rattle.sdr_image.specs.Opened.{HasBytes};
@@ -64,7 +65,8 @@ fn restore<D: Disk>(alloc: Global, disk: &mut D, frame: Frame) -> Result<u64, Im
         (IfTold (D.bytes disk.old) (λ x. put_back_of x ≡ None))) }
     ensures cause { HasImageCause (D.faults disk.old) (D.faults disk.new) result }
     ensures disk { KeepsDisk D.size D.bytes disk.old disk.new }
-    ensures same { IfErr result (λ why. UnlessFault why (D.bytes disk.new ≡ D.bytes disk.old)) }
+    ensures same { IfErr result (λ why. UnlessFault why
+        (Reads D.bytes D.moment D.may_hold_after disk.old disk.new)) }
     ensures synced { OnOk result (IfTold (D.bytes disk.old)
         (λ x. MayBeOpened x (D.may_hold_after disk.old (D.moment disk.old))
         → IsSynced D.bytes D.moment D.may_hold_after disk.new)) }
@@ -73,6 +75,10 @@ fn restore<D: Disk>(alloc: Global, disk: &mut D, frame: Frame) -> Result<u64, Im
     ensures forward { D.moment disk.old ≤ D.moment disk.new }
     ensures calls { IfOk result (λ count.
         D.moment disk.new ≤ D.moment disk.old + 2 * (count + 3)) }
+    // Where nothing was pending, a crash leaves what a recovery that was stopped may leave.
+    ensures left { IfTold (D.bytes disk.old)
+        (λ x. Only x (D.may_hold_after disk.old (D.moment disk.old))
+        → AtEach D.moment D.may_hold_after disk.old disk.new (IsLeftFrom x)) }
     ensures any_moment { IfTold (D.bytes disk.old)
         (λ x. MayBeOpened x (D.may_hold_after disk.old (D.moment disk.old))
         → AtEach D.moment D.may_hold_after disk.old disk.new (GivesSame x)) }
@@ -116,7 +122,8 @@ pub fn load<D: Disk>(alloc: Global, disk: &mut D) -> Result<Loaded, ImageError>
     ensures not_formatted { IfErr result (λ why. OnNotFormatted why
         (IfTold (D.bytes disk.old) (λ x. put_back_of x ≡ None))) }
     ensures cause { HasImageCause (D.faults disk.old) (D.faults disk.new) result }
-    ensures same { IfErr result (λ why. UnlessFault why (D.bytes disk.new ≡ D.bytes disk.old)) }
+    ensures same { IfErr result (λ why. UnlessFault why
+        (Reads D.bytes D.moment D.may_hold_after disk.old disk.new)) }
 
     ensures disk { KeepsDisk D.size D.bytes disk.old disk.new }
     ensures quiet { IfTold (D.bytes disk.old) (λ x. first_gate x ≡ 0
@@ -124,6 +131,10 @@ pub fn load<D: Disk>(alloc: Global, disk: &mut D) -> Result<Loaded, ImageError>
     ensures forward { D.moment disk.old ≤ D.moment disk.new }
     ensures calls { IfOk result (λ l.
         D.moment disk.new ≤ D.moment disk.old + 2 * (l.restored + 3)) }
+    // Where nothing was pending, a crash leaves what a recovery that was stopped may leave.
+    ensures left { IfTold (D.bytes disk.old)
+        (λ x. Only x (D.may_hold_after disk.old (D.moment disk.old))
+        → AtEach D.moment D.may_hold_after disk.old disk.new (IsLeftFrom x)) }
     ensures any_moment { IfTold (D.bytes disk.old)
         (λ x. MayBeOpened x (D.may_hold_after disk.old (D.moment disk.old))
         → AtEach D.moment D.may_hold_after disk.old disk.new (GivesSame x)) }

@@ -1,23 +1,22 @@
 -- The first gate, closed over lines that are synced.
-use Rattle.std.proofs.Common.{◌≡◌, ◌≤◌, ◌⊎◌, inl, inr, ℕ, suc, ◌+◌, ◌-◌, ◌*◌, ◌==◌, List, []}
+use Rattle.std.proofs.Common.{◌≡◌, ◌≤◌, ◌⊎◌, inl, inr, ℕ, ◌+◌, List, []}
 use Rattle.std.proofs.Common.{◌∷◌, length, sym, ap, ◌∙◌, subst, arith, Some}
 use Rattle.std.proofs.lemmas.Bool.{cases_eq}
 use Rattle.std.proofs.lemmas.Bool.Decides.{nat_tests}
 use Rattle.sdr_disk.specs.Moments.{AtEach, IsTorn, Only, Syncs}
-use Rattle.sdr_base.specs.Parts.{overwrite, part}
+use Rattle.sdr_base.specs.Parts.{overwrite}
 use Rattle.sdr_disk.specs.Ranges.{Agrees, range}
 use Rattle.sdr_disk.proofs.MomentsLemmas.{at_both, at_first, at_synced}
 use Rattle.sdr_base.proofs.PartsLemmas.{get_or-overwrite_inside}
-use Rattle.sdr_disk.proofs.RangesLemmas.{Agrees-overwrite, Agrees-part}
+use Rattle.sdr_disk.proofs.RangesLemmas.{Agrees-overwrite}
 use Rattle.sdr_log.specs.Calls.{Closes}
 use Rattle.sdr_log.specs.Frame.{IsInLimits}
-use Rattle.sdr_log.specs.Log.{batches_of, first_gate, heap_of, put_records, read_log}
+use Rattle.sdr_log.specs.Log.{first_gate, heap_of, put_records}
 use Rattle.sdr_log.specs.Logged.{GivesHeap, GivesSame, HasRegions, IsOpen}
 use Rattle.sdr_log.specs.declared.frame.Frame.{Frame}
-use Rattle.sdr_log.proofs.FoundLemmas.{batches_of-gate}
-use Rattle.sdr_log.proofs.LogLemmas.{log_of-cons, put_back_of-closed}
-use Rattle.sdr_log.proofs.LoggedLemmas.{HasRegions-limits, image_heap_same, image_regions, logged_same}
-use Rattle.sdr_log.proofs.LoggedLemmas.{put_back_of-logs}
+use Rattle.sdr_log.proofs.LogLemmas.{put_back_of-closed}
+use Rattle.sdr_log.proofs.LoggedLemmas.{HasRegions-limits, image_heap_same, logged_same, put_back_of-logs}
+use Rattle.sdr_log.proofs.StoppedLemmas.{torn_log, torn_regions}
 
 -- the image is put back as before, or its heap region is the heap
 abbrev pub GivesEither : Frame → List ℕ → List ℕ → Type 0
@@ -26,34 +25,14 @@ GivesEither f x image = GivesSame x image ⊎ GivesHeap (heap_of f x) image
 -- A disk with an open batch, and an image of it with any byte at the first gate.
 module _ (f : Frame) (x image : List ℕ) (left : List ℕ → Type 0) (o : IsOpen f x left)
     (g : Agrees (range 64 1 ∷ []) x image) where
-  regions : HasRegions f x
-  regions = o.logged.logs.regions
-
   limits : IsInLimits f
-  limits = HasRegions-limits f x regions
-
-  inside : 0 + 1 ≤ 64 * f.log_lines
-  inside = omega (arith, limits.least_log)
+  limits = HasRegions-limits f x o.logged.logs.regions
 
   pub gate_regions : HasRegions f image
-  gate_regions = image_regions f x image [] 0 1 regions inside g
+  gate_regions = torn_regions f x image [] o.logged.logs.regions g
 
   pub gate_heap : heap_of f image ≡ heap_of f x
-  gate_heap = image_heap_same f x image 0 1 regions inside g
-
-  -- the batches are as before where the gate is open
-  open_log : (first_gate image == 0) ≡ (first_gate x == 0) → read_log f image ≡ read_log f x
-  unfolding read_log
-  open_log same =
-      let k = 64 * f.log_lines - 1 in
-      let is : 64 * f.log_lines ≡ suc k = omega (arith, limits.least_log) in
-      let rest : part 65 k image ≡ part 65 k x =
-      Agrees-part _ 65 k x image (omega (arith, regions.inside, is)) (λ i ge lt. (inr ge, tt)) g in
-      ap (batches_of (64 * f.log_lines))
-      (log_of-cons f image k is (omega (arith, gate_regions.inside))
-      ∙ ap (λ (l : List ℕ). first_gate image ∷ l) rest)
-      ∙ batches_of-gate (64 * f.log_lines) (first_gate image) (first_gate x) (part 65 k x) same
-      ∙ ap (batches_of (64 * f.log_lines)) (sym (log_of-cons f x k is (omega (arith, regions.inside))))
+  gate_heap = image_heap_same f x image 0 1 o.logged.logs.regions (omega (arith, limits.least_log)) g
 
   pub gate_gives : first_gate image ≡ 0 → GivesHeap (heap_of f x) image
   gate_gives shut =
@@ -67,7 +46,7 @@ module _ (f : Frame) (x image : List ℕ) (left : List ℕ → Type 0) (o : IsOp
         let l = o.logged.logs in
         inl (put_back_of-logs f image o.logged.records (record {
           regions = gate_regions;
-          log = open_log (grind (arith, nat_tests, o.gate)) ∙ l.log;
+          log = torn_log f x image [] l.regions g (grind (arith, nat_tests, o.gate)) ∙ l.log;
           good = l.good;
         })
         ∙ ap (λ (h : List ℕ). Some (put_records o.logged.records h)) gate_heap
@@ -91,22 +70,24 @@ closes f x y left left' o is only =
       gives = gate_gives f x y left o g shut;
     }
 
--- Closing at every moment.
-module _ {D : Type 0} (moment : D → ℕ) (may_hold_after : D → ℕ → List ℕ → Type 0) (f : Frame) (old : D) (x : List ℕ)
-    (o : IsOpen f x (may_hold_after old (moment old))) where
+-- Closing at every moment, where what was left before has P, and so have these bytes with any byte at the first gate.
+module _ {D : Type 0} (moment : D → ℕ) (may_hold_after : D → ℕ → List ℕ → Type 0) (old : D) (x : List ℕ)
+    (P : List ℕ → Type 0) (before : (image : List ℕ) → may_hold_after old (moment old) image → P image)
+    (torn : (image : List ℕ) → Agrees (range 64 1 ∷ []) x image → P image) where
   -- while the lines are synced
-  pub at_lines : (now : D) → Syncs moment may_hold_after old now → AtEach moment may_hold_after old now
-      (GivesEither f x)
-  at_lines now s =
-      at_synced moment may_hold_after old old now (GivesEither f x)
-      (at_first moment may_hold_after old (GivesEither f x) (λ image l. inl (logged_same f x image _ o.logged l))) s
+  pub at_lines : (now : D) → Syncs moment may_hold_after old now → AtEach moment may_hold_after old now P
+  at_lines now s = at_synced moment may_hold_after old old now P (at_first moment may_hold_after old P before) s
 
   -- and while the gate is closed
   pub at_closing : (mid now : D) → Syncs moment may_hold_after old mid → Only x (may_hold_after mid (moment mid)) →
       AtEach moment may_hold_after mid now (IsTorn (may_hold_after mid (moment mid)) 64 1) →
-      AtEach moment may_hold_after old now (GivesEither f x)
+      AtEach moment may_hold_after old now P
   at_closing mid now s only each =
-      at_both moment may_hold_after old mid now (GivesEither f x) _ (GivesEither f x) (at_lines mid s) each
-      (λ image e. e)
-      (λ image t. torn_gate f x image _ o
+      at_both moment may_hold_after old mid now P _ P (at_lines mid s) each (λ image e. e)
+      (λ image t. torn image
       (subst (λ (y : List ℕ). Agrees (range 64 1 ∷ []) y image) (only t.whole t.left_before) t.agrees))
+
+-- an image left while an open batch is closed gives either
+pub open_either : (f : Frame) (x image : List ℕ) (left : List ℕ → Type 0) → IsOpen f x left → left image →
+    GivesEither f x image
+open_either f x image left o of_left = inl (logged_same f x image left o.logged of_left)

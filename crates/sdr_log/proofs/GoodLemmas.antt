@@ -1,11 +1,14 @@
 -- Records that may stand together in the log, and those that change nothing.
-use Rattle.std.proofs.Common.{◌≡◌, ◌≤◌, ◌<◌, ℕ, ◌*◌, Bool, true, false, ◌||◌, ◌==◌, List, [], ◌∷◌, ◌++◌, length}
+use Rattle.std.proofs.Common.{◌≡◌, ◌≤◌, ◌<◌, ℕ, ◌+◌, ◌*◌, Bool, true, false, ◌||◌, ◌==◌, List, [], ◌∷◌, ◌++◌, length}
 use Rattle.std.proofs.Common.{refl, sym, ap, ◌∙◌, arith, append-nil, append_assoc}
 use Rattle.std.proofs.lemmas.Bool.Decides.{nat_tests}
+use Rattle.sdr_base.proofs.PartsLemmas.{length-overwrite, part-overwrite}
+use Rattle.sdr_base.specs.Parts.{overwrite, part}
 use Rattle.sdr_log.specs.Calls.{AreBelow, AreNamed, HoldLines}
 use Rattle.sdr_log.specs.Log.{AreLines, are_good, names_line, put_records}
 use Rattle.sdr_log.specs.declared.record.Record.{Record}
-use Rattle.sdr_log.proofs.RecordsLemmas.{AreLines-push, are_good-cons, names_line-push, put_records-own}
+use Rattle.sdr_log.proofs.RecordsLemmas.{AreLines-push, SameBut-put_records, are_good-cons, names_line-push, part-same_but}
+use Rattle.sdr_log.proofs.RecordsLemmas.{put_records-own}
 
 -- the first of good records are good
 pub are_good-before : (n : ℕ) (records more : List Record) → are_good n (records ++ more) ≡ true →
@@ -89,3 +92,19 @@ pub AreBelow-good : (n : ℕ) (records : List Record) → are_good n records ≡
 AreBelow-good n [] good = tt
 AreBelow-good n (r ∷ records) good =
     let g = are_good-cons n r records good in (g.0, AreBelow-good n records g.2)
+
+-- records put into a heap stand there
+pub HoldLines-put_records : (n : ℕ) (records : List Record) (heap : List ℕ) → are_good n records ≡ true →
+    AreLines records → 64 * n ≤ length heap → HoldLines (put_records records heap) records
+HoldLines-put_records n [] heap good lines le = tt
+HoldLines-put_records n (r ∷ records) heap good lines le =
+    let g = are_good-cons n r records good in
+    let inside : 64 * r.line + length r.bytes ≤ length heap = omega (arith, g.0, lines.0) in
+    let one = overwrite (64 * r.line) r.bytes heap in
+    let long = length-overwrite (64 * r.line) r.bytes heap inside in
+    let rest = SameBut-put_records n records one g.2 lines.1 (omega (arith, long)) in (
+      sym (part-same_but records r.line one (put_records records one) rest g.1 (omega (arith, long, inside, lines.0))
+          ∙ ap (λ (k : ℕ). part (64 * r.line) k one) (sym lines.0)
+          ∙ part-overwrite (64 * r.line) r.bytes heap inside),
+      HoldLines-put_records n records one g.2 lines.1 (omega (arith, long)),
+    )

@@ -4,6 +4,7 @@ pub mod ClosingLemmas
 pub mod FoundLemmas
 pub mod FrameLemmas
 pub mod GoodLemmas
+pub mod LeavingLemmas
 pub mod LogLemmas
 pub mod LoggedLemmas
 pub mod OpeningLemmas
@@ -13,4 +14,5 @@ pub mod ReadingLemmas
 pub mod RecordsLemmas
 pub mod RecoveryLemmas
 pub mod RestoringLemmas
+pub mod StoppedLemmas
 pub mod TransactionLemmas

@@ -6,16 +6,17 @@ use Rattle.std.proofs.lemmas.Option.{same_Some}
 use Rattle.std.proofs.lemmas.Bool.{cases_eq}
 use Rattle.std.proofs.lemmas.Bool.Decides.{nat_tests}
 use Rattle.sdr_base.proofs.PartsLemmas.{overwrite-inside, overwrite-part, part-overwrite}
-use Rattle.sdr_disk.specs.Moments.{AtEach, IsTorn, Writes}
+use Rattle.sdr_disk.specs.Moments.{AtEach, IsTorn, Only, Writes}
 use Rattle.sdr_base.specs.Parts.{overwrite, part}
 use Rattle.sdr_disk.specs.Ranges.{Agrees, IsInNone, range}
 use Rattle.sdr_disk.proofs.MomentsLemmas.{at_first, at_written}
 use Rattle.sdr_base.proofs.PartsLemmas.{length-overwrite}
-use Rattle.sdr_disk.proofs.RangesLemmas.{Agrees-more, Agrees-overwrite, Agrees-sym, Agrees-trans}
+use Rattle.sdr_disk.proofs.RangesLemmas.{Agrees-more, Agrees-one_more, Agrees-overwrite, Agrees-refl, Agrees-sym}
+use Rattle.sdr_disk.proofs.RangesLemmas.{Agrees-trans}
 use Rattle.sdr_base.proofs.PartsLemmas.{length-part}
-use Rattle.sdr_log.specs.Calls.{AreNamed, MayPut, Puts, with_records}
-use Rattle.sdr_log.specs.Frame.{heap_place}
-use Rattle.sdr_log.specs.Log.{first_gate, heap_of, names_line, put_records, read_log}
+use Rattle.sdr_log.specs.Calls.{AreBelow, AreNamed, MayPut, Puts, with_records}
+use Rattle.sdr_log.specs.Frame.{disk_bytes, heap_place}
+use Rattle.sdr_log.specs.Log.{AreLines, first_gate, heap_of, names_line, put_records, read_log}
 use Rattle.sdr_log.specs.Logged.{GivesSame, HasRegions, IsLogged, Logs, line_ranges}
 use Rattle.sdr_log.specs.declared.frame.Frame.{Frame}
 use Rattle.sdr_log.specs.declared.record.Record.{Record}
@@ -211,3 +212,43 @@ module _ {D : Type 0} (moment : D → ℕ) (may_hold_after : D → ℕ → List 
       Putting moment may_hold_after bytes f lines rest old now x → bytes now ≡ Some (with_records f lines x)
   putting_written now rest none p =
       p.told ∙ ap Some (subst (λ (l : List Record). with_records f l p.y ≡ with_records f lines x) none p.written)
+
+-- Where nothing was pending.
+
+-- lines that were put change their places alone
+pub with_records-agrees : (f : Frame) (lines : List Record) (x : List ℕ) → disk_bytes f ≤ length x →
+    AreBelow f.heap_lines lines → AreLines lines → Agrees (line_ranges f lines) x (with_records f lines x)
+with_records-agrees f [] x le below long = Agrees-refl [] x
+with_records-agrees f (r ∷ lines) x le below long =
+    let place = heap_place f + 64 * r.line in
+    let put = overwrite place r.bytes x in
+    let one : Agrees (range place 64 ∷ line_ranges f lines) x put =
+    subst (λ (n : ℕ). Agrees (range place n ∷ line_ranges f lines) x put) long.0
+    (Agrees-overwrite place r.bytes x (line_ranges f lines) (omega (arith, le, below.0, long.0))) in
+    let rest = with_records-agrees f lines put (omega (arith, le, one.long)) below.1 long.1 in
+    Agrees-trans (range place 64 ∷ line_ranges f lines) x put (with_records f lines put) one
+    (Agrees-one_more (range place 64) (line_ranges f lines) put (with_records f lines put) rest)
+
+-- a crash leaves other bytes in the lines alone
+module _ {D : Type 0} (moment : D → ℕ) (may_hold_after : D → ℕ → List ℕ → Type 0) (f : Frame) (lines : List Record)
+    (old : D) (x : List ℕ) where
+  pub lines_none : Only x (may_hold_after old (moment old)) →
+      AtEach moment may_hold_after old old (Agrees (line_ranges f lines) x)
+  lines_none only =
+      at_first moment may_hold_after old (Agrees (line_ranges f lines) x)
+      (λ image l. subst (λ (y : List ℕ). Agrees (line_ranges f lines) x y) (sym (only image l))
+      (Agrees-refl (line_ranges f lines) x))
+
+  -- with one of them more
+  pub lines_more : (now new : D) (all rest : List Record) (r : Record) → all ≡ r ∷ rest →
+      ((i : ℕ) → IsInNone (line_ranges f lines) i → IsInNone (line_ranges f all) i) →
+      AtEach moment may_hold_after old now (Agrees (line_ranges f lines) x) →
+      Writes moment may_hold_after (heap_place f + 64 * r.line) 64 now new →
+      AtEach moment may_hold_after old new (Agrees (line_ranges f lines) x)
+  lines_more now new all rest r split inside so_far w =
+      at_written moment may_hold_after old now new (Agrees (line_ranges f lines) x) (heap_place f + 64 * r.line) 64 so_far
+      w
+      (λ whole image of_left g. Agrees-trans (line_ranges f lines) x whole image
+      (so_far.each (moment now) whole so_far.later (omega arith) of_left)
+      (Agrees-more (range (heap_place f + 64 * r.line) 64 ∷ []) (line_ranges f lines) whole image
+      (λ i o. ((subst (λ (l : List Record). IsInNone (line_ranges f l) i) split (inside i o)).0, tt)) g))

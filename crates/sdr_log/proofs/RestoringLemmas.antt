@@ -6,7 +6,7 @@ use Rattle.std.specs.Prelude.{Option, option_map}
 use Rattle.std.proofs.lemmas.List.{drop_more}
 use Rattle.std.proofs.lemmas.Option.{same_Some, none-some}
 use Rattle.std.proofs.lemmas.Bool.Decides.{nat_tests}
-use Rattle.sdr_disk.specs.Moments.{AtEach, Reads}
+use Rattle.sdr_disk.specs.Moments.{AtEach, Only, Reads}
 use Rattle.sdr_base.specs.Parts.{overwrite, part}
 use Rattle.sdr_disk.specs.Ranges.{Agrees}
 use Rattle.sdr_disk.proofs.MomentsLemmas.{at_both, at_first, at_read}
@@ -173,37 +173,43 @@ back_same f x image left (inl only) l = ap put_back_of (only image l)
 back_same f x image left (inr logged) l = logged_same f x image left logged l
 
 module _ {D : Type 0} (bytes : D → Option (List ℕ)) (moment : D → ℕ) (may_hold_after : D → ℕ → List ℕ → Type 0)
-    (f : Frame)
-    (old now : D) (x : List ℕ) (r : Reads bytes moment may_hold_after old now)
-    (m : MayPutBack f x (may_hold_after old (moment old))) where
+    (old now : D) (r : Reads bytes moment may_hold_after old now) where
   -- what a crash leaves now it left before
   left_before : (image : List ℕ) → may_hold_after now (moment now) image → may_hold_after old (moment old) image
   left_before image l =
       r.past.now_then (moment old) image (omega arith) (subst (λ (k : ℕ). may_hold_after now k image) r.time l)
 
-  -- while it is read
-  pub at_reads : AtEach moment may_hold_after old now (GivesSame x)
-  at_reads =
-      at_read moment may_hold_after old old now (GivesSame x)
-      (at_first moment may_hold_after old (GivesSame x) (λ image l. back_same f x image _ m l)) r.time r.past
+  -- nothing is pending still
+  pub reads_only : (x : List ℕ) → Only x (may_hold_after old (moment old)) → Only x (may_hold_after now (moment now))
+  reads_only x only image of_left = only image (left_before image of_left)
 
-  -- and while the batches are put back
-  pub at_restored : (new : D) → AtEach moment may_hold_after now new (GivesSame x) →
-      AtEach moment may_hold_after old new (GivesSame x)
-  at_restored new each =
-      at_both moment may_hold_after old now new (GivesSame x) (GivesSame x) (GivesSame x) at_reads each
-      (λ image s. s) (λ image s. s)
+  module _ (P : List ℕ → Type 0) (before : (image : List ℕ) → may_hold_after old (moment old) image → P image) where
+    -- while it is read
+    pub at_reads : AtEach moment may_hold_after old now P
+    at_reads = at_read moment may_hold_after old old now P (at_first moment may_hold_after old P before) r.time r.past
+
+    -- and while the batches are put back
+    pub at_restored : (new : D) → AtEach moment may_hold_after now new P → AtEach moment may_hold_after old new P
+    at_restored new each =
+        at_both moment may_hold_after old now new P P P at_reads each (λ image p. p) (λ image p. p)
+
+-- Batches that may be put back, once they are read.
+module _ {D : Type 0} (bytes : D → Option (List ℕ)) (moment : D → ℕ) (may_hold_after : D → ℕ → List ℕ → Type 0)
+    (f : Frame) (old now : D) (x : List ℕ) (r : Reads bytes moment may_hold_after old now)
+    (m : MayPutBack f x (may_hold_after old (moment old))) where
+  before_reads : (image : List ℕ) → may_hold_after now (moment now) image → may_hold_after old (moment old) image
+  before_reads image l = left_before bytes moment may_hold_after old now r image l
 
   -- the batches may still be put back
   pub reads_may : MayPutBack f x (may_hold_after now (moment now))
   reads_may = by m
     where
       by : MayPutBack f x (may_hold_after old (moment old)) → MayPutBack f x (may_hold_after now (moment now))
-      by (inl only) = inl (λ image of_left. only image (left_before image of_left))
+      by (inl only) = inl (λ image of_left. only image (before_reads image of_left))
       by (inr logged) = inr record {
         records = logged.records;
         logs = logged.logs;
-        pending = λ image of_left. logged.pending image (left_before image of_left);
+        pending = λ image of_left. logged.pending image (before_reads image of_left);
       }
 
   -- all that is pending is logged
@@ -215,12 +221,12 @@ module _ {D : Type 0} (bytes : D → Option (List ℕ)) (moment : D → ℕ) (ma
         records = records;
         logs = l;
         pending = λ image of_left. subst (λ (z : List ℕ). Agrees (line_ranges f records) x z)
-            (sym (only image (left_before image of_left))) (Agrees-refl (line_ranges f records) x);
+            (sym (only image (before_reads image of_left))) (Agrees-refl (line_ranges f records) x);
       }
       by (inr logged) = record {
         records = logged.records;
         logs = logged.logs;
-        pending = λ image of_left. logged.pending image (left_before image of_left);
+        pending = λ image of_left. logged.pending image (before_reads image of_left);
       }
 
   pub reads_open : (records : List Record) → Logs f x records → 0 < length records →

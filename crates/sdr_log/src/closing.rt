@@ -3,6 +3,7 @@ ghost use Rattle.std.specs.Prelude.{◌≡◌, ◌≤◌, ◌<◌, ◌+◌, ◌�
 ghost use Rattle.sdr_base.specs.Causes.{HasCause};
 ghost use Rattle.sdr_disk.specs.Moments.{AtEach, IsTorn, Only, Syncs};
 ghost use Rattle.sdr_disk.specs.Pending.{IsSynced};
+ghost use Rattle.sdr_disk.specs.Ranges.{Agrees, range};
 ghost use Rattle.sdr_base.specs.Parts.{overwrite};
 ghost use Rattle.sdr_disk.specs.Told.{Both, IfTold};
 ghost use Rattle.sdr_log.specs.Calls.{Closes, KeepsDisk};
@@ -66,7 +67,12 @@ pub fn close<D: Disk>(disk: &mut D, frame: Frame) -> Result<(), DiskFault>
     ensures synced { OnOk result (IsSynced D.bytes D.moment D.may_hold_after disk.new) }
     ensures forward { D.moment disk.old ≤ D.moment disk.new }
     ensures calls { D.moment disk.new ≤ D.moment disk.old + 6 }
-    // A crash leaves the heap from before the call, or the heap region as it stands.
+    // A crash leaves what it might have left before, or the bytes as read but for the gate.
+    ensures gate { IfTold (D.bytes disk.old)
+        (λ x. AtEach D.moment D.may_hold_after disk.old disk.new
+        (λ image. D.may_hold_after disk.old (D.moment disk.old) image
+        ⊎ Agrees (range LINE 1 ∷ []) x image)) }
+    // So it leaves the heap from before the call, or the heap region as it stands.
     ensures any_moment { IfTold (D.bytes disk.old)
         (λ x. IsOpen frame x (D.may_hold_after disk.old (D.moment disk.old))
         → AtEach D.moment D.may_hold_after disk.old disk.new

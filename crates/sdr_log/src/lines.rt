@@ -1,12 +1,13 @@
 // Lines of the heap region, written to their places.
 ghost use Rattle.std.specs.Prelude.{◌≡◌, ◌≤◌, ◌<◌, ◌+◌, ◌*◌, length, OnOk, Some, is_some};
 ghost use Rattle.sdr_base.specs.Causes.{HasCause};
-ghost use Rattle.sdr_disk.specs.Moments.{AtEach, Writes};
+ghost use Rattle.sdr_disk.specs.Moments.{AtEach, Only, Writes};
+ghost use Rattle.sdr_disk.specs.Ranges.{Agrees};
 ghost use Rattle.sdr_base.specs.Parts.{overwrite};
 ghost use Rattle.sdr_disk.specs.Told.{Both, IfTold};
 ghost use Rattle.sdr_log.specs.Calls.{AreBelow, KeepsDisk, MayPut, Puts, with_records};
 ghost use Rattle.sdr_log.specs.Frame.{LieInside, heap_place};
-ghost use Rattle.sdr_log.specs.Logged.{GivesSame};
+ghost use Rattle.sdr_log.specs.Logged.{GivesSame, line_ranges};
 
 use crate::{Frame, Record};
 use sdr_base::LINE;
@@ -48,6 +49,11 @@ pub fn put_lines<D: Disk>(disk: &mut D, frame: Frame, lines: &[Record]) -> Resul
         → Puts frame lines.now x y (D.may_hold_after disk.new (D.moment disk.new)))) }
     ensures forward { D.moment disk.old ≤ D.moment disk.new }
     ensures calls { D.moment disk.new ≤ D.moment disk.old + 2 * length lines.now }
+    // Where nothing was pending, a crash leaves other bytes in these lines alone.
+    ensures outside { IfTold (D.bytes disk.old)
+        (λ x. Only x (D.may_hold_after disk.old (D.moment disk.old))
+        → AtEach D.moment D.may_hold_after disk.old disk.new
+        (Agrees (line_ranges frame lines.now) x)) }
     ensures any_moment { IfTold (D.bytes disk.old)
         (λ x. MayPut frame lines.now x (D.may_hold_after disk.old (D.moment disk.old))
         → AtEach D.moment D.may_hold_after disk.old disk.new (GivesSame x)) }

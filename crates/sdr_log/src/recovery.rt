@@ -2,11 +2,12 @@
 ghost use Rattle.std.specs.Prelude.{◌≡◌, ◌≤◌, ◌<◌, ◌+◌, ◌*◌, ◌↔◌, true, length};
 ghost use Rattle.std.specs.Prelude.{IfOk, IfErr, OnOk, IsTrue, is_some};
 ghost use Rattle.sdr_base.specs.Causes.{HasCause};
-ghost use Rattle.sdr_disk.specs.Moments.{AtEach, Reads};
+ghost use Rattle.sdr_disk.specs.Moments.{AtEach, Only, Reads};
 ghost use Rattle.sdr_disk.specs.Told.{Both, IfTold};
 ghost use Rattle.sdr_log.specs.BackErrors.{HasBackCause, OnBadLog, UnlessFault};
 ghost use Rattle.sdr_log.specs.Calls.{AreBelow, GivesNone, IsFramed, KeepsDisk, MayPutBack, PutsBack};
 ghost use Rattle.sdr_log.specs.Frame.{LieInside};
+ghost use Rattle.sdr_log.specs.Left.{IsLeftFrom};
 ghost use Rattle.sdr_log.specs.Log.{are_good, first_gate, log_of};
 ghost use Rattle.sdr_log.specs.Logged.{GivesSame, IsAtRest, IsOpen, Logs};
 
@@ -72,6 +73,9 @@ fn restore<D: Disk>(disk: &mut D, frame: Frame, records: &[Record]) -> Result<()
         (λ x y. Logs frame x records.now
         → IsOpen frame x (D.may_hold_after disk.old (D.moment disk.old))
         → IsAtRest frame y (D.may_hold_after disk.new (D.moment disk.new)))) }
+    ensures left { IfTold (D.bytes disk.old) (λ x. Logs frame x records.now
+        → Only x (D.may_hold_after disk.old (D.moment disk.old))
+        → AtEach D.moment D.may_hold_after disk.old disk.new (IsLeftFrom x)) }
     ensures any_moment { IfTold (D.bytes disk.old) (λ x. Logs frame x records.now
         → IsOpen frame x (D.may_hold_after disk.old (D.moment disk.old))
         → AtEach D.moment D.may_hold_after disk.old disk.new (GivesSame x)) }
@@ -107,6 +111,10 @@ pub fn put_back_found<D: Disk>(alloc: Global, disk: &mut D, frame: Frame) -> Res
     ensures rest { OnOk result (Both (D.bytes disk.old) (D.bytes disk.new)
         (λ x y. MayPutBack frame x (D.may_hold_after disk.old (D.moment disk.old))
         → IsAtRest frame y (D.may_hold_after disk.new (D.moment disk.new)))) }
+    // Where nothing was pending, a crash leaves what a recovery that was stopped may leave.
+    ensures left { IfTold (D.bytes disk.old)
+        (λ x. Only x (D.may_hold_after disk.old (D.moment disk.old))
+        → AtEach D.moment D.may_hold_after disk.old disk.new (IsLeftFrom x)) }
     ensures any_moment { IfTold (D.bytes disk.old)
         (λ x. MayPutBack frame x (D.may_hold_after disk.old (D.moment disk.old))
         → AtEach D.moment D.may_hold_after disk.old disk.new (GivesSame x)) }
@@ -140,6 +148,10 @@ pub fn put_back<D: Disk>(alloc: Global, disk: &mut D, frame: Frame) -> Result<u6
     ensures rest { OnOk result (Both (D.bytes disk.old) (D.bytes disk.new)
         (λ x y. MayPutBack frame x (D.may_hold_after disk.old (D.moment disk.old))
         → IsAtRest frame y (D.may_hold_after disk.new (D.moment disk.new)))) }
+    // Where nothing was pending, a crash leaves what a recovery that was stopped may leave.
+    ensures left { IfTold (D.bytes disk.old)
+        (λ x. Only x (D.may_hold_after disk.old (D.moment disk.old))
+        → AtEach D.moment D.may_hold_after disk.old disk.new (IsLeftFrom x)) }
     ensures any_moment { IfTold (D.bytes disk.old)
         (λ x. MayPutBack frame x (D.may_hold_after disk.old (D.moment disk.old))
         → AtEach D.moment D.may_hold_after disk.old disk.new (GivesSame x)) }

@@ -1,31 +1,55 @@
-use Rattle.std.proofs.Common.{◌∙◌}
+use Rattle.std.proofs.Common.{◌∙◌, inl}
 use Rattle.sdr_disk.proofs.MomentsLemmas.{Reads-refl}
-use Rattle.sdr_image.proofs.OpenedLemmas.{at_between, at_reads, loaded, reads_may, reads_synced}
+use Rattle.sdr_log.proofs.RestoringLemmas.{at_reads, reads_only}
+use Rattle.sdr_image.proofs.OpenedLemmas.{at_between, loaded, opened_same, reads_may, reads_synced}
 use Rattle.sdr_image.proofs.opening.load.Goals as goal
+
+pub returns-in_err-frame-clause-left : goal.returns-in_err-frame-clause-left
+returns-in_err-frame-clause-left g c x is only =
+    at_reads _ _ _ _ _ c.read_frame.ensures.reads _ (λ image l. inl (only image l))
 
 pub returns-in_err-frame-clause-any_moment : goal.returns-in_err-frame-clause-any_moment
 returns-in_err-frame-clause-any_moment g c x is may =
-    at_reads g.D.Disk.bytes g.D.Disk.moment g.D.Disk.may_hold_after _ _ c.read_frame.ensures.reads x may
+    at_reads _ _ _ _ _ c.read_frame.ensures.reads _ (λ image l. opened_same x image _ may l)
+
+pub returns-in_default-clause-left : goal.returns-in_default-clause-left
+returns-in_default-clause-left g c x is only =
+    at_reads _ _ _ _ _ c.read_frame.ensures.reads _ (λ image l. inl (only image l))
 
 pub returns-in_default-clause-any_moment : goal.returns-in_default-clause-any_moment
 returns-in_default-clause-any_moment g c x is may =
-    at_reads g.D.Disk.bytes g.D.Disk.moment g.D.Disk.may_hold_after _ _ c.read_frame.ensures.reads x may
+    at_reads _ _ _ _ _ c.read_frame.ensures.reads _ (λ image l. opened_same x image _ may l)
+
+pub returns-in_err-memory-clause-left : goal.returns-in_err-memory-clause-left
+returns-in_err-memory-clause-left g c x is only =
+    at_reads _ _ _ _ _ c.read_frame.ensures.reads _ (λ image l. inl (only image l))
 
 pub returns-in_err-memory-clause-any_moment : goal.returns-in_err-memory-clause-any_moment
 returns-in_err-memory-clause-any_moment g c x is may =
-    at_reads g.D.Disk.bytes g.D.Disk.moment g.D.Disk.may_hold_after _ _ c.read_frame.ensures.reads x may
+    at_reads _ _ _ _ _ c.read_frame.ensures.reads _ (λ image l. opened_same x image _ may l)
+
+pub returns-in_err-restored-clause-left : goal.returns-in_err-restored-clause-left
+returns-in_err-restored-clause-left g c x is only =
+    let reads = c.read_frame.ensures.reads in
+    at_between _ _ _ _ _ _ _ _ reads (λ image l. inl (only image l))
+    (c.restore.ensures.left x (reads.same ∙ is) (reads_only _ _ _ _ _ reads x only)) (Reads-refl g.D.Disk.bytes g.D.Disk.moment g.D.Disk.may_hold_after _)
 
 pub returns-in_err-restored-clause-any_moment : goal.returns-in_err-restored-clause-any_moment
 returns-in_err-restored-clause-any_moment g c x is may =
     let reads = c.read_frame.ensures.reads in
-    at_between _ _ _ _ _ _ _ x reads may
-    (c.restore.ensures.any_moment x (reads.same ∙ is) (reads_may _ _ _ _ _ reads x may))
-    (Reads-refl g.D.Disk.bytes g.D.Disk.moment g.D.Disk.may_hold_after _)
+    at_between _ _ _ _ _ _ _ _ reads (λ image l. opened_same x image _ may l)
+    (c.restore.ensures.any_moment x (reads.same ∙ is) (reads_may _ _ _ _ _ reads x may)) (Reads-refl g.D.Disk.bytes g.D.Disk.moment g.D.Disk.may_hold_after _)
+
+pub returns-in_err-bytes-clause-left : goal.returns-in_err-bytes-clause-left
+returns-in_err-bytes-clause-left g c x is only =
+    let reads = c.read_frame.ensures.reads in
+    at_between _ _ _ _ _ _ _ _ reads (λ image l. inl (only image l))
+    (c.restore.ensures.left x (reads.same ∙ is) (reads_only _ _ _ _ _ reads x only)) c.read_heap.ensures.reads
 
 pub returns-in_err-bytes-clause-any_moment : goal.returns-in_err-bytes-clause-any_moment
 returns-in_err-bytes-clause-any_moment g c x is may =
     let reads = c.read_frame.ensures.reads in
-    at_between _ _ _ _ _ _ _ x reads may
+    at_between _ _ _ _ _ _ _ _ reads (λ image l. opened_same x image _ may l)
     (c.restore.ensures.any_moment x (reads.same ∙ is) (reads_may _ _ _ _ _ reads x may)) c.read_heap.ensures.reads
 
 pub returns-clause-bytes : goal.returns-clause-bytes
@@ -39,8 +63,14 @@ returns-clause-synced g c x is may =
     reads_synced _ _ _ _ _ c.read_heap.ensures.reads
     (c.in_ok-restored.ensures.synced x (reads.same ∙ is) (reads_may _ _ _ _ _ reads x may))
 
+pub returns-clause-left : goal.returns-clause-left
+returns-clause-left g c x is only =
+    let reads = c.read_frame.ensures.reads in
+    at_between _ _ _ _ _ _ _ _ reads (λ image l. inl (only image l))
+    (c.restore.ensures.left x (reads.same ∙ is) (reads_only _ _ _ _ _ reads x only)) c.read_heap.ensures.reads
+
 pub returns-clause-any_moment : goal.returns-clause-any_moment
 returns-clause-any_moment g c x is may =
     let reads = c.read_frame.ensures.reads in
-    at_between _ _ _ _ _ _ _ x reads may
+    at_between _ _ _ _ _ _ _ _ reads (λ image l. opened_same x image _ may l)
     (c.restore.ensures.any_moment x (reads.same ∙ is) (reads_may _ _ _ _ _ reads x may)) c.read_heap.ensures.reads

@@ -1,6 +1,10 @@
-use Rattle.std.proofs.Common.{◌∙◌, ap, refl, arith, length}
+use Rattle.std.proofs.Common.{◌∙◌, List, ap, refl, arith, length, subst}
 use Rattle.std.proofs.lemmas.List.{nil_from_length}
-use Rattle.sdr_log.proofs.PuttingLemmas.{putting_all, putting_each, putting_more, putting_none, putting_written}
+use Rattle.sdr_disk.specs.Ranges.{IsInNone}
+use Rattle.sdr_log.specs.Logged.{line_ranges}
+use Rattle.sdr_log.specs.declared.record.Record.{Record}
+use Rattle.sdr_log.proofs.PuttingLemmas.{lines_more, lines_none, putting_all, putting_each, putting_more, putting_none}
+use Rattle.sdr_log.proofs.PuttingLemmas.{putting_written}
 use Rattle.sdr_log.proofs.lines.put_lines.Goals as goal
 
 pub loop-line-init : goal.loop-line-init
@@ -12,7 +16,15 @@ loop-line-init g c = record {
   forward = omega arith;
   calls = omega arith;
   told = λ x is. putting_none _ _ _ _ _ _ x is;
+  inside = λ i o. o;
+  outside = λ x only. lines_none _ _ c.args.frame _ _ x only;
 }
+
+pub returns-in_err-put_line-clause-outside : goal.returns-in_err-put_line-clause-outside
+returns-in_err-put_line-clause-outside g c x is only =
+    let before = c.loop-line.invariant in
+    lines_more _ _ c.args.frame _ _ x _ _ _ _ _ c.in-Some.ensures.cases.0 before.inside (before.outside x only)
+    c.put_line.ensures.moments
 
 pub returns-in_err-put_line-clause-any_moment : goal.returns-in_err-put_line-clause-any_moment
 returns-in_err-put_line-clause-any_moment g c x is m =
@@ -34,6 +46,11 @@ loop-line-preserved g c =
           let p = c.loop-line.invariant.told x is in
           putting_more _ _ _ _ _ _ x _ _ _ _ _ split put.long p put.moments
           (c.in_ok-put_line.ensures.written p.y p.told) c.in_ok-put_line.ensures.rises;
+      inside = λ i o. (subst (λ (l : List Record). IsInNone (line_ranges c.args.frame l) i) split
+          (c.loop-line.invariant.inside i o)).1;
+      outside = λ x only.
+          lines_more _ _ c.args.frame _ _ x _ _ _ _ _ split c.loop-line.invariant.inside (c.loop-line.invariant.outside x only)
+          put.moments;
     }
 
 pub returns-clause-written : goal.returns-clause-written
@@ -44,6 +61,9 @@ pub returns-clause-puts : goal.returns-clause-puts
 returns-clause-puts g c x is y now m =
     putting_all _ _ _ _ _ _ x _ _ (nil_from_length _ c.in_default.ensures.cases) (c.loop-line.invariant.told x is) y
     now m
+
+pub returns-clause-outside : goal.returns-clause-outside
+returns-clause-outside g c x is only = c.loop-line.invariant.outside x only
 
 pub returns-clause-any_moment : goal.returns-clause-any_moment
 returns-clause-any_moment g c x is m = ((c.loop-line.invariant.told x is).so_far m).each

@@ -1,15 +1,25 @@
 use Rattle.std.proofs.Common.{◌∙◌, sym}
 use Rattle.std.proofs.lemmas.Option.{same_Some}
 use Rattle.sdr_log.proofs.GoodLemmas.{AreBelow-good}
+use Rattle.sdr_log.proofs.LeavingLemmas.{at_gate_left, at_lines_left}
 use Rattle.sdr_log.proofs.RestoringLemmas.{at_closed, may_put, puts_open, restored}
 use Rattle.sdr_log.proofs.recovery.restore.Goals as goal
 
 pub put_lines-requires-clause-below : goal.put_lines-requires-clause-below
 put_lines-requires-clause-below g c = AreBelow-good _ _ c.requires.good
 
+pub returns-in_err-put_lines-clause-left : goal.returns-in_err-put_lines-clause-left
+returns-in_err-put_lines-clause-left g c x is l only =
+    at_lines_left _ _ _ x _ l c.requires.some _ _ (c.put_lines.ensures.outside x is only)
+
 pub returns-in_err-put_lines-clause-any_moment : goal.returns-in_err-put_lines-clause-any_moment
 returns-in_err-put_lines-clause-any_moment g c x is l o =
     c.put_lines.ensures.any_moment x is (may_put _ x _ _ l o.logged)
+
+pub returns-in_err-close-clause-left : goal.returns-in_err-close-clause-left
+returns-in_err-close-clause-left g c x is l only =
+    at_gate_left _ _ _ x _ l c.requires.some _ _ (c.put_lines.ensures.outside x is only) _
+    (c.close.ensures.gate _ (c.in_ok-put_lines.ensures.written x is))
 
 pub returns-in_err-close-clause-any_moment : goal.returns-in_err-close-clause-any_moment
 returns-in_err-close-clause-any_moment g c x is l o =
@@ -29,6 +39,11 @@ returns-clause-rest g c x is y now l o =
     let is1 = c.in_ok-put_lines.ensures.written x is in
     let p = c.in_ok-put_lines.ensures.puts x is _ is1 (may_put _ x _ _ l o.logged) in
     (c.in_ok-close.ensures.closes _ is1 y now (puts_open _ x _ _ _ _ o p)).rest
+
+pub returns-clause-left : goal.returns-clause-left
+returns-clause-left g c x is l only =
+    at_gate_left _ _ _ x _ l c.requires.some _ _ (c.put_lines.ensures.outside x is only) _
+    (c.close.ensures.gate _ (c.in_ok-put_lines.ensures.written x is))
 
 pub returns-clause-any_moment : goal.returns-clause-any_moment
 returns-clause-any_moment g c x is l o =
