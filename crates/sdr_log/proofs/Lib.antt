@@ -7,6 +7,7 @@ pub mod GoodLemmas
 pub mod LogLemmas
 pub mod LoggedLemmas
 pub mod OpeningLemmas
+pub mod OutsideLemmas
 pub mod ProtocolLemmas
 pub mod PuttingLemmas
 pub mod ReadingLemmas

@@ -1,5 +1,6 @@
 use Rattle.std.proofs.Common.{◌∙◌, ap, refl, arith, length}
 use Rattle.std.proofs.lemmas.List.{nil_from_length}
+use Rattle.sdr_log.proofs.OutsideLemmas.{both_line, both_same, both_then}
 use Rattle.sdr_log.proofs.PuttingLemmas.{putting_all, putting_each, putting_more, putting_none, putting_written}
 use Rattle.sdr_log.proofs.lines.put_lines.Goals as goal
 
@@ -11,6 +12,7 @@ loop-line-init g c = record {
   later = omega arith;
   forward = omega arith;
   calls = omega arith;
+  inside = both_same _ _ _ refl;
   told = λ x is. putting_none _ _ _ _ _ _ x is;
 }
 
@@ -18,6 +20,11 @@ pub returns-in_err-put_line-clause-any_moment : goal.returns-in_err-put_line-cla
 returns-in_err-put_line-clause-any_moment g c x is m =
     putting_each _ _ _ _ _ _ x _ _ _ _ _ c.in-Some.ensures.cases.0 c.put_line.ensures.long
     (c.loop-line.invariant.told x is) c.put_line.ensures.moments m
+
+pub returns-in_err-put_line-clause-inside : goal.returns-in_err-put_line-clause-inside
+returns-in_err-put_line-clause-inside g c =
+    both_then _ _ _ _ c.loop-line.invariant.tells c.loop-line.invariant.inside
+    (both_line _ _ _ _ (rw c.in-Some.ensures.cases.0 at c.loop-line.invariant.below).0 c.put_line.ensures.others)
 
 pub loop-line-preserved : goal.loop-line-preserved
 loop-line-preserved g c =
@@ -30,6 +37,8 @@ loop-line-preserved g c =
       later = omega (arith, put.cause.later, c.loop-line.invariant.later);
       forward = omega (arith, put.moments.later, c.loop-line.invariant.forward);
       calls = omega (arith, c.in_ok-put_line.ensures.rises, c.loop-line.invariant.calls, ap length split);
+      inside = both_then _ _ _ _ c.loop-line.invariant.tells c.loop-line.invariant.inside
+          (both_line _ _ _ _ (rw split at c.loop-line.invariant.below).0 put.others);
       told = λ x is.
           let p = c.loop-line.invariant.told x is in
           putting_more _ _ _ _ _ _ x _ _ _ _ _ split put.long p put.moments
@@ -47,3 +56,6 @@ returns-clause-puts g c x is y now m =
 
 pub returns-clause-any_moment : goal.returns-clause-any_moment
 returns-clause-any_moment g c x is m = ((c.loop-line.invariant.told x is).so_far m).each
+
+pub returns-clause-inside : goal.returns-clause-inside
+returns-clause-inside g c = c.loop-line.invariant.inside

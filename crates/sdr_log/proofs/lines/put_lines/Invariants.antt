@@ -1,7 +1,7 @@
 use Rattle.std.proofs.Common.{◌≡◌, ◌≤◌, ◌+◌, ◌*◌, length}
 use Rattle.std.specs.Prelude.{is_some}
-use Rattle.sdr_disk.specs.Told.{IfTold}
-use Rattle.sdr_log.specs.Calls.{AreBelow}
+use Rattle.sdr_disk.specs.Told.{Both, IfTold}
+use Rattle.sdr_log.specs.Calls.{AreBelow, KeepsOutside}
 use Rattle.sdr_log.proofs.PuttingLemmas.{Putting}
 use Rattle.sdr_log.proofs.lines.put_lines.Given as goal
 
@@ -13,6 +13,7 @@ invariant-loop-line g l = record {
   later : g.D.Disk.faults l.fn.disk ≤ g.D.Disk.faults l.disk;
   forward : g.D.Disk.moment l.fn.disk ≤ g.D.Disk.moment l.disk;
   calls : g.D.Disk.moment l.disk + 2 * length l.rest ≤ g.D.Disk.moment l.fn.disk + 2 * length l.fn.lines;
+  inside : Both (g.D.Disk.bytes l.fn.disk) (g.D.Disk.bytes l.disk) (KeepsOutside l.frame);
   told : IfTold (g.D.Disk.bytes l.fn.disk) (λ x.
       Putting g.D.Disk.moment g.D.Disk.may_hold_after g.D.Disk.bytes l.frame l.fn.lines l.rest l.fn.disk l.disk x);
 }
