@@ -7,14 +7,14 @@ ghost use Rattle.sdr_base.specs.Cells.{is_among, with_lines, lines_of};
 ghost use Rattle.sdr_base.specs.Parts.{overwrite};
 ghost use Rattle.sdr_base.specs.Transaction.{HasReason, IfRefused};
 ghost use Rattle.sdr_disk.specs.Moments.{AtEach, Reads};
-ghost use Rattle.sdr_disk.specs.Told.{IfTold};
-ghost use Rattle.sdr_log.specs.Calls.{KeepsDisk};
+ghost use Rattle.sdr_disk.specs.Told.{Both, IfTold};
+ghost use Rattle.sdr_log.specs.Calls.{KeepsDisk, KeepsOutside, KeepsRest};
 ghost use Rattle.sdr_log.specs.Frame.{room_of};
 ghost use Rattle.sdr_log.specs.Log.{first_gate, put_back_of};
 ghost use Rattle.sdr_log.specs.Logged.{GivesHeap, GivesSame};
 ghost use Rattle.sdr_image.specs.Changed.{GivesEither};
 ghost use Rattle.sdr_image.specs.Opened.{transaction_of, KeepsBegun, LeavesHeap, Rests, StaysAt};
-ghost use Rattle.sdr_image.specs.Opening.{MayBeOpened, OnNotFormatted};
+ghost use Rattle.sdr_image.specs.Opening.{MayBeOpened, OnNotFormatted, UnlessFault};
 ghost use Rattle.sdr_image.specs.Saved.{Saves, calls_of};
 
 use crate::opening::load;
@@ -82,6 +82,10 @@ impl<D: Disk> Image<D> {
         ensures not_formatted { IfErr result (λ shut. OnNotFormatted shut.why
             (IfTold (D.bytes disk) (λ x. put_back_of x ≡ None))) }
         ensures disk { Returns D.size D.bytes D.faults disk result }
+        ensures inside { Both (D.bytes disk) (D.bytes (disk_in result)) KeepsRest }
+        // Where it isn't opened and hasn't failed, the disk was only read.
+        ensures same { IfErr result (λ shut. UnlessFault shut.why
+            (Reads D.bytes D.moment D.may_hold_after disk shut.disk)) }
         ensures quiet { IfTold (D.bytes disk) (λ x. first_gate x ≡ 0
             → Reads D.bytes D.moment D.may_hold_after disk (disk_in result)) }
         ensures forward { D.moment disk ≤ D.moment (disk_in result) }
@@ -207,8 +211,8 @@ impl<D: Disk> Image<D> {
     }
 
     /// Ends the transaction with the bytes as they were at its begin, which a crash leaves up to
-    /// the return and after it. Where it touched no line, no call of the disk is made, else at most
-    /// as many as a commit makes. Where none was begun, it is as if one had been.
+    /// the return and after it. No call of the disk is made. Where none was begun, it is as if one had
+    /// been.
     pub fn cancel(&mut self) -> Result<(), Stop>
         ensures ended { OnOk result (self.new ≡ record self.old {
           disk = self.new.disk;
@@ -226,7 +230,7 @@ impl<D: Disk> Image<D> {
         ensures stays { StaysAt result self.old self.new }
 
         ensures disk { KeepsDisk D.size D.bytes self.old.disk self.new.disk }
-        ensures idle { self.old.touched ≡ [] → self.new.disk ≡ self.old.disk }
+        ensures same { self.new.disk ≡ self.old.disk }
         ensures forward { D.moment self.old.disk ≤ D.moment self.new.disk }
         ensures calls { D.moment self.new.disk
             ≤ D.moment self.old.disk + 2 * calls_of (length self.old.touched) }
@@ -265,6 +269,8 @@ impl<D: Disk> Image<D> {
         ensures stays { StaysAt result self.old self.new }
 
         ensures disk { KeepsDisk D.size D.bytes self.old.disk self.new.disk }
+        ensures inside { Both (D.bytes self.old.disk) (D.bytes self.new.disk)
+            (KeepsOutside self.old.frame) }
         ensures idle { self.old.touched ≡ [] → self.new.disk ≡ self.old.disk }
         ensures forward { D.moment self.old.disk ≤ D.moment self.new.disk }
         ensures calls { D.moment self.new.disk
@@ -304,6 +310,8 @@ impl<D: Disk> Image<D> {
         ensures stays { StaysAt result self.old self.new }
 
         ensures disk { KeepsDisk D.size D.bytes self.old.disk self.new.disk }
+        ensures inside { Both (D.bytes self.old.disk) (D.bytes self.new.disk)
+            (KeepsOutside self.old.frame) }
         ensures forward { D.moment self.old.disk ≤ D.moment self.new.disk }
         ensures calls { D.moment self.new.disk
             ≤ D.moment self.old.disk + 2 * (length self.old.touched + 7) }

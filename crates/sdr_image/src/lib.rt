@@ -24,7 +24,8 @@
 //! Proved: a commit is whole or nothing: a crash at any moment leaves the bytes at its begin or at its end, after
 //! `Ok` those at its end (`any_moment`, `saved`). `LogFull` comes exactly where the touched lines exceed the
 //! room, `NotFormatted` exactly where the disk gives no heap. `peek` gives the heap that the disk gives, put back
-//! in memory (`heap`), and only reads the disk (`reads`).
+//! in memory (`heap`), and only reads the disk (`reads`). Opening and a commit change no byte outside the regions
+//! (`inside`), and a cancel none at all (`same`).
 //!
 //! Only tested: what opening makes of each image of a crash in a commit; a fault at each of its calls; the calls
 //! of `format` on a real file (once).

@@ -19,7 +19,8 @@
 //!
 //! Proved: in `write_batch`, `put_lines` and `close`, a crash at any moment leaves what is put back to the heap
 //! before, or, from `close` on, to the changed lines (`any_moment`). Recovery gives the heap that the disk gave
-//! (`back`), and `BadLog` exactly where it gives none; it may be stopped and begun again.
+//! (`back`), and `BadLog` exactly where it gives none; it may be stopped and begun again. No call changes a byte
+//! outside the log region and the heap region (`inside`).
 //!
 //! Only tested: heads; recovery at each moment of a change of two lines, with each tear; a fault at each call of
 //! a recovery; wrong logs.
