@@ -10,5 +10,6 @@ pub mod RegionLemmas
 pub mod SavedLemmas
 pub mod TouchedLemmas
 pub mod UndoLemmas
+pub mod OutsideLemmas
 pub mod PeekLemmas
 pub mod StillLemmas

@@ -72,11 +72,9 @@ abbrev pub disk_in : {D : Type 0} → Result (Opened D) (ImageShut D) → D
 disk_in (Ok i) = i.disk
 disk_in (Err shut) = shut.disk
 
--- A disk that was handed in comes back as long as it was, and tells its bytes if it did. Where it isn't opened and
--- hasn't failed it has the same ones. A fault has its cause.
+-- A disk that was handed in comes back as long as it was, and tells its bytes if it did. A fault has its cause.
 pub record Returns {D : Type 0} (size_of : D → ℕ) (told : D → Option (List ℕ)) (faults : D → ℕ) (disk : D)
     (result : Result (Opened D) (ImageShut D)) : Type 0 where
   pub keeps : KeepsDisk size_of told disk (disk_in result)
-  pub same : IfErr result (λ shut. UnlessFault shut.why (told shut.disk ≡ told disk))
   pub later : faults disk ≤ faults (disk_in result)
   pub explained : IfErr result (λ shut. ExplainsFault (faults disk) (faults shut.disk) shut.why)

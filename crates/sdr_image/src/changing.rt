@@ -4,7 +4,7 @@ ghost use Rattle.sdr_base.specs.Causes.{HasCause};
 ghost use Rattle.sdr_disk.specs.Moments.{AtEach};
 ghost use Rattle.sdr_disk.specs.Pending.{IsSynced};
 ghost use Rattle.sdr_disk.specs.Told.{Both, IfTold};
-ghost use Rattle.sdr_log.specs.Calls.{AreBelow, AreNamed, HasPlace, HoldLines, KeepsDisk};
+ghost use Rattle.sdr_log.specs.Calls.{AreBelow, AreNamed, HasPlace, HoldLines, KeepsDisk, KeepsOutside};
 ghost use Rattle.sdr_log.specs.Frame.{LieInside};
 ghost use Rattle.sdr_log.specs.Log.{AreLines, are_good, heap_of, put_records};
 ghost use Rattle.sdr_log.specs.Logged.{IsAtRest};
@@ -34,6 +34,7 @@ pub fn change_lines<D: Disk>(
     ensures cause { HasCause (D.faults disk.old) (D.faults disk.new) result }
 
     ensures disk { KeepsDisk D.size D.bytes disk.old disk.new }
+    ensures inside { Both (D.bytes disk.old) (D.bytes disk.new) (KeepsOutside frame) }
 
     ensures bytes { OnOk result (Both (D.bytes disk.old) (D.bytes disk.new)
         (λ x y. HasBytes frame (heap_of frame x) x → HoldLines (heap_of frame x) olds.now

@@ -7,8 +7,8 @@ ghost use Rattle.sdr_base.specs.Cells.{is_among, with_lines, lines_of, TouchesLi
 ghost use Rattle.sdr_base.specs.Parts.{overwrite, part};
 ghost use Rattle.sdr_base.specs.Transaction.{HasReason, IfRefused, TouchesNone};
 ghost use Rattle.sdr_disk.specs.Moments.{AtEach, Only, Reads};
-ghost use Rattle.sdr_disk.specs.Told.{IfTold};
-ghost use Rattle.sdr_log.specs.Calls.{KeepsDisk};
+ghost use Rattle.sdr_disk.specs.Told.{Both, IfTold};
+ghost use Rattle.sdr_log.specs.Calls.{KeepsDisk, KeepsOutside, KeepsRest};
 ghost use Rattle.sdr_log.specs.Frame.{room_of};
 ghost use Rattle.sdr_log.specs.Left.{IsLeftFrom};
 ghost use Rattle.sdr_log.specs.Log.{first_gate, put_back_of};
@@ -83,7 +83,8 @@ impl<D: Disk> Image<D> {
         ensures not_formatted { IfErr result (λ shut. OnNotFormatted shut.why
             (IfTold (D.bytes disk) (λ x. put_back_of x ≡ None))) }
         ensures disk { Returns D.size D.bytes D.faults disk result }
-        // Where it refuses, it has read alone, and so it has where no batch is open.
+        ensures inside { Both (D.bytes disk) (D.bytes (disk_in result)) KeepsRest }
+        // Where it isn't opened and hasn't failed, the disk was only read.
         ensures same { IfErr result (λ shut. UnlessFault shut.why
             (Reads D.bytes D.moment D.may_hold_after disk shut.disk)) }
         ensures quiet { IfTold (D.bytes disk) (λ x. first_gate x ≡ 0
@@ -232,9 +233,8 @@ impl<D: Disk> Image<D> {
             (transaction_of D.faults self.new) result }
         ensures stays { StaysAt result self.old self.new }
 
-        ensures same_disk { self.new.disk ≡ self.old.disk }
         ensures disk { KeepsDisk D.size D.bytes self.old.disk self.new.disk }
-        ensures idle { self.old.touched ≡ [] → self.new.disk ≡ self.old.disk }
+        ensures same { self.new.disk ≡ self.old.disk }
         ensures forward { D.moment self.old.disk ≤ D.moment self.new.disk }
         ensures calls { D.moment self.new.disk
             ≤ D.moment self.old.disk + 2 * calls_of (length self.old.touched) }
@@ -273,6 +273,8 @@ impl<D: Disk> Image<D> {
         ensures stays { StaysAt result self.old self.new }
 
         ensures disk { KeepsDisk D.size D.bytes self.old.disk self.new.disk }
+        ensures inside { Both (D.bytes self.old.disk) (D.bytes self.new.disk)
+            (KeepsOutside self.old.frame) }
         ensures idle { self.old.touched ≡ [] → self.new.disk ≡ self.old.disk }
         ensures forward { D.moment self.old.disk ≤ D.moment self.new.disk }
         ensures calls { D.moment self.new.disk
@@ -312,6 +314,8 @@ impl<D: Disk> Image<D> {
         ensures stays { StaysAt result self.old self.new }
 
         ensures disk { KeepsDisk D.size D.bytes self.old.disk self.new.disk }
+        ensures inside { Both (D.bytes self.old.disk) (D.bytes self.new.disk)
+            (KeepsOutside self.old.frame) }
         ensures forward { D.moment self.old.disk ≤ D.moment self.new.disk }
         ensures calls { D.moment self.new.disk
             ≤ D.moment self.old.disk + 2 * (length self.old.touched + 7) }

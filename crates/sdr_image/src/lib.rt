@@ -24,8 +24,9 @@
 //! Proved: a commit is whole or nothing: a crash at any moment leaves the bytes at its begin or at its end, after
 //! `Ok` those at its end (`any_moment`, `saved`). `LogFull` comes exactly where the touched lines exceed the
 //! room, `NotFormatted` exactly where the disk gives no heap. However often recovery is stopped and begun again, the
-//! heap is the same (`recover_many`), and opening leaves just what a stopped one may leave (`left`). `peek` gives the heap that the disk gives, put back
-//! in memory (`heap`), and only reads the disk (`reads`).
+//! heap is the same (`recover_many`), and opening leaves just what a stopped one may leave (`left`). Opening and a
+//! commit change no byte outside the regions (`inside`), and a cancel none at all (`same`). `peek` gives the heap that
+//! the disk gives, put back in memory (`heap`), and only reads the disk (`reads`).
 //!
 //! Only tested: what opening makes of each image of a crash in a commit; a fault at each of its calls; the calls
 //! of `format` on a real file (once).

@@ -4,7 +4,7 @@ ghost use Rattle.sdr_base.specs.Causes.{HasCause};
 ghost use Rattle.sdr_disk.specs.Moments.{AtEach, Only, Reads};
 ghost use Rattle.sdr_disk.specs.Pending.{IsSynced};
 ghost use Rattle.sdr_disk.specs.Told.{Both, IfTold};
-ghost use Rattle.sdr_log.specs.Calls.{IsFramed, KeepsDisk, PutsBack};
+ghost use Rattle.sdr_log.specs.Calls.{IsFramed, KeepsDisk, KeepsOutside, KeepsRest, PutsBack};
 ghost use Rattle.sdr_log.specs.Frame.{IsInLimits, disk_bytes};
 ghost use Rattle.sdr_log.specs.Left.{IsLeftFrom};
 ghost use Rattle.sdr_log.specs.Log.{first_gate, heap_of, put_back_of};
@@ -65,6 +65,7 @@ fn restore<D: Disk>(alloc: Global, disk: &mut D, frame: Frame) -> Result<u64, Im
         (IfTold (D.bytes disk.old) (λ x. put_back_of x ≡ None))) }
     ensures cause { HasImageCause (D.faults disk.old) (D.faults disk.new) result }
     ensures disk { KeepsDisk D.size D.bytes disk.old disk.new }
+    ensures inside { Both (D.bytes disk.old) (D.bytes disk.new) (KeepsOutside frame) }
     ensures same { IfErr result (λ why. UnlessFault why
         (Reads D.bytes D.moment D.may_hold_after disk.old disk.new)) }
     ensures synced { OnOk result (IfTold (D.bytes disk.old)
@@ -126,6 +127,7 @@ pub fn load<D: Disk>(alloc: Global, disk: &mut D) -> Result<Loaded, ImageError>
         (Reads D.bytes D.moment D.may_hold_after disk.old disk.new)) }
 
     ensures disk { KeepsDisk D.size D.bytes disk.old disk.new }
+    ensures inside { Both (D.bytes disk.old) (D.bytes disk.new) KeepsRest }
     ensures quiet { IfTold (D.bytes disk.old) (λ x. first_gate x ≡ 0
         → Reads D.bytes D.moment D.may_hold_after disk.old disk.new) }
     ensures forward { D.moment disk.old ≤ D.moment disk.new }

@@ -6,7 +6,7 @@ ghost use Rattle.sdr_base.specs.Causes.{HasCause};
 ghost use Rattle.sdr_disk.specs.Moments.{AtEach};
 ghost use Rattle.sdr_disk.specs.Pending.{IsSynced};
 ghost use Rattle.sdr_disk.specs.Told.{Both, IfTold};
-ghost use Rattle.sdr_log.specs.Calls.{AreBelow, KeepsDisk};
+ghost use Rattle.sdr_log.specs.Calls.{AreBelow, KeepsDisk, KeepsOutside};
 ghost use Rattle.sdr_log.specs.Frame.{LieInside};
 ghost use Rattle.sdr_log.specs.Log.{put_records};
 ghost use Rattle.sdr_image.specs.Changed.{GivesEither, HasChanged, lines_in};
@@ -111,6 +111,7 @@ impl Saving {
         ensures cause { HasCause (D.faults disk.old) (D.faults disk.new) result }
 
         ensures disk { KeepsDisk D.size D.bytes disk.old disk.new }
+        ensures inside { Both (D.bytes disk.old) (D.bytes disk.new) (KeepsOutside frame) }
 
         ensures bytes { OnOk result (Both (D.bytes disk.old) (D.bytes disk.new)
             (λ x y. HasBytes frame (put_records olds.now region.now) x

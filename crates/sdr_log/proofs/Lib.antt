@@ -8,6 +8,7 @@ pub mod LeavingLemmas
 pub mod LogLemmas
 pub mod LoggedLemmas
 pub mod OpeningLemmas
+pub mod OutsideLemmas
 pub mod ProtocolLemmas
 pub mod PuttingLemmas
 pub mod ReadingLemmas

@@ -4,6 +4,7 @@ use Rattle.std.specs.Prelude.{Option, Some, None, is_some, option_map}
 use Rattle.sdr_base.specs.declared.line.TheConstants.{LINE}
 use Rattle.sdr_disk.specs.Moments.{Only}
 use Rattle.sdr_base.specs.Parts.{overwrite, part}
+use Rattle.sdr_disk.specs.Ranges.{Agrees, Range, range}
 use Rattle.sdr_disk.specs.Told.{IfTold}
 use Rattle.sdr_log.specs.Batch.{batch_size, log_end}
 use Rattle.sdr_log.specs.Frame.{IsInLimits, disk_bytes, frame_of, heap_place}
@@ -104,3 +105,16 @@ pub record PutsBack (f : Frame) (count : ℕ) (x y : List ℕ) : Type 0 where
 pub record KeepsDisk {D : Type 0} (size_of : D → ℕ) (bytes : D → Option (List ℕ)) (old new : D) : Type 0 where
   pub size : size_of new ≡ size_of old
   pub tells : is_some (bytes new) ≡ is_some (bytes old)
+
+-- where the log region and the heap region lie on the disk
+abbrev pub regions_of : Frame → Range
+regions_of f = range LINE (LINE * (f.log_lines + f.heap_lines))
+
+-- no byte outside both regions changes: the head and what lies behind the heap region stay
+abbrev pub KeepsOutside : Frame → List ℕ → List ℕ → Type 0
+KeepsOutside f x y = Agrees (regions_of f ∷ []) x y
+
+-- no byte outside the regions of which the head tells changes, and none at all where it tells of none
+pub record KeepsRest (x y : List ℕ) : Type 0 where
+  pub outside : (f : Frame) → frame_of (part 0 LINE x) ≡ Some f → KeepsOutside f x y
+  pub headless : frame_of (part 0 LINE x) ≡ None → y ≡ x

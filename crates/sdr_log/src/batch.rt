@@ -4,9 +4,10 @@ ghost use Rattle.std.specs.Prelude.{IfOk, OnOk, Some, is_some};
 ghost use Rattle.sdr_base.specs.Causes.{HasCause};
 ghost use Rattle.sdr_disk.specs.Moments.{AtEach, IsTorn, Only};
 ghost use Rattle.sdr_base.specs.Parts.{overwrite};
+ghost use Rattle.sdr_disk.specs.Ranges.{Agrees, range};
 ghost use Rattle.sdr_disk.specs.Told.{Both, IfTold};
 ghost use Rattle.sdr_log.specs.Batch.{batch_of, batch_size, with_batch};
-ghost use Rattle.sdr_log.specs.Calls.{HasPlace, KeepsDisk, MayOpen, OpensBatch};
+ghost use Rattle.sdr_log.specs.Calls.{HasPlace, KeepsDisk, KeepsOutside, MayOpen, OpensBatch};
 ghost use Rattle.sdr_log.specs.Frame.{LieInside};
 ghost use Rattle.sdr_log.specs.Logged.{GivesSame};
 
@@ -25,6 +26,8 @@ fn save_batch<D: Disk>(disk: &mut D, place: u64, batch: &[u8]) -> Result<(), Dis
         (λ x. D.bytes disk.new ≡ Some (overwrite (LINE + place + 1) batch.now x))) }
     ensures cause { HasCause (D.faults disk.old) (D.faults disk.new) result }
 
+    ensures others { Both (D.bytes disk.old) (D.bytes disk.new)
+        (Agrees (range (LINE + place + 1) (length batch.now) ∷ [])) }
     ensures tells { is_some (D.bytes disk.new) ≡ is_some (D.bytes disk.old) }
     ensures size { D.size disk.new ≡ D.size disk.old }
 
@@ -47,6 +50,8 @@ fn open_gate<D: Disk>(disk: &mut D, place: u64) -> Result<(), DiskFault>
         (λ x. D.bytes disk.new ≡ Some (overwrite (LINE + place) (1 ∷ []) x))) }
     ensures cause { HasCause (D.faults disk.old) (D.faults disk.new) result }
 
+    ensures others { Both (D.bytes disk.old) (D.bytes disk.new)
+        (Agrees (range (LINE + place) 1 ∷ [])) }
     ensures tells { is_some (D.bytes disk.new) ≡ is_some (D.bytes disk.old) }
     ensures size { D.size disk.new ≡ D.size disk.old }
 
@@ -78,6 +83,7 @@ pub fn write_batch<D: Disk>(
     ensures cause { HasCause (D.faults disk.old) (D.faults disk.new) result }
 
     ensures disk { KeepsDisk D.size D.bytes disk.old disk.new }
+    ensures inside { Both (D.bytes disk.old) (D.bytes disk.new) (KeepsOutside frame) }
 
     ensures opens { OnOk result (Both (D.bytes disk.old) (D.bytes disk.new)
         (λ x y. MayOpen frame place records.now x (D.may_hold_after disk.old (D.moment disk.old))

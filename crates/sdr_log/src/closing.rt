@@ -5,8 +5,9 @@ ghost use Rattle.sdr_disk.specs.Moments.{AtEach, IsTorn, Only, Syncs};
 ghost use Rattle.sdr_disk.specs.Pending.{IsSynced};
 ghost use Rattle.sdr_disk.specs.Ranges.{Agrees, range};
 ghost use Rattle.sdr_base.specs.Parts.{overwrite};
+ghost use Rattle.sdr_disk.specs.Ranges.{Agrees, range};
 ghost use Rattle.sdr_disk.specs.Told.{Both, IfTold};
-ghost use Rattle.sdr_log.specs.Calls.{Closes, KeepsDisk};
+ghost use Rattle.sdr_log.specs.Calls.{Closes, KeepsDisk, KeepsOutside};
 ghost use Rattle.sdr_log.specs.Frame.{LieInside};
 ghost use Rattle.sdr_log.specs.Log.{heap_of};
 ghost use Rattle.sdr_log.specs.Logged.{GivesHeap, GivesSame, IsOpen};
@@ -38,6 +39,7 @@ fn close_gate<D: Disk>(disk: &mut D) -> Result<(), DiskFault>
         (λ x. D.bytes disk.new ≡ Some (overwrite LINE (0 ∷ []) x))) }
     ensures cause { HasCause (D.faults disk.old) (D.faults disk.new) result }
 
+    ensures others { Both (D.bytes disk.old) (D.bytes disk.new) (Agrees (range LINE 1 ∷ [])) }
     ensures tells { is_some (D.bytes disk.new) ≡ is_some (D.bytes disk.old) }
     ensures size { D.size disk.new ≡ D.size disk.old }
 
@@ -60,6 +62,7 @@ pub fn close<D: Disk>(disk: &mut D, frame: Frame) -> Result<(), DiskFault>
     ensures cause { HasCause (D.faults disk.old) (D.faults disk.new) result }
 
     ensures disk { KeepsDisk D.size D.bytes disk.old disk.new }
+    ensures inside { Both (D.bytes disk.old) (D.bytes disk.new) (KeepsOutside frame) }
 
     ensures closes { OnOk result (Both (D.bytes disk.old) (D.bytes disk.new)
         (λ x y. IsOpen frame x (D.may_hold_after disk.old (D.moment disk.old))

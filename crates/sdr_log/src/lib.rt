@@ -22,6 +22,7 @@
 //! (`back`), and `BadLog` exactly where it gives none. Where nothing was pending before it, a crash leaves at each
 //! moment other bytes in the lines that open batches name and at the first gate alone, and another gate only over
 //! old lines (`left`).
+//! No call changes a byte outside the log region and the heap region (`inside`).
 //!
 //! Only tested: heads; recovery at each moment of a change of two lines, with each tear; a fault at each call of
 //! a recovery; wrong logs.

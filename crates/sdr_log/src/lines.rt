@@ -1,11 +1,12 @@
 // Lines of the heap region, written to their places.
-ghost use Rattle.std.specs.Prelude.{◌≡◌, ◌≤◌, ◌<◌, ◌+◌, ◌*◌, length, OnOk, Some, is_some};
+ghost use Rattle.std.specs.Prelude.{◌≡◌, ◌≤◌, ◌<◌, ◌+◌, ◌*◌, ◌∷◌, [], length, OnOk, Some, is_some};
 ghost use Rattle.sdr_base.specs.Causes.{HasCause};
 ghost use Rattle.sdr_disk.specs.Moments.{AtEach, Only, Writes};
 ghost use Rattle.sdr_disk.specs.Ranges.{Agrees};
 ghost use Rattle.sdr_base.specs.Parts.{overwrite};
+ghost use Rattle.sdr_disk.specs.Ranges.{Agrees, range};
 ghost use Rattle.sdr_disk.specs.Told.{Both, IfTold};
-ghost use Rattle.sdr_log.specs.Calls.{AreBelow, KeepsDisk, MayPut, Puts, with_records};
+ghost use Rattle.sdr_log.specs.Calls.{AreBelow, KeepsDisk, KeepsOutside, MayPut, Puts, with_records};
 ghost use Rattle.sdr_log.specs.Frame.{LieInside, heap_place};
 ghost use Rattle.sdr_log.specs.Logged.{GivesSame, line_ranges};
 
@@ -24,6 +25,8 @@ fn put_line<D: Disk>(disk: &mut D, frame: Frame, line: &Record) -> Result<(), Di
     ensures rises { OnOk result (D.moment disk.new ≡ D.moment disk.old + 2) }
     ensures cause { HasCause (D.faults disk.old) (D.faults disk.new) result }
 
+    ensures others { Both (D.bytes disk.old) (D.bytes disk.new)
+        (Agrees (range (heap_place frame + LINE * line.now.line) LINE ∷ [])) }
     ensures tells { is_some (D.bytes disk.new) ≡ is_some (D.bytes disk.old) }
     ensures size { D.size disk.new ≡ D.size disk.old }
 
@@ -43,6 +46,7 @@ pub fn put_lines<D: Disk>(disk: &mut D, frame: Frame, lines: &[Record]) -> Resul
     ensures cause { HasCause (D.faults disk.old) (D.faults disk.new) result }
 
     ensures disk { KeepsDisk D.size D.bytes disk.old disk.new }
+    ensures inside { Both (D.bytes disk.old) (D.bytes disk.new) (KeepsOutside frame) }
 
     ensures puts { OnOk result (Both (D.bytes disk.old) (D.bytes disk.new)
         (λ x y. MayPut frame lines.now x (D.may_hold_after disk.old (D.moment disk.old))

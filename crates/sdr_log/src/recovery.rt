@@ -5,7 +5,7 @@ ghost use Rattle.sdr_base.specs.Causes.{HasCause};
 ghost use Rattle.sdr_disk.specs.Moments.{AtEach, Only, Reads};
 ghost use Rattle.sdr_disk.specs.Told.{Both, IfTold};
 ghost use Rattle.sdr_log.specs.BackErrors.{HasBackCause, OnBadLog, UnlessFault};
-ghost use Rattle.sdr_log.specs.Calls.{AreBelow, GivesNone, IsFramed, KeepsDisk, MayPutBack, PutsBack};
+ghost use Rattle.sdr_log.specs.Calls.{GivesNone, IsFramed, KeepsDisk, KeepsOutside, MayPutBack, PutsBack};
 ghost use Rattle.sdr_log.specs.Frame.{LieInside};
 ghost use Rattle.sdr_log.specs.Left.{IsLeftFrom};
 ghost use Rattle.sdr_log.specs.Log.{are_good, first_gate, log_of};
@@ -68,6 +68,7 @@ fn restore<D: Disk>(disk: &mut D, frame: Frame, records: &[Record]) -> Result<()
         (λ x y. Logs frame x records.now → PutsBack frame (length records.now) x y)) }
     ensures cause { HasCause (D.faults disk.old) (D.faults disk.new) result }
     ensures disk { KeepsDisk D.size D.bytes disk.old disk.new }
+    ensures inside { Both (D.bytes disk.old) (D.bytes disk.new) (KeepsOutside frame) }
 
     ensures rest { OnOk result (Both (D.bytes disk.old) (D.bytes disk.new)
         (λ x y. Logs frame x records.now
@@ -99,6 +100,7 @@ pub fn put_back_found<D: Disk>(alloc: Global, disk: &mut D, frame: Frame) -> Res
     ensures cause { HasBackCause (D.faults disk.old) (D.faults disk.new) result }
 
     ensures disk { KeepsDisk D.size D.bytes disk.old disk.new }
+    ensures inside { Both (D.bytes disk.old) (D.bytes disk.new) (KeepsOutside frame) }
     // Where it refuses, it has read alone, and so it has where no batch is open.
     ensures same { IfErr result (λ why. UnlessFault why
         (Reads D.bytes D.moment D.may_hold_after disk.old disk.new)) }
@@ -136,6 +138,7 @@ pub fn put_back<D: Disk>(alloc: Global, disk: &mut D, frame: Frame) -> Result<u6
     ensures cause { HasBackCause (D.faults disk.old) (D.faults disk.new) result }
 
     ensures disk { KeepsDisk D.size D.bytes disk.old disk.new }
+    ensures inside { Both (D.bytes disk.old) (D.bytes disk.new) (KeepsOutside frame) }
     // Where it refuses, it has read alone, and so it has where no batch is open.
     ensures same { IfErr result (λ why. UnlessFault why
         (Reads D.bytes D.moment D.may_hold_after disk.old disk.new)) }

@@ -1,9 +1,10 @@
 // A write that is synced at once.
-ghost use Rattle.std.specs.Prelude.{◌≡◌, ◌≤◌, ◌+◌, length, OnOk, Some, is_some};
+ghost use Rattle.std.specs.Prelude.{◌≡◌, ◌≤◌, ◌+◌, ◌∷◌, [], length, OnOk, Some, is_some};
 ghost use Rattle.sdr_base.specs.Causes.{HasCause};
 ghost use Rattle.sdr_disk.specs.Moments.{AtEach, IsTorn, Only};
 ghost use Rattle.sdr_base.specs.Parts.{overwrite};
-ghost use Rattle.sdr_disk.specs.Told.{IfTold};
+ghost use Rattle.sdr_disk.specs.Ranges.{Agrees, range};
+ghost use Rattle.sdr_disk.specs.Told.{Both, IfTold};
 
 use sdr_disk::{Disk, DiskFault};
 
@@ -16,6 +17,8 @@ pub fn save_at<D: Disk>(disk: &mut D, place: u64, from: &[u8]) -> Result<(), Dis
         (λ x. D.bytes disk.new ≡ Some (overwrite place from.now x))) }
     ensures cause { HasCause (D.faults disk.old) (D.faults disk.new) result }
 
+    ensures others { Both (D.bytes disk.old) (D.bytes disk.new)
+        (Agrees (range place (length from.now) ∷ [])) }
     ensures tells { is_some (D.bytes disk.new) ≡ is_some (D.bytes disk.old) }
     ensures size { D.size disk.new ≡ D.size disk.old }
 

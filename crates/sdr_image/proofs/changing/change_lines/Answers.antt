@@ -1,5 +1,6 @@
 use Rattle.std.proofs.Common.{◌∙◌, sym}
 use Rattle.std.proofs.lemmas.Option.{same_Some}
+use Rattle.sdr_log.proofs.OutsideLemmas.{both_then}
 use Rattle.sdr_image.proofs.ChangedLemmas.{changed_bytes}
 use Rattle.sdr_image.proofs.ChangingLemmas.{at_closing, at_opening, at_putting, may_open, may_put}
 use Rattle.sdr_image.proofs.ChangingLemmas.{still_open}
@@ -49,3 +50,17 @@ returns-clause-any_moment g c x is r own =
     at_closing _ _ _ x _ r own c.requires.good c.requires.named _ _ o _ _ p _ _ _ _ _ _
     (c.write_batch.ensures.any_moment x is m) (c.put_lines.ensures.any_moment _ is1 n)
     (c.close.ensures.any_moment _ is2 (still_open _ _ _ x _ r own c.requires.good c.requires.named _ _ o _ _ p))
+
+pub returns-in_err-put_lines-clause-inside : goal.returns-in_err-put_lines-clause-inside
+returns-in_err-put_lines-clause-inside g c =
+    both_then _ _ _ _ c.write_batch.ensures.disk.tells c.write_batch.ensures.inside c.put_lines.ensures.inside
+
+pub returns-in_err-close-clause-inside : goal.returns-in_err-close-clause-inside
+returns-in_err-close-clause-inside g c =
+    both_then _ _ _ _ c.write_batch.ensures.disk.tells c.write_batch.ensures.inside
+    (both_then _ _ _ _ c.put_lines.ensures.disk.tells c.put_lines.ensures.inside c.close.ensures.inside)
+
+pub returns-clause-inside : goal.returns-clause-inside
+returns-clause-inside g c =
+    both_then _ _ _ _ c.write_batch.ensures.disk.tells c.write_batch.ensures.inside
+    (both_then _ _ _ _ c.put_lines.ensures.disk.tells c.put_lines.ensures.inside c.close.ensures.inside)

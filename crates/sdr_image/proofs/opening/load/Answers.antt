@@ -2,6 +2,8 @@ use Rattle.std.proofs.Common.{◌∙◌, inl}
 use Rattle.sdr_disk.proofs.MomentsLemmas.{Reads-refl}
 use Rattle.sdr_log.proofs.RestoringLemmas.{at_reads, reads_only}
 use Rattle.sdr_image.proofs.OpenedLemmas.{at_between, loaded, opened_same, reads_may, reads_synced}
+use Rattle.sdr_image.proofs.OutsideLemmas.{rest_before, rest_read, rest_same}
+use Rattle.sdr_log.specs.Calls.{IsFramed}
 use Rattle.sdr_image.proofs.opening.load.Goals as goal
 
 pub returns-in_err-frame-clause-left : goal.returns-in_err-frame-clause-left
@@ -74,3 +76,32 @@ returns-clause-any_moment g c x is may =
     let reads = c.read_frame.ensures.reads in
     at_between _ _ _ _ _ _ _ _ reads (λ image l. opened_same x image _ may l)
     (c.restore.ensures.any_moment x (reads.same ∙ is) (reads_may _ _ _ _ _ reads x may)) c.read_heap.ensures.reads
+
+pub returns-in_err-frame-clause-inside : goal.returns-in_err-frame-clause-inside
+returns-in_err-frame-clause-inside g c = rest_same _ _ c.read_frame.ensures.reads.same
+
+pub returns-in_default-clause-inside : goal.returns-in_default-clause-inside
+returns-in_default-clause-inside g c = rest_same _ _ c.read_frame.ensures.reads.same
+
+pub returns-in_err-memory-clause-inside : goal.returns-in_err-memory-clause-inside
+returns-in_err-memory-clause-inside g c = rest_same _ _ c.read_frame.ensures.reads.same
+
+pub returns-in_err-restored-clause-inside : goal.returns-in_err-restored-clause-inside
+returns-in_err-restored-clause-inside g c =
+    let framed : IsFramed (g.D.Disk.size c.args.disk.now) (g.D.Disk.bytes c.args.disk.now) c.in-Some.frame =
+    rw c.in-Some.is at c.in_ok-frame.ensures.found in
+    rest_read c.in-Some.frame _ _ _ c.read_frame.ensures.reads.same framed.head c.restore.ensures.inside
+
+pub returns-in_err-bytes-clause-inside : goal.returns-in_err-bytes-clause-inside
+returns-in_err-bytes-clause-inside g c =
+    let framed : IsFramed (g.D.Disk.size c.args.disk.now) (g.D.Disk.bytes c.args.disk.now) c.in-Some.frame =
+    rw c.in-Some.is at c.in_ok-frame.ensures.found in
+    rest_before _ _ _ c.read_heap.ensures.reads.same
+    (rest_read c.in-Some.frame _ _ _ c.read_frame.ensures.reads.same framed.head c.restore.ensures.inside)
+
+pub returns-clause-inside : goal.returns-clause-inside
+returns-clause-inside g c =
+    let framed : IsFramed (g.D.Disk.size c.args.disk.now) (g.D.Disk.bytes c.args.disk.now) c.in-Some.frame =
+    rw c.in-Some.is at c.in_ok-frame.ensures.found in
+    rest_before _ _ _ c.read_heap.ensures.reads.same
+    (rest_read c.in-Some.frame _ _ _ c.read_frame.ensures.reads.same framed.head c.restore.ensures.inside)

@@ -3,10 +3,15 @@ use Rattle.std.specs.Prelude.{Some}
 use Rattle.std.proofs.lemmas.Option.{same_Some}
 use Rattle.sdr_base.specs.Parts.{overwrite}
 use Rattle.sdr_disk.proofs.ToldLemmas.{told_long}
+use Rattle.sdr_disk.specs.Told.{Both}
+use Rattle.sdr_log.specs.Calls.{KeepsOutside}
 use Rattle.sdr_log.proofs.BatchLemmas.{length-batch_of}
 use Rattle.sdr_log.proofs.OpeningLemmas.{opens_written, with_batch-written}
+use Rattle.sdr_log.proofs.OutsideLemmas.{both_inside, both_then}
 use Rattle.sdr_log.proofs.ProtocolLemmas.{at_batch, at_gate}
+use Rattle.sdr_log.proofs.batch.write_batch.Given as given
 use Rattle.sdr_log.proofs.batch.write_batch.Goals as goal
+use Rattle.sdr_log.proofs.batch.write_batch.Goals.{After-save_batch}
 
 pub save_batch-requires-clause-inside : goal.save_batch-requires-clause-inside
 save_batch-requires-clause-inside g c = omega (
@@ -16,6 +21,32 @@ save_batch-requires-clause-inside g c = omega (
   c.requires.place.fits,
   c.requires.regions.inside,
 )
+
+-- the batch lies in the log region
+batch_inside : (g : given.Over) (c : After-save_batch g)
+    → Both (g.D.Disk.bytes c.args.disk.now) (g.D.Disk.bytes c.save_batch.new.disk) (KeepsOutside c.args.frame)
+batch_inside g c =
+    both_inside c.args.frame (64 + c.args.place + 1) (length c.gather-batch.result.now) _ _ (omega arith)
+    (omega (
+      arith,
+      ap length c.gather-batch.ensures.batch,
+      length-batch_of c.args.records.now c.gather-batch.ensures.lines,
+      c.requires.place.fits,
+    ))
+    c.save_batch.ensures.others
+
+pub returns-in_err-save_batch-clause-inside : goal.returns-in_err-save_batch-clause-inside
+returns-in_err-save_batch-clause-inside g c = batch_inside g (goal.at.returns-in_err-save_batch-clause-inside g c).After-save_batch
+
+pub returns-in_err-open_gate-clause-inside : goal.returns-in_err-open_gate-clause-inside
+returns-in_err-open_gate-clause-inside g c =
+    both_then _ _ _ _ c.save_batch.ensures.tells (batch_inside g (goal.at.returns-in_err-open_gate-clause-inside g c).After-save_batch)
+    (both_inside c.args.frame (64 + c.args.place) 1 _ _ (omega arith) (omega (arith, c.requires.place.fits)) c.open_gate.ensures.others)
+
+pub returns-clause-inside : goal.returns-clause-inside
+returns-clause-inside g c =
+    both_then _ _ _ _ c.save_batch.ensures.tells (batch_inside g (goal.at.returns-clause-inside g c).After-save_batch)
+    (both_inside c.args.frame (64 + c.args.place) 1 _ _ (omega arith) (omega (arith, c.requires.place.fits)) c.open_gate.ensures.others)
 
 pub returns-in_err-save_batch-clause-any_moment : goal.returns-in_err-save_batch-clause-any_moment
 returns-in_err-save_batch-clause-any_moment g c x is m =

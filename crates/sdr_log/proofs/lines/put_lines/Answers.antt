@@ -3,8 +3,8 @@ use Rattle.std.proofs.lemmas.List.{nil_from_length}
 use Rattle.sdr_disk.specs.Ranges.{IsInNone}
 use Rattle.sdr_log.specs.Logged.{line_ranges}
 use Rattle.sdr_log.specs.declared.record.Record.{Record}
-use Rattle.sdr_log.proofs.PuttingLemmas.{lines_more, lines_none, putting_all, putting_each, putting_more, putting_none}
-use Rattle.sdr_log.proofs.PuttingLemmas.{putting_written}
+use Rattle.sdr_log.proofs.OutsideLemmas.{both_line, both_same, both_then}
+use Rattle.sdr_log.proofs.PuttingLemmas.{lines_more, lines_none, putting_all, putting_each, putting_more, putting_none, putting_written}
 use Rattle.sdr_log.proofs.lines.put_lines.Goals as goal
 
 pub loop-line-init : goal.loop-line-init
@@ -15,21 +15,27 @@ loop-line-init g c = record {
   later = omega arith;
   forward = omega arith;
   calls = omega arith;
+  inside = both_same _ _ _ refl;
   told = λ x is. putting_none _ _ _ _ _ _ x is;
-  inside = λ i o. o;
+  within = λ i o. o;
   outside = λ x only. lines_none _ _ c.args.frame _ _ x only;
 }
 
 pub returns-in_err-put_line-clause-outside : goal.returns-in_err-put_line-clause-outside
 returns-in_err-put_line-clause-outside g c x is only =
     let before = c.loop-line.invariant in
-    lines_more _ _ c.args.frame _ _ x _ _ _ _ _ c.in-Some.ensures.cases.0 before.inside (before.outside x only)
+    lines_more _ _ c.args.frame _ _ x _ _ _ _ _ c.in-Some.ensures.cases.0 before.within (before.outside x only)
     c.put_line.ensures.moments
 
 pub returns-in_err-put_line-clause-any_moment : goal.returns-in_err-put_line-clause-any_moment
 returns-in_err-put_line-clause-any_moment g c x is m =
     putting_each _ _ _ _ _ _ x _ _ _ _ _ c.in-Some.ensures.cases.0 c.put_line.ensures.long
     (c.loop-line.invariant.told x is) c.put_line.ensures.moments m
+
+pub returns-in_err-put_line-clause-inside : goal.returns-in_err-put_line-clause-inside
+returns-in_err-put_line-clause-inside g c =
+    both_then _ _ _ _ c.loop-line.invariant.tells c.loop-line.invariant.inside
+    (both_line _ _ _ _ (rw c.in-Some.ensures.cases.0 at c.loop-line.invariant.below).0 c.put_line.ensures.others)
 
 pub loop-line-preserved : goal.loop-line-preserved
 loop-line-preserved g c =
@@ -42,14 +48,16 @@ loop-line-preserved g c =
       later = omega (arith, put.cause.later, c.loop-line.invariant.later);
       forward = omega (arith, put.moments.later, c.loop-line.invariant.forward);
       calls = omega (arith, c.in_ok-put_line.ensures.rises, c.loop-line.invariant.calls, ap length split);
+      inside = both_then _ _ _ _ c.loop-line.invariant.tells c.loop-line.invariant.inside
+          (both_line _ _ _ _ (rw split at c.loop-line.invariant.below).0 put.others);
       told = λ x is.
           let p = c.loop-line.invariant.told x is in
           putting_more _ _ _ _ _ _ x _ _ _ _ _ split put.long p put.moments
           (c.in_ok-put_line.ensures.written p.y p.told) c.in_ok-put_line.ensures.rises;
-      inside = λ i o. (subst (λ (l : List Record). IsInNone (line_ranges c.args.frame l) i) split
-          (c.loop-line.invariant.inside i o)).1;
+      within = λ i o. (subst (λ (l : List Record). IsInNone (line_ranges c.args.frame l) i) split
+          (c.loop-line.invariant.within i o)).1;
       outside = λ x only.
-          lines_more _ _ c.args.frame _ _ x _ _ _ _ _ split c.loop-line.invariant.inside (c.loop-line.invariant.outside x only)
+          lines_more _ _ c.args.frame _ _ x _ _ _ _ _ split c.loop-line.invariant.within (c.loop-line.invariant.outside x only)
           put.moments;
     }
 
@@ -67,3 +75,6 @@ returns-clause-outside g c x is only = c.loop-line.invariant.outside x only
 
 pub returns-clause-any_moment : goal.returns-clause-any_moment
 returns-clause-any_moment g c x is m = ((c.loop-line.invariant.told x is).so_far m).each
+
+pub returns-clause-inside : goal.returns-clause-inside
+returns-clause-inside g c = c.loop-line.invariant.inside

@@ -2,6 +2,7 @@ use Rattle.std.proofs.Common.{◌∙◌, sym}
 use Rattle.std.proofs.lemmas.Option.{same_Some}
 use Rattle.sdr_log.proofs.GoodLemmas.{AreBelow-good}
 use Rattle.sdr_log.proofs.LeavingLemmas.{at_gate_left, at_lines_left}
+use Rattle.sdr_log.proofs.OutsideLemmas.{both_then}
 use Rattle.sdr_log.proofs.RestoringLemmas.{at_closed, may_put, puts_open, restored}
 use Rattle.sdr_log.proofs.recovery.restore.Goals as goal
 
@@ -52,3 +53,6 @@ returns-clause-any_moment g c x is l o =
     let p = c.in_ok-put_lines.ensures.puts x is _ is1 m in
     at_closed _ _ _ _ _ _ x _ _ _ l p (c.put_lines.ensures.any_moment x is m)
     (c.close.ensures.any_moment _ is1 (puts_open _ x _ _ _ _ o p))
+
+pub returns-clause-inside : goal.returns-clause-inside
+returns-clause-inside g c = both_then _ _ _ _ c.put_lines.ensures.disk.tells c.put_lines.ensures.inside c.close.ensures.inside
