@@ -56,3 +56,6 @@ returns-clause-any_moment g c x is l o =
 
 pub returns-clause-inside : goal.returns-clause-inside
 returns-clause-inside g c = both_then _ _ _ _ c.put_lines.ensures.disk.tells c.put_lines.ensures.inside c.close.ensures.inside
+
+pub returns-in_err-close-clause-inside : goal.returns-in_err-close-clause-inside
+returns-in_err-close-clause-inside g c = both_then _ _ _ _ c.put_lines.ensures.disk.tells c.put_lines.ensures.inside c.close.ensures.inside
