@@ -126,3 +126,80 @@ fn a_crash_tears_what_was_written_since_the_last_good_sync(rt: HostRuntime) {
     assert_eq!(rt; reads(rt.alloc()), Ok((None, [8, 6, 5, 0])));
     assert_eq!(rt; writes(rt.alloc()), Ok((None, 14, None)));
 }
+
+// Calls of a disk that is to stop.
+const CALLS: [Call; 6] = [
+    Call::Write(1, *b"aa"),
+    Call::Read(0),
+    Call::Sync,
+    Call::Write(3, *b"bb"),
+    Call::Read(0),
+    Call::Sync,
+];
+
+// After how many writes and syncs a disk of eight dots stops; which of these calls it answers; its moment then; and what a crash
+// leaves then, with `x` in each range.
+type Stop = (u64, [bool; 6], u64, [u8; 8]);
+
+// The reads fail too, and a write that fails leaves no range.
+const STOPS: [Stop; 5] = [
+    (0, [false; 6], 0, *b"........"),
+    (1, [true, true, false, false, false, false], 2, *b".xx....."),
+    (2, [true, true, true, false, false, false], 4, *b".aa....."),
+    (3, [true, true, true, true, true, false], 6, *b".aaxx..."),
+    (4, [true; 6], 8, *b".aabb..."),
+];
+
+// Whether a disk that is to stop makes these calls as the row says.
+fn stops(alloc: Global, row: &Stop) -> Result<bool, NoMemory> {
+    let (changes, answers, moment, image) = row;
+    let mut disk = MemoryDisk::new(b"........".to_vec(alloc)?, Vec::new(alloc));
+    let mut piece = [9; 4];
+    disk.stop_after(*changes);
+    for (call, answer) in CALLS.iter().zip(answers) {
+        if make(&mut disk, *call, &mut piece).is_ok() != *answer {
+            return Ok(false);
+        }
+    }
+    Ok(
+        disk.calls() == 6
+            && disk.now() == *moment
+            && leaves(&disk, *moment, Torn::Filled(b'x'), image)?,
+    )
+}
+
+// The first row that a disk doesn't keep to.
+fn wrong_stop(alloc: Global) -> Result<Option<usize>, NoMemory> {
+    for (row, stop) in STOPS.iter().enumerate() {
+        if !stops(alloc, stop)? {
+            return Ok(Some(row));
+        }
+    }
+    Ok(None)
+}
+
+// Of a disk whose second call fails, and that is to stop after three writes and syncs, and then after one more.
+const COUNTED: [Row; 7] = [
+    (Call::Read(0), Ok(()), [0; 4]),
+    (Call::Write(0, *b"aa"), Err(DiskFault), [0; 4]),
+    (Call::Write(0, *b"bb"), Ok(()), [0; 4]),
+    (Call::Sync, Ok(()), [0; 4]),
+    (Call::Sync, Err(DiskFault), [0; 4]),
+    (Call::Write(0, *b"cc"), Ok(()), [9; 4]),
+    (Call::Sync, Err(DiskFault), [9; 4]),
+];
+
+// The first of the first five rows and the first of the last two that gets something else.
+fn counts(alloc: Global) -> Result<[Option<usize>; 2], NoMemory> {
+    let mut disk = MemoryDisk::new([0; 8].to_vec(alloc)?, [2].to_vec(alloc)?);
+    disk.stop_after(3);
+    let first = wrong_row(&mut disk, &COUNTED[..5]);
+    disk.stop_after(1);
+    Ok([first, wrong_row(&mut disk, &COUNTED[5..])])
+}
+
+#[test]
+fn a_disk_that_is_to_stop_makes_so_many_changes_more_and_then_fails(rt: HostRuntime) {
+    assert_eq!(rt; wrong_stop(rt.alloc()), Ok(None));
+    assert_eq!(rt; counts(rt.alloc()), Ok([None, None]));
+}

@@ -203,3 +203,52 @@ fn opening_writes_the_old_lines_syncs_closes_the_gate_and_syncs_where_a_gate_is_
     assert_eq!(rt; recovered(rt.alloc(), 4, &[]), Some((0, 0, None)));
     assert_eq!(rt; recovered(rt.alloc(), 20, &[]), Some((0, 0, None)));
 }
+
+// What opening makes of a tear, where an opening before it put lines back on a disk that stopped after so many writes and syncs.
+fn begun_again(alloc: Global, changes: u64, torn: Torn) -> Option<Opened> {
+    let (disk, begun) = changed(alloc)?;
+    let image = image_after(&disk, begun, 11, Torn::New)?;
+    let mut disk = MemoryDisk::new(image, Vec::new(alloc));
+    disk.stop_after(changes);
+    let disk = match Image::open(alloc, disk) {
+        Ok(image) => image.into_disk(),
+        Err(shut) => shut.disk,
+    };
+    opened(alloc, image_after(&disk, 0, disk.now(), torn)?)
+}
+
+// From a number of writes and syncs on and up to another, what is made of a tear: it writes three lines, syncs, closes the gate and
+// syncs.
+const STOPPED: [(u64, u64, Torn, Opened); 12] = [
+    (0, 5, Torn::Old, BACK),
+    (0, 5, Torn::New, BACK),
+    (0, 5, Torn::Filled(0), BACK),
+    (0, 5, Torn::Filled(0xEE), BACK),
+    // The gate is written.
+    (5, 6, Torn::Old, BACK),
+    (5, 6, Torn::New, OLD),
+    (5, 6, Torn::Filled(0), OLD),
+    (5, 6, Torn::Filled(0xEE), BACK),
+    // The gate is synced, and the heap region is read only where one change more is left.
+    (6, 8, Torn::Old, OLD),
+    (6, 8, Torn::New, OLD),
+    (6, 8, Torn::Filled(0), OLD),
+    (6, 8, Torn::Filled(0xEE), OLD),
+];
+
+// The first row and number after which something else is made.
+fn wrong_stop(alloc: Global) -> Option<(usize, u64)> {
+    for (row, (first, behind, torn, want)) in STOPPED.iter().enumerate() {
+        for changes in *first..*behind {
+            if begun_again(alloc, changes, *torn) != Some(*want) {
+                return Some((row, changes));
+            }
+        }
+    }
+    None
+}
+
+#[test]
+fn an_opening_that_is_stopped_and_begun_again_gives_the_same_heap(rt: HostRuntime) {
+    assert_eq!(rt; wrong_stop(rt.alloc()), None);
+}
