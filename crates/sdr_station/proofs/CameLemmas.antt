@@ -45,6 +45,7 @@ pub record CameTo {D M : Type 0} (told : D → Option (List ℕ)) (moment faults
   pub gap : HasLapseCause (answers.Reply reply) (lapses_of media old.media) (lapses_of media new.media)
   pub unread : reads_by call reply ≡ false → new.media ≡ old.media
   pub sound : new.heap.cells.failed ≡ false
+  pub quiet : IsQuiet old.heap.cells new.heap.cells
   pub time : old.moment ≤ new.moment
   pub keeps : KeepsGround (heap_ground told moment faults may_hold_after media) true old new
   pub any_moment : LeavesBefore (heap_ground told moment faults may_hold_after media) old new
@@ -117,6 +118,7 @@ module _ {D M : Type 0} (told : D → Option (List ℕ)) (moment faults : D → 
     gap = subst (λ (f : M). HasLapseCause (answers.Reply reply) (lapses_of media old.media) (lapses_of media f)) (sym read) gap;
     unread = λ none. read ∙ unread none;
     sound = quiet.failed ∙ sound;
+    quiet = quiet;
     time = omega (arith, same);
     keeps = keeps_more (heap_ground told moment faults may_hold_after media)
         (keeps_read told moment faults may_hold_after media old new (ap media.told read ∙ lasts.told)

@@ -11,4 +11,5 @@ pub mod ServingLemmas
 pub mod StationLemmas
 pub mod StoodLemmas
 pub mod TellingLemmas
+pub mod InsideLemmas
 pub mod LookLemmas

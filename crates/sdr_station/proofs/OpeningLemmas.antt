@@ -1,13 +1,15 @@
 -- A heap that was opened.
-use Rattle.std.proofs.Common.{◌≡◌, ◌∙◌, ◌≤◌, ℕ, List, [], false, true, Option, Some, refl, sym, ap, subst, length}
+use Rattle.std.proofs.Common.{◌≡◌, ◌∙◌, ◌≤◌, ℕ, List, [], false, true, Option, Some, inl, refl, sym, ap, subst, length}
 use Rattle.std.specs.Prelude.{replicate}
 use Rattle.sdr_stands.specs.Standing.{StandsForWhole}
 use Rattle.sdr_audit.specs.declared.error.AuditError.{AuditError}
 use Rattle.sdr_audit.specs.declared.error.AuditError.TheVariants as audits
-use Rattle.sdr_disk.specs.Told.{Both}
-use Rattle.sdr_image.proofs.OpenedLemmas.{rests_same}
+use Rattle.sdr_disk.specs.Moments.{Reads}
+use Rattle.sdr_disk.specs.Pending.{IsSynced}
+use Rattle.sdr_disk.specs.Told.{Both, IfTold}
+use Rattle.sdr_image.proofs.OpenedLemmas.{reads_may, rests_same}
 use Rattle.sdr_image.specs.Opened.{IsQuiet, Opened}
-use Rattle.sdr_image.specs.Opening.{IsOpened, UnlessFault}
+use Rattle.sdr_image.specs.Opening.{IsOpened, MayBeOpened, UnlessFault}
 use Rattle.sdr_image.specs.declared.error.ImageError.{ImageError}
 use Rattle.sdr_image.specs.declared.error.ImageError.TheVariants as images
 use Rattle.sdr_machine.specs.Ground.{Ground, State, resting}
@@ -20,8 +22,10 @@ use Rattle.audit_world.specs.ToldPools.{pools_of}
 use Rattle.sdr_station.proofs.ClosingLemmas.{within_of}
 use Rattle.sdr_station.proofs.StoodLemmas.{stood_of}
 use Rattle.sdr_station.specs.Grounded.{Grounded, IsGround, StandsAtRest, StandsInMemory}
-use Rattle.sdr_station.specs.Opening.{ArePutBack, IsOfAudit, IsOfImage, IsOpen, LeavesBytes}
+use Rattle.sdr_station.specs.Opening as opening
+use Rattle.sdr_station.specs.Opening.{ArePutBack, IsOfAudit, IsOfImage, IsOpen, LeavesBytes, MayBeAgain}
 use Rattle.sdr_station.specs.declared.error.OpenError.{OpenError}
+use Rattle.sdr_station.specs.declared.error.OpenError.TheVariants as errors
 
 -- an image that was opened, and for whose bytes a world was found to stand, stands for it
 pub open_stands : {D M : Type 0} (told : D → Option (List ℕ)) (moment : D → ℕ) (may_hold_after : D → ℕ → List ℕ → Type 0) (disk : D) (files : M) (i j : Opened D)
@@ -90,6 +94,47 @@ open_stands {D} {M} told moment may_hold_after disk files i j count spare o q by
 pub open_ground : {D M : Type 0} (told : D → Option (List ℕ)) (moment : D → ℕ) (may_hold_after : D → ℕ → List ℕ → Type 0) (disk : D) (g : Grounded D M)
     → IsOpen told moment may_hold_after disk g → IsGround moment g
 open_ground told moment may_hold_after disk g o = record { seen = o.seen; sound = λ _. o.sound; going = λ _. o.going; stands = λ _. record { for = _; holds = o.memory } }
+
+-- what holds in any case holds in these
+UnlessFault-holds : {P : Type 0} (why : OpenError) → P → opening.UnlessFault why P
+UnlessFault-holds errors.NotFormatted holds = holds
+UnlessFault-holds (errors.Damaged place check) holds = holds
+UnlessFault-holds errors.DiskFault holds = tt
+UnlessFault-holds errors.NoMemory holds = holds
+
+OnDamaged-holds : {P : Type 0} (why : OpenError) → P → opening.OnDamaged why P
+OnDamaged-holds errors.NotFormatted holds = tt
+OnDamaged-holds (errors.Damaged place check) holds = holds
+OnDamaged-holds errors.DiskFault holds = tt
+OnDamaged-holds errors.NoMemory holds = tt
+
+-- the disk of an image that was opened is synced, where it might be opened
+pub opened_synced : {D : Type 0} (told : D → Option (List ℕ)) (moment : D → ℕ) (may_hold_after : D → ℕ → List ℕ → Type 0) (disk : D) (i : Opened D)
+    → IsOpened told moment may_hold_after disk i → IfTold (told disk) (λ x. MayBeOpened x (may_hold_after disk (moment disk)))
+    → IsSynced told moment may_hold_after i.disk
+opened_synced told moment may_hold_after disk i o may y now = (o.rests may o.sound y now).rest.only
+
+-- so it may be opened again
+pub synced_again : {D : Type 0} (told : D → Option (List ℕ)) (moment : D → ℕ) (may_hold_after : D → ℕ → List ℕ → Type 0) (old new : D) (why : OpenError)
+    → (IfTold (told old) (λ x. MayBeOpened x (may_hold_after old (moment old))) → IsSynced told moment may_hold_after new)
+    → MayBeAgain told moment may_hold_after old new why
+synced_again {D} told moment may_hold_after old new why synced = record {
+  again = λ may. UnlessFault-holds why (λ y now. inl (synced may y now));
+  synced = λ may. OnDamaged-holds why (synced may);
+}
+
+-- and so may one whose image wasn't opened
+pub image_again : {D : Type 0} (told : D → Option (List ℕ)) (moment : D → ℕ) (may_hold_after : D → ℕ → List ℕ → Type 0) (old new : D)
+    (error : ImageError) (why : OpenError) → IsOfImage error why → UnlessFault error (Reads told moment may_hold_after old new)
+    → MayBeAgain told moment may_hold_after old new why
+image_again told moment may_hold_after old new images.NotFormatted why is reads =
+    subst (λ (w : OpenError). MayBeAgain told moment may_hold_after old new w) (sym is)
+    (record { again = λ may y now. reads_may told moment may_hold_after old new reads y (may y (sym reads.same ∙ now)); synced = λ may. tt })
+image_again told moment may_hold_after old new images.DiskFault why is reads =
+    subst (λ (w : OpenError). MayBeAgain told moment may_hold_after old new w) (sym is) (record { again = λ may. tt; synced = λ may. tt })
+image_again told moment may_hold_after old new images.NoMemory why is reads =
+    subst (λ (w : OpenError). MayBeAgain told moment may_hold_after old new w) (sym is)
+    (record { again = λ may y now. reads_may told moment may_hold_after old new reads y (may y (sym reads.same ∙ now)); synced = λ may. tt })
 
 -- where an image isn't opened, the disk's bytes are the same unless it failed
 pub image_leaves : (old new : Option (List ℕ)) (error : ImageError) (why : OpenError) → IsOfImage error why → UnlessFault error (new ≡ old)

@@ -1,17 +1,18 @@
 -- A heap on an image as the ground of a lock: what it stands for.
-use Rattle.std.specs.Prelude.{◌≡◌, ◌≤◌, ◌*◌, ℕ, Bool, true, false, List, length, Option, Some}
+use Rattle.std.specs.Prelude.{◌≡◌, ◌≤◌, ◌*◌, ℕ, Bool, true, false, List, length, Option, Some, is_some}
 use Rattle.sdr_stands.specs.Standing.{HeapStandsFor, StandsForWhole}
 use Rattle.sdr_base.specs.Entries.{Few}
 use Rattle.sdr_base.specs.KeptHeap.{KeepsRegion, block_in, root_in}
 use Rattle.sdr_base.specs.Objects.{Heap}
 use Rattle.sdr_base.specs.Pools.{Pools}
 use Rattle.sdr_base.specs.declared.line.TheConstants.{LINE, MOST_LINES}
-use Rattle.sdr_disk.specs.Told.{IfTold}
+use Rattle.sdr_disk.specs.Told.{Both, IfTold}
 use Rattle.sdr_heap.specs.Noted.{Held, marked_in}
 use Rattle.sdr_image.specs.Opened.{Opened, Rests}
 use Rattle.sdr_machine.specs.Demand.{most_lines, no_demand}
 use Rattle.sdr_machine.specs.Ground.{Ground, State}
 use Rattle.sdr_machine.specs.Standing.{GroundState}
+use Rattle.sdr_log.specs.Calls.{KeepsOutside}
 use Rattle.sdr_log.specs.Frame.{room_of}
 use Rattle.sdr_log.specs.Log.{put_back_of}
 use Rattle.sdr_model.specs.Fields.{FitsFields}
@@ -131,3 +132,9 @@ pub record OpensAs (image : List ℕ) (s : State) : Type 0 where
   pub back : put_back_of image ≡ Some heap
   pub room : ℕ
   pub stands : StandsAtRest room heap s
+
+-- The disk has the same regions and tells its bytes if it did, and none of its bytes outside the regions changes.
+pub record StaysInside {D M : Type 0} (told : D → Option (List ℕ)) (old new : Grounded D M) : Type 0 where
+  pub frame : new.heap.cells.frame ≡ old.heap.cells.frame
+  pub tells : is_some (told new.heap.cells.disk) ≡ is_some (told old.heap.cells.disk)
+  pub outside : Both (told old.heap.cells.disk) (told new.heap.cells.disk) (KeepsOutside old.heap.cells.frame)

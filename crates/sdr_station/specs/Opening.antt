@@ -9,6 +9,7 @@ use Rattle.sdr_audit.specs.Checked.{IsWrongFirst}
 use Rattle.sdr_audit.specs.declared.error.AuditError.{AuditError}
 use Rattle.sdr_audit.specs.declared.error.AuditError.TheVariants as audits
 use Rattle.sdr_audit.specs.declared.error.Check.{Check}
+use Rattle.sdr_disk.specs.Pending.{IsSynced}
 use Rattle.sdr_disk.specs.Told.{Both, IfTold}
 use Rattle.sdr_image.specs.Opening.{MayBeOpened}
 use Rattle.sdr_image.specs.declared.error.ImageError.{ImageError}
@@ -85,6 +86,25 @@ abbrev pub LeavesBytes : Option (List ℕ) → Option (List ℕ) → OpenError �
 LeavesBytes old new errors.NotFormatted = new ≡ old
 LeavesBytes old new (errors.Damaged place why) = Both old new ArePutBack
 LeavesBytes old new why = ⊤
+
+-- what holds where the disk didn't fail
+abbrev pub UnlessFault : OpenError → Type 0 → Type 0
+UnlessFault errors.DiskFault P = ⊤
+UnlessFault why P = P
+
+-- what holds where the heap is damaged
+abbrev pub OnDamaged : OpenError → Type 0 → Type 0
+OnDamaged (errors.Damaged place check) P = P
+OnDamaged why P = ⊤
+
+-- A heap wasn't opened, for this reason, and its disk might be opened before: so it may again, unless it failed. Where the heap is
+-- damaged nothing is pending: what was put back is synced.
+pub record MayBeAgain {D : Type 0} (told : D → Option (List ℕ)) (moment : D → ℕ) (may_hold_after : D → ℕ → List ℕ → Type 0)
+    (old new : D) (why : OpenError) : Type 0 where
+  pub again : IfTold (told old) (λ x. MayBeOpened x (may_hold_after old (moment old)))
+      → UnlessFault why (IfTold (told new) (λ y. MayBeOpened y (may_hold_after new (moment new))))
+  pub synced : IfTold (told old) (λ x. MayBeOpened x (may_hold_after old (moment old)))
+      → OnDamaged why (IsSynced told moment may_hold_after new)
 
 -- an image's error as a heap's
 abbrev pub IsOfImage : ImageError → OpenError → Type 0

@@ -2,10 +2,10 @@
 ghost use Rattle.std.specs.Prelude.{◌≡◌, ◌≤◌, false, OnErr, OnOk};
 ghost use Rattle.sdr_base.specs.Transaction.{HasReason, IfRefused};
 ghost use Rattle.sdr_disk.specs.Moments.{AtEach};
-ghost use Rattle.sdr_disk.specs.Told.{IfTold};
+ghost use Rattle.sdr_disk.specs.Told.{Both, IfTold};
 ghost use Rattle.sdr_image.specs.Changed.{GivesEither};
 ghost use Rattle.sdr_image.specs.Opened.{Rests, StaysAt, transaction_of};
-ghost use Rattle.sdr_log.specs.Calls.{KeepsDisk};
+ghost use Rattle.sdr_log.specs.Calls.{KeepsDisk, KeepsOutside};
 ghost use Rattle.sdr_log.specs.Logged.{GivesHeap};
 ghost use Rattle.sdr_station.specs.Closing.{heap_committed, moves_left, heap_rolled_back};
 
@@ -26,6 +26,8 @@ pub fn commit<D: Disk>(heap: &mut Heap<Image<D>>) -> Result<(), Stop>
         (transaction_of D.faults heap.new.cells) result }
     ensures stays { StaysAt result heap.old.cells heap.new.cells }
     ensures disk { KeepsDisk D.size D.bytes heap.old.cells.disk heap.new.cells.disk }
+    ensures inside { Both (D.bytes heap.old.cells.disk) (D.bytes heap.new.cells.disk)
+        (KeepsOutside heap.old.cells.frame) }
     ensures forward { D.moment heap.old.cells.disk ≤ D.moment heap.new.cells.disk }
     ensures any_moment { heap.old.cells.failed ≡ false
         → Rests D.bytes D.moment D.may_hold_after heap.old.cells
@@ -50,6 +52,7 @@ pub fn cancel<D: Disk>(heap: &mut Heap<Image<D>>) -> Result<(), Stop>
         (transaction_of D.faults heap.new.cells) result }
     ensures stays { StaysAt result heap.old.cells heap.new.cells }
     ensures disk { KeepsDisk D.size D.bytes heap.old.cells.disk heap.new.cells.disk }
+    ensures same { heap.new.cells.disk ≡ heap.old.cells.disk }
     ensures forward { D.moment heap.old.cells.disk ≤ D.moment heap.new.cells.disk }
     ensures any_moment { heap.old.cells.failed ≡ false
         → Rests D.bytes D.moment D.may_hold_after heap.old.cells

@@ -2,6 +2,7 @@
 use Rattle.std.proofs.Common.{None, ap, arith, subst}
 use Rattle.sdr_machine.specs.Serving.{Shows}
 use Rattle.sdr_station.proofs.ClosingLemmas.{brings_failed}
+use Rattle.sdr_station.proofs.InsideLemmas.{inside_quiet, inside_then}
 use Rattle.sdr_station.proofs.LookLemmas.{before_idle, leaves_later, shows_failed, shows_later}
 use Rattle.sdr_station.proofs.ServingLemmas.{leaves_quiet}
 use Rattle.sdr_station.specs.Grounded.{Grounded, IsBefore, StandsForBoth, StandsInMemory}
@@ -55,3 +56,12 @@ pub returns-then-branch-clause-time : goal.returns-then-branch-clause-time
 returns-then-branch-clause-time g c =
     let same = ap (λ (o : Grounded g.row.D.Denot g.row.M.Denot). o.moment) c.see-then-branch.ensures.same in
     omega (arith, same, c.roll_back_for_look.ensures.time)
+
+pub returns-then-self-clause-inside : goal.returns-then-self-clause-inside
+returns-then-self-clause-inside g c = inside_quiet g.D.Disk.bytes c.args.self.now c.see.new.self c.see.ensures.quiet
+
+pub returns-then-branch-clause-inside : goal.returns-then-branch-clause-inside
+returns-then-branch-clause-inside g c =
+    inside_then g.D.Disk.bytes c.args.self.now c.roll_back_for_look.new.self c.see-then-branch.new.self
+    c.roll_back_for_look.ensures.inside
+    (inside_quiet g.D.Disk.bytes c.roll_back_for_look.new.self c.see-then-branch.new.self c.see-then-branch.ensures.quiet)

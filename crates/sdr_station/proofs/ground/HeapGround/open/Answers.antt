@@ -1,17 +1,23 @@
 use Rattle.std.proofs.Common.{◌∙◌, ap, false, sym, subst, true}
-use Rattle.sdr_disk.specs.Moments.{AtEach}
+use Rattle.sdr_disk.specs.Moments.{AtEach, Reads}
+use Rattle.sdr_disk.specs.Pending.{IsSynced}
+use Rattle.sdr_disk.specs.Told.{Both}
+use Rattle.sdr_image.proofs.OutsideLemmas.{UnlessFault-then}
+use Rattle.sdr_log.specs.Calls.{KeepsRest}
 use Rattle.sdr_heap.specs.Noted.{Held}
 use Rattle.sdr_image.specs.Opened.{Opened}
 use Rattle.sdr_log.specs.Logged.{GivesSame}
-use Rattle.sdr_station.proofs.OpeningLemmas.{audit_leaves, image_leaves, open_ground, open_stands}
+use Rattle.sdr_station.proofs.OpeningLemmas.{audit_leaves, image_again, image_leaves, open_ground, open_stands, opened_synced, synced_again}
 use Rattle.sdr_station.specs.Grounded.{Grounded}
 use Rattle.sdr_station.specs.Opening.{IsOpen}
+use Rattle.sdr_station.specs.declared.error.OpenError.TheVariants as errors
 use Rattle.sdr_station.proofs.ground.HeapGround.open.Goals as goal
 
 pub returns-in-Err-clause-bytes : goal.returns-in-Err-clause-bytes
 returns-in-Err-clause-bytes g c =
     let b = g.D.Disk.bytes in
-    image_leaves (b c.args.disk) (b c.in-Err.shut.disk) c.in-Err.shut.why c.of_image.result c.of_image.ensures c.in-Err.ensures.disk.same
+    image_leaves (b c.args.disk) (b c.in-Err.shut.disk) c.in-Err.shut.why c.of_image.result c.of_image.ensures
+    (UnlessFault-then c.in-Err.shut.why (λ (reads : Reads b g.D.Disk.moment g.D.Disk.may_hold_after c.args.disk c.in-Err.shut.disk). reads.same) c.in-Err.ensures.same)
 
 pub returns-in-Err-check-clause-bytes : goal.returns-in-Err-check-clause-bytes
 returns-in-Err-check-clause-bytes g c =
@@ -79,3 +85,48 @@ invariant_of-result g c =
       restored = sym c.restored-restored.ensures i;
     })
     (open_stands b m l c.args.disk c.args.media c.in-Ok.image c.check.new.c _ _ c.in-Ok.ensures.opened c.check.ensures.reads.quiet c.check.ensures.reads.bytes c.check.ensures.reads.touched c.in_default.ensures.stands))
+
+pub returns-in-Err-clause-again : goal.returns-in-Err-clause-again
+returns-in-Err-clause-again g c =
+    image_again g.D.Disk.bytes g.D.Disk.moment g.D.Disk.may_hold_after c.args.disk c.in-Err.shut.disk c.in-Err.shut.why c.of_image.result
+    c.of_image.ensures c.in-Err.ensures.same
+
+pub returns-in-Err-check-clause-again : goal.returns-in-Err-check-clause-again
+returns-in-Err-check-clause-again g c =
+    let D = g.row.D.Denot in
+    let b = g.D.Disk.bytes in
+    let m = g.D.Disk.moment in
+    let l = g.D.Disk.may_hold_after in
+    synced_again b m l c.args.disk c.into_disk.result c.of_audit.result
+    (λ may. subst (λ (d : D). IsSynced b m l d) (sym (c.into_disk.ensures.disk ∙ c.check.ensures.reads.quiet.disk))
+    (opened_synced b m l c.args.disk c.in-Ok.image c.in-Ok.ensures.opened may))
+
+pub returns-in-Err-new-clause-again : goal.returns-in-Err-new-clause-again
+returns-in-Err-new-clause-again g c =
+    let D = g.row.D.Denot in
+    let b = g.D.Disk.bytes in
+    let m = g.D.Disk.moment in
+    let l = g.D.Disk.may_hold_after in
+    synced_again b m l c.args.disk c.into_disk-in-Err-new.result errors.NoMemory
+    (λ may. subst (λ (d : D). IsSynced b m l d)
+    (sym (c.into_disk-in-Err-new.ensures.disk ∙ ap (λ (i : Opened D). i.disk) c.in-Err-new.ensures.back ∙ c.check.ensures.reads.quiet.disk))
+    (opened_synced b m l c.args.disk c.in-Ok.image c.in-Ok.ensures.opened may))
+
+pub returns-in-Err-check-clause-inside : goal.returns-in-Err-check-clause-inside
+returns-in-Err-check-clause-inside g c =
+    let D = g.row.D.Denot in
+    subst (λ (d : D). Both (g.D.Disk.bytes c.args.disk) (g.D.Disk.bytes d) KeepsRest)
+    (sym (c.into_disk.ensures.disk ∙ c.check.ensures.reads.quiet.disk)) c.in-Ok.ensures.inside
+
+pub returns-in-Ok-new-clause-inside : goal.returns-in-Ok-new-clause-inside
+returns-in-Ok-new-clause-inside g c =
+    let D = g.row.D.Denot in
+    subst (λ (d : D). Both (g.D.Disk.bytes c.args.disk) (g.D.Disk.bytes d) KeepsRest)
+    (sym (ap (λ (h : Held (Opened D)). h.cells.disk) c.in-Ok-new.ensures.made ∙ c.check.ensures.reads.quiet.disk)) c.in-Ok.ensures.inside
+
+pub returns-in-Err-new-clause-inside : goal.returns-in-Err-new-clause-inside
+returns-in-Err-new-clause-inside g c =
+    let D = g.row.D.Denot in
+    subst (λ (d : D). Both (g.D.Disk.bytes c.args.disk) (g.D.Disk.bytes d) KeepsRest)
+    (sym (c.into_disk-in-Err-new.ensures.disk ∙ ap (λ (i : Opened D). i.disk) c.in-Err-new.ensures.back ∙ c.check.ensures.reads.quiet.disk))
+    c.in-Ok.ensures.inside

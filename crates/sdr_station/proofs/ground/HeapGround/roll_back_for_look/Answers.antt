@@ -7,8 +7,9 @@ use Rattle.sdr_machine.specs.Crash.{LeavesBefore}
 use Rattle.sdr_machine.specs.Serving.{SameStates}
 use Rattle.sdr_station.proofs.ClosingLemmas.{ClosesTo, closes_dropped, dropped_ground, leaves_back}
 use Rattle.sdr_station.proofs.GroundLemmas.{heap_ground}
+use Rattle.sdr_station.proofs.InsideLemmas.{inside_same, stays_frame}
 use Rattle.sdr_station.proofs.LookLemmas.{before_dropped}
-use Rattle.sdr_station.specs.Grounded.{Grounded, IsBefore, IsGround}
+use Rattle.sdr_station.specs.Grounded.{Grounded, IsBefore, IsGround, StaysInside}
 use Rattle.sdr_station.proofs.ground.HeapGround.roll_back_for_look.Goals as goal
 
 pub returns-in-Ok : goal.returns-in-Ok
@@ -64,6 +65,8 @@ returns-in-Ok g c =
       media = ap (λ (o : Grounded D M). o.media) c.self.view_is;
       time = all.time;
       keeps = all.keeps;
+      inside = subst (λ (o : Grounded D M). StaysInside b o new) c.self.view_is
+          (inside_same b old new c.cancel.new.heap at.ensures.same (ap (λ (h : Held (Opened D)). h.cells.frame) e.ended) e.same);
       any_moment = all.any_moment;
     }
 
@@ -150,3 +153,58 @@ returns-in-Err-DiskFault-clause-time g c =
     let at = c.moment_of-self-inside-in-Err-DiskFault in
     let at_now = at.ensures.moment ∙ ap (λ (h : Held (Opened g.row.D.Denot)). g.D.Disk.moment h.cells.disk) at.ensures.same in
     omega (arith, was, at_now, c.self.invariant.seen, c.in-Err-DiskFault.ensures.forward)
+
+pub returns-in-Err-DiskFault-clause-inside : goal.returns-in-Err-DiskFault-clause-inside
+returns-in-Err-DiskFault-clause-inside g c =
+    let D = g.row.D.Denot in
+    let M = g.row.M.Denot in
+    let b = g.D.Disk.bytes in
+    let at = c.moment_of-self-inside-in-Err-DiskFault in
+    let e = c.in-Err-DiskFault.ensures in
+    let old : Grounded D M = record {
+      heap = c.self.inside.heap;
+      media = c.self.inside.media;
+      shown = c.self.inside.shown;
+      stopped = c.self.inside.stopped;
+      idle = c.self.inside.idle;
+      moment = c.self.inside.moment;
+      restored = c.self.inside.restored;
+    } in
+    let new : Grounded D M = record {
+      heap = at.new.heap;
+      media = c.self.inside.media;
+      shown = c.self.inside.shown;
+      stopped = true;
+      idle = false;
+      moment = at.result;
+      restored = c.self.inside.restored;
+    } in
+    subst (λ (o : Grounded D M). StaysInside b o new) c.self.view_is
+    (inside_same b old new c.cancel.new.heap at.ensures.same (stays_frame _ _ _ e.stays) e.same)
+
+pub returns-in-Err-Failed-clause-inside : goal.returns-in-Err-Failed-clause-inside
+returns-in-Err-Failed-clause-inside g c =
+    let D = g.row.D.Denot in
+    let M = g.row.M.Denot in
+    let b = g.D.Disk.bytes in
+    let e = c.in-Err-Failed.ensures in
+    let old : Grounded D M = record {
+      heap = c.self.inside.heap;
+      media = c.self.inside.media;
+      shown = c.self.inside.shown;
+      stopped = c.self.inside.stopped;
+      idle = c.self.inside.idle;
+      moment = c.self.inside.moment;
+      restored = c.self.inside.restored;
+    } in
+    let new : Grounded D M = record {
+      heap = c.cancel.new.heap;
+      media = c.self.inside.media;
+      shown = c.self.inside.shown;
+      stopped = c.self.inside.stopped;
+      idle = c.self.inside.idle;
+      moment = c.self.inside.moment;
+      restored = c.self.inside.restored;
+    } in
+    subst (λ (o : Grounded D M). StaysInside b o new) c.self.view_is
+    (inside_same b old new c.cancel.new.heap refl (stays_frame _ _ _ e.stays) e.same)

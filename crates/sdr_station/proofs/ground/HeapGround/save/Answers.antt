@@ -5,7 +5,8 @@ use Rattle.sdr_machine.specs.Crash.{LeavesEither}
 use Rattle.sdr_machine.specs.Serving.{Commits, MeetsFault}
 use Rattle.sdr_station.proofs.ClosingLemmas.{ClosesTo, closes_kept, kept_ground, leaves_either, meets_fault}
 use Rattle.sdr_station.proofs.GroundLemmas.{heap_ground}
-use Rattle.sdr_station.specs.Grounded.{Grounded}
+use Rattle.sdr_station.proofs.InsideLemmas.{inside_closed, stays_frame}
+use Rattle.sdr_station.specs.Grounded.{Grounded, StaysInside}
 use Rattle.sdr_station.proofs.ground.HeapGround.save.Goals as goal
 
 pub returns-in-Ok : goal.returns-in-Ok
@@ -59,6 +60,9 @@ returns-in-Ok g c =
       fault = tt;
       time = all.time;
       keeps = all.keeps;
+      inside = subst (λ (o : Grounded D M). StaysInside b o new) c.self.view_is
+          (inside_closed b old new c.commit.new.heap at.ensures.same (ap (λ (h : Held (Opened D)). h.cells.frame) e.ended)
+          e.disk.tells e.inside);
       any_moment = all.any_moment;
     }
 
@@ -172,3 +176,31 @@ returns-in-Err-clause-time g c =
     let at = c.moment_of-self-inside-in-Err in
     let at_now = at.ensures.moment ∙ ap (λ (h : Held (Opened g.row.D.Denot)). g.D.Disk.moment h.cells.disk) at.ensures.same in
     omega (arith, was, at_now, c.self.invariant.seen, c.in-Err.ensures.forward)
+
+pub returns-in-Err-clause-inside : goal.returns-in-Err-clause-inside
+returns-in-Err-clause-inside g c =
+    let D = g.row.D.Denot in
+    let M = g.row.M.Denot in
+    let b = g.D.Disk.bytes in
+    let at = c.moment_of-self-inside-in-Err in
+    let e = c.in-Err.ensures in
+    let old : Grounded D M = record {
+      heap = c.self.inside.heap;
+      media = c.self.inside.media;
+      shown = c.self.inside.shown;
+      stopped = c.self.inside.stopped;
+      idle = c.self.inside.idle;
+      moment = c.self.inside.moment;
+      restored = c.self.inside.restored;
+    } in
+    let new : Grounded D M = record {
+      heap = at.new.heap;
+      media = c.self.inside.media;
+      shown = c.self.inside.shown;
+      stopped = true;
+      idle = false;
+      moment = at.result;
+      restored = c.self.inside.restored;
+    } in
+    subst (λ (o : Grounded D M). StaysInside b o new) c.self.view_is
+    (inside_closed b old new c.commit.new.heap at.ensures.same (stays_frame _ _ _ e.stays) e.disk.tells e.inside)

@@ -1,6 +1,7 @@
 use Rattle.std.proofs.Common.{◌∙◌, ap, inl, inr, not, subst, false}
 use Rattle.sdr_model.specs.declared.answer.Reply.TheVariants as replies
 use Rattle.sdr_station.proofs.CameLemmas.{CameTo, came_answered, came_missed, came_refused, faults_never, good_before, keeps_before}
+use Rattle.sdr_station.proofs.InsideLemmas.{inside_quiet}
 use Rattle.sdr_station.specs.Grounded.{Grounded}
 use Rattle.sdr_station.proofs.ground.HeapGround.serve.Goals as goal
 
@@ -61,6 +62,7 @@ returns-in-Ok g c =
       unread = at.unread;
       time = at.time;
       keeps = at.keeps;
+      inside = inside_quiet b c.args.self.now new at.quiet;
       any_moment = at.any_moment;
     }
 
@@ -102,6 +104,7 @@ returns-in-Err-Refused g c =
       unread = at.unread;
       time = at.time;
       keeps = at.keeps;
+      inside = inside_quiet b c.args.self.now new at.quiet;
       any_moment = at.any_moment;
     }
 
@@ -140,6 +143,7 @@ returns-in-Err-MediaFault g c =
       unread = at.unread;
       time = at.time;
       keeps = at.keeps;
+      inside = inside_quiet b c.args.self.now new at.quiet;
       any_moment = at.any_moment;
     }
 
