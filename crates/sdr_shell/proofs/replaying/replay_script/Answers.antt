@@ -1,5 +1,5 @@
 use Rattle.std.proofs.Common.{rules, inl, inr}
-use Rattle.sdr_run.proofs.MediaLemmas.{failed_ever}
+use Rattle.sdr_core.proofs.CausedLemmas.{failed_ever}
 use Rattle.sdr_shell.specs.Answers.{seen}
 use Rattle.sdr_shell.proofs.replaying.replay_script.Goals as goal
 
