@@ -144,9 +144,14 @@ type Stop = (u64, [bool; 6], u64, [u8; 8]);
 // The reads fail too, and a write that fails leaves no range.
 const STOPS: [Stop; 5] = [
     (0, [false; 6], 0, *b"........"),
-    (1, [true, true, false, false, false, false], 2, *b".xx....."),
+    (
+        1,
+        [true, false, false, false, false, false],
+        2,
+        *b".xx.....",
+    ),
     (2, [true, true, true, false, false, false], 4, *b".aa....."),
-    (3, [true, true, true, true, true, false], 6, *b".aaxx..."),
+    (3, [true, true, true, true, false, false], 6, *b".aaxx..."),
     (4, [true; 6], 8, *b".aabb..."),
 ];
 
