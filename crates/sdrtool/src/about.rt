@@ -7,7 +7,7 @@ ghost use Rattle.sdr_base.specs.Written.{AppendsPart};
 use sdr_base::{Sink, write_all};
 use sdr_shell::{DONE, OUTPUT_FAULT};
 
-pub const VERSION: &str = "sdrtool 0.1.0\n";
+pub const VERSION: &str = "sdrtool 0.1.0 (disk format 1, script format 1)\n";
 
 pub const HELP: &str = "\
 sdrtool formats a heap on a disk, runs the script of its daemons on it, and
@@ -49,6 +49,9 @@ Status    When                                           Last line printed
 Standard error says more: why a disk can't be opened, the forms where the words
 are none of them, why a file that begins as a heap gives none, and what `format`
 is about to overwrite.
+
+The manual, where it is installed: man sdrtool, and man 5 sdr for scripts,
+answers and the bytes of a disk.
 
 An example: a disk of 81984 bytes has 256 lines of log and 1024 of heap.
 
