@@ -66,7 +66,7 @@ module _ {D M T : Type 0} (faults : D → ℕ) (old : Grounded D M) (heap : Held
     (looks : Looks (image_heap faults) old.heap heap result) where
   -- the disk is quiet
   pub looked_quiet : IsQuiet old.heap.cells heap.cells × (heap.size ≡ old.heap.size)
-  looked_quiet = looks.quiet old.heap (record { disk = refl; frame = refl; begun = refl; failed = refl }, refl)
+  looked_quiet = looks.quiet old.heap (record { disk = refl; frame = refl; begun = refl; failed = refl; restored = refl; still_open = λ is. is }, refl)
 
   -- the heap stands still within its transaction
   still_within : {shown : List ℕ} {s : State} → StandsWithin old.heap shown s → StandsWithin heap shown s

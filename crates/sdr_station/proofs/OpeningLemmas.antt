@@ -1,7 +1,9 @@
 -- A heap that was opened.
-use Rattle.std.proofs.Common.{◌≡◌, ◌∙◌, ◌≤◌, ℕ, List, [], false, true, Option, Some, inl, refl, sym, ap, subst, length}
+use Rattle.std.proofs.Common.{◌≡◌, ◌∙◌, ◌≤◌, ℕ, List, [], false, true, true≢false, Err, Option, Some, inl, refl, sym, ap, subst, length}
 use Rattle.std.specs.Prelude.{replicate}
 use Rattle.sdr_stands.specs.Standing.{StandsForWhole}
+use Rattle.sdr_base.specs.Transaction.{Transaction}
+use Rattle.sdr_audit.specs.Checked.{HasAuditReason, IsNoWorld, TellsFirst}
 use Rattle.sdr_audit.specs.declared.error.AuditError.{AuditError}
 use Rattle.sdr_audit.specs.declared.error.AuditError.TheVariants as audits
 use Rattle.sdr_disk.specs.Moments.{Reads}
@@ -15,6 +17,7 @@ use Rattle.sdr_image.specs.declared.error.ImageError.TheVariants as images
 use Rattle.sdr_machine.specs.Ground.{Ground, State, resting}
 use Rattle.sdr_log.specs.Calls.{PutsBack}
 use Rattle.sdr_log.specs.Frame.{room_of}
+use Rattle.sdr_log.specs.Log.{put_back_of}
 use Rattle.sdr_log.specs.declared.frame.Frame.{Frame}
 use Rattle.audit_world.specs.Standing.{StandsAsTold}
 use Rattle.audit_world.specs.Told.{world_of}
@@ -150,3 +153,18 @@ audit_leaves old new (audits.Damaged place check) why is back = subst (λ (w : O
 audit_leaves old new audits.DiskFault why is back = subst (λ (w : OpenError). LeavesBytes old new w) (sym is) tt
 audit_leaves old new audits.Failed why is back = subst (λ (w : OpenError). LeavesBytes old new w) (sym is) tt
 audit_leaves old new audits.NoMemory why is back = subst (λ (w : OpenError). LeavesBytes old new w) (sym is) tt
+
+-- why a heap on an image that hasn't failed wasn't taken by the audit is why it isn't opened
+pub explains_audit : {T : Type 0} (told : Option (List ℕ)) (before now : ℕ) (bytes : List ℕ) (old new : Transaction) (why : AuditError) (result : OpenError)
+    → IsOfAudit why result → IfTold told (λ x. put_back_of x ≡ Some bytes) → HasAuditReason {T = T} old new (Err why) → old.failed ≡ false
+    → new.failed ≡ old.failed → TellsFirst bytes why → IsNoWorld bytes why → opening.ExplainsOpen told before now result
+explains_audit told before now bytes old new (audits.Damaged place check) result is gives reason sound failed wrong none =
+    let P : OpenError → Type 0 = λ e. opening.ExplainsOpen told before now e in
+    subst P (sym is) (λ x tells. record { heap = bytes; gives = gives x tells; wrong = wrong; none = none })
+explains_audit told before now bytes old new audits.DiskFault result is gives reason sound failed wrong none =
+    absurd (true≢false (sym reason.explained.1 ∙ failed ∙ sound))
+explains_audit told before now bytes old new audits.Failed result is gives reason sound failed wrong none =
+    absurd (true≢false (sym reason.explained.0 ∙ sound))
+explains_audit told before now bytes old new audits.NoMemory result is gives reason sound failed wrong none =
+    let P : OpenError → Type 0 = λ e. opening.ExplainsOpen told before now e in
+    subst P (sym is) tt

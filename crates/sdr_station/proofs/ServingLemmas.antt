@@ -123,7 +123,7 @@ module _ {D M : Type 0} (faults : D → ℕ) (m : MediaGhosts M) (old : Grounded
   -- what was quiet since then was quiet
   pub quiet_of : {T : Type 0} {lines : ℕ} {result : Result T Stop} → Spends (image_heap faults) lines fresh_heap heap result
       → IsQuiet fresh_heap.cells heap.cells × (heap.size ≡ fresh_heap.size)
-  quiet_of works = works.quiet fresh_heap (record { disk = refl; frame = refl; begun = refl; failed = refl }, refl)
+  quiet_of works = works.quiet fresh_heap (record { disk = refl; frame = refl; begun = refl; failed = refl; restored = refl; still_open = λ is. is }, refl)
 
   -- what stands still of a standing
   stands_on : (new : Grounded D M) (v : GroundState) → StandsInMemory old v → IsQuiet old.heap.cells new.heap.cells → new.heap.size ≡ old.heap.size → (now : State) → now.world.taken ≡ 0
@@ -445,7 +445,7 @@ pub no_fault : {D : Type 0} (faults : D → ℕ) (old new : Held (Opened D)) (li
     → (stop : Stop) → Spends (image_heap faults) lines old new (past_stop stop) → (stop ≡ stops.DiskFault) ⊎ (stop ≡ stops.Failed) → ⊥
 no_fault faults old new lines sound stop works (inl is) =
     let e = subst (λ (s : Stop). Explains (transaction_of faults old.cells) (transaction_of faults new.cells) (past_stop s)) is works.cause.explained in
-    let q = works.quiet old (record { disk = refl; frame = refl; begun = refl; failed = refl }, refl) in
+    let q = works.quiet old (record { disk = refl; frame = refl; begun = refl; failed = refl; restored = refl; still_open = λ is. is }, refl) in
     true≢false (sym e.1 ∙ q.0.failed ∙ sound)
 no_fault faults old new lines sound stop works (inr is) =
     let e = subst (λ (s : Stop). Explains (transaction_of faults old.cells) (transaction_of faults new.cells) (past_stop s)) is works.cause.explained in

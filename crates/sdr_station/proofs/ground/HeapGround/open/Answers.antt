@@ -5,9 +5,9 @@ use Rattle.sdr_disk.specs.Told.{Both}
 use Rattle.sdr_image.proofs.OutsideLemmas.{UnlessFault-then}
 use Rattle.sdr_log.specs.Calls.{KeepsRest}
 use Rattle.sdr_heap.specs.Noted.{Held}
-use Rattle.sdr_image.specs.Opened.{Opened}
+use Rattle.sdr_image.specs.Opened.{Opened, transaction_of}
 use Rattle.sdr_log.specs.Logged.{GivesSame}
-use Rattle.sdr_station.proofs.OpeningLemmas.{audit_leaves, image_again, image_leaves, open_ground, open_stands, opened_synced, synced_again}
+use Rattle.sdr_station.proofs.OpeningLemmas.{audit_leaves, explains_audit, image_again, image_leaves, open_ground, open_stands, opened_synced, synced_again}
 use Rattle.sdr_station.specs.Grounded.{Grounded}
 use Rattle.sdr_station.specs.Opening.{IsOpen}
 use Rattle.sdr_station.specs.declared.error.OpenError.TheVariants as errors
@@ -27,6 +27,15 @@ returns-in-Err-check-clause-bytes g c =
       count = c.in-Ok.image.restored;
       back = c.in-Ok.ensures.opened.back x is y (sym (ap b (c.into_disk.ensures.disk ∙ c.check.ensures.reads.quiet.disk)) ∙ tells);
     })
+
+pub returns-in-Err-check-clause-why : goal.returns-in-Err-check-clause-why
+returns-in-Err-check-clause-why g c =
+    let b = g.D.Disk.bytes in
+    let f = g.D.Disk.faults in
+    let e = c.in-Err-check.ensures in
+    let o = c.in-Ok.ensures.opened in
+    explains_audit (b c.args.disk) (f c.args.disk) (f c.into_disk.result) c.in-Ok.image.bytes (transaction_of f c.in-Ok.image) (transaction_of f c.check.new.c)
+    c.in-Err-check.why c.of_audit.result c.of_audit.ensures o.heap e.reads.cause o.sound e.reads.quiet.failed e.damaged e.none
 
 pub returns-in-Err-check-clause-any_moment : goal.returns-in-Err-check-clause-any_moment
 returns-in-Err-check-clause-any_moment g c x is may =
