@@ -155,16 +155,16 @@ audit_leaves old new audits.Failed why is back = subst (λ (w : OpenError). Leav
 audit_leaves old new audits.NoMemory why is back = subst (λ (w : OpenError). LeavesBytes old new w) (sym is) tt
 
 -- why a heap on an image that hasn't failed wasn't taken by the audit is why it isn't opened
-pub explains_audit : {T : Type 0} (told : Option (List ℕ)) (before now : ℕ) (bytes : List ℕ) (old new : Transaction) (why : AuditError) (result : OpenError)
+pub explains_audit : (T : Type 0) (told : Option (List ℕ)) (before now : ℕ) (bytes : List ℕ) (old new : Transaction) (why : AuditError) (result : OpenError)
     → IsOfAudit why result → IfTold told (λ x. put_back_of x ≡ Some bytes) → HasAuditReason {T = T} old new (Err why) → old.failed ≡ false
     → new.failed ≡ old.failed → TellsFirst bytes why → IsNoWorld bytes why → opening.ExplainsOpen told before now result
-explains_audit told before now bytes old new (audits.Damaged place check) result is gives reason sound failed wrong none =
+explains_audit T told before now bytes old new (audits.Damaged place check) result is gives reason sound failed wrong none =
     let P : OpenError → Type 0 = λ e. opening.ExplainsOpen told before now e in
     subst P (sym is) (λ x tells. record { heap = bytes; gives = gives x tells; wrong = wrong; none = none })
-explains_audit told before now bytes old new audits.DiskFault result is gives reason sound failed wrong none =
+explains_audit T told before now bytes old new audits.DiskFault result is gives reason sound failed wrong none =
     absurd (true≢false (sym reason.explained.1 ∙ failed ∙ sound))
-explains_audit told before now bytes old new audits.Failed result is gives reason sound failed wrong none =
+explains_audit T told before now bytes old new audits.Failed result is gives reason sound failed wrong none =
     absurd (true≢false (sym reason.explained.0 ∙ sound))
-explains_audit told before now bytes old new audits.NoMemory result is gives reason sound failed wrong none =
+explains_audit T told before now bytes old new audits.NoMemory result is gives reason sound failed wrong none =
     let P : OpenError → Type 0 = λ e. opening.ExplainsOpen told before now e in
     subst P (sym is) tt

@@ -34,7 +34,7 @@ returns-in-Err-check-clause-why g c =
     let f = g.D.Disk.faults in
     let e = c.in-Err-check.ensures in
     let o = c.in-Ok.ensures.opened in
-    explains_audit (b c.args.disk) (f c.args.disk) (f c.into_disk.result) c.in-Ok.image.bytes (transaction_of f c.in-Ok.image) (transaction_of f c.check.new.c)
+    explains_audit _ (b c.args.disk) (f c.args.disk) (f c.into_disk.result) c.in-Ok.image.bytes (transaction_of f c.in-Ok.image) (transaction_of f c.check.new.c)
     c.in-Err-check.why c.of_audit.result c.of_audit.ensures o.heap e.reads.cause o.sound e.reads.quiet.failed e.damaged e.none
 
 pub returns-in-Err-check-clause-any_moment : goal.returns-in-Err-check-clause-any_moment
