@@ -4,6 +4,7 @@ use Rattle.sdr_disk.specs.Pending.{IsSynced}
 use Rattle.sdr_disk.specs.Told.{Both}
 use Rattle.sdr_image.proofs.OutsideLemmas.{UnlessFault-then}
 use Rattle.sdr_log.specs.Calls.{KeepsRest}
+use Rattle.sdr_audit.specs.declared.census.Census.{Census}
 use Rattle.sdr_heap.specs.Noted.{Held}
 use Rattle.sdr_image.specs.Opened.{Opened, transaction_of}
 use Rattle.sdr_log.specs.Logged.{GivesSame}
@@ -34,7 +35,7 @@ returns-in-Err-check-clause-why g c =
     let f = g.D.Disk.faults in
     let e = c.in-Err-check.ensures in
     let o = c.in-Ok.ensures.opened in
-    explains_audit _ (b c.args.disk) (f c.args.disk) (f c.into_disk.result) c.in-Ok.image.bytes (transaction_of f c.in-Ok.image) (transaction_of f c.check.new.c)
+    explains_audit Census (b c.args.disk) (f c.args.disk) (f c.into_disk.result) c.in-Ok.image.bytes (transaction_of f c.in-Ok.image) (transaction_of f c.check.new.c)
     c.in-Err-check.why c.of_audit.result c.of_audit.ensures o.heap e.reads.cause o.sound e.reads.quiet.failed e.damaged e.none
 
 pub returns-in-Err-check-clause-any_moment : goal.returns-in-Err-check-clause-any_moment
