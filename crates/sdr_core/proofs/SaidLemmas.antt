@@ -133,8 +133,11 @@ module _ (f : Said → ℕ) where
     journal_more : (o : Option What) → in_journal f (journal_then o) ≡ in_journal f log.journal + in_some o
     journal_more None = let same = ap (λ j. in_journal f j) (append-nil log.journal) in omega (arith, same)
     journal_more (Some what) =
-        omega (arith, sum_by-append (λ (x : Entry). sum_by f (said_of x.what)) log.journal (entry_of u.number e what ∷ []),
-        sum_by-cons (λ (x : Entry). sum_by f (said_of x.what)) (entry_of u.number e what) [])
+        omega (
+          arith,
+          sum_by-append (λ (x : Entry). sum_by f (said_of x.what)) log.journal (entry_of u.number e what ∷ []),
+          sum_by-cons (λ (x : Entry). sum_by f (said_of x.what)) (entry_of u.number e what) [],
+        )
 
     -- an event adds no more than it says
     log_more : ClosesWithin e.said → in_works f (log_after u log e).works + in_journal f (log_after u log e).journal ≤ in_works f log.works + in_journal f log.journal + f e.said

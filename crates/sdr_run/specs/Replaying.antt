@@ -33,8 +33,14 @@ IsSettled d disk = IfTold (d.bytes disk) (λ x. MayBeOpened x (d.may_hold_after 
 -- a run of the script's daemons begins with the world on the heap that was opened, as its disk was handed in
 abbrev pub begins_on : {D M : Type 0} → MediaGhosts M → HandedDisk → List ScriptStep → Grounded D M → RunStart
 begins_on m was script g =
-    record { told = m.told g.media; daemons = daemons_of script; first = first_on g; start = was.moment; faults = was.faults;
-      lapses = record { faults = m.faults g.media; short = m.short g.media } }
+    record {
+      told = m.told g.media;
+      daemons = daemons_of script;
+      first = first_on g;
+      start = was.moment;
+      faults = was.faults;
+      lapses = record { faults = m.faults g.media; short = m.short g.media };
+    }
 
 -- what a schedule has come to, on this
 abbrev pub with_base : {S T : Type 0} → Ran S → T → Ran T
