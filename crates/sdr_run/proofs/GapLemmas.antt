@@ -12,6 +12,7 @@ use Rattle.mem_machine.specs.Asking.{AsksNothing, StepsAt, is_gap, made_dry}
 use Rattle.sdr_core.proofs.CausedLemmas.{failed_refl}
 use Rattle.sdr_core.specs.Caused.{IsCaused, SeenMedia, from_to}
 use Rattle.sdr_run.specs.Schedule.{Responds}
+
 -- an answer that tells of no gap needs no cause
 no_cause : (answer : Answer) (media : SeenMedia) → is_gap answer ≡ false → IsCaused answer (from_to media media)
 no_cause (answers.Reply replies.MediaFault) media whole = absurd (true≢false whole)
