@@ -5,7 +5,7 @@ use Rattle.sdr_base.specs.Media.{Told}
 use Rattle.sdr_base.specs.declared.media.Media.{Ghosts as MediaGhosts}
 use Rattle.sdr_core.specs.CoreKept.{AreMadeBetween, BeginsOn, IsRunOf}
 use Rattle.sdr_disk.specs.Moments.{AtEach}
-use Rattle.sdr_disk.specs.Told.{IfTold}
+use Rattle.sdr_disk.specs.Told.{Both, IfTold}
 use Rattle.sdr_disk.specs.declared.disk.Disk.{Ghosts as DiskGhosts}
 use Rattle.sdr_core.specs.Caused.{SeenMedia, from_to, media_change, seen_media}
 use Rattle.sdr_run.specs.Schedule.{daemons_of}
@@ -13,13 +13,14 @@ use Rattle.sdr_image.specs.Opening.{MayBeOpened}
 use Rattle.sdr_machine.specs.Legal.{IsLegal}
 use Rattle.sdr_machine.specs.Standing.{standing_at}
 use Rattle.sdr_machine.specs.declared.has_ground.HasGround.{Ghosts}
-use Rattle.sdr_log.specs.Calls.{KeepsDisk}
+use Rattle.sdr_log.specs.Calls.{KeepsDisk, KeepsRest}
 use Rattle.sdr_log.specs.Log.{put_back_of}
 use Rattle.sdr_log.specs.Logged.{GivesSame}
 use Rattle.sdr_model.specs.declared.journal.Entry.{Entry}
 use Rattle.sdr_model.specs.declared.script.ScriptStep.{ScriptStep}
-use Rattle.sdr_run.specs.Handed.{HandedDisk, handed_as}
+use Rattle.sdr_run.specs.Handed.{HandedDisk, StaysAsHanded, handed_as}
 use Rattle.sdr_run.specs.Playing.{Output, PlaysOut, RunsScript}
+use Rattle.sdr_run.proofs.HandedLemmas.{stays_rest}
 use Rattle.sdr_run.proofs.SettledLemmas.{ground_where}
 use Rattle.sdr_run.specs.Replaying.{IsNotRun, IsSettled, LeavesJournal, ReplaysOn, begins_on, with_base}
 use Rattle.sdr_run.specs.Settled.{StandsWhere}
@@ -114,12 +115,13 @@ module _ {D M : Type 0} (d : DiskGhosts D) (m : MediaGhosts M) (read_now : (x : 
   -- what the run leaves of the disk
   leaves_journal : (journal : List Entry) (base : Grounded D M)
       → IsRunOf (ground_of d m condition) (begins_on m (handed_as d disk) script g) journal base
-      → KeepsDisk d.size d.bytes disk base.heap.cells.disk → d.moment base.heap.cells.disk ≡ base.moment
-      → LeavesJournal d (m.told g.media) (daemons_of script) (first_on g) journal disk base.heap.cells.disk
-  leaves_journal journal base run keeps seen =
+      → KeepsDisk d.size d.bytes disk base.heap.cells.disk → Both (d.bytes disk) (d.bytes base.heap.cells.disk) KeepsRest
+      → d.moment base.heap.cells.disk ≡ base.moment → LeavesJournal d (m.told g.media) (daemons_of script) (first_on g) journal disk base.heap.cells.disk
+  leaves_journal journal base run keeps outside seen =
       let now = base.heap.cells.disk in
       record {
         keeps = keeps;
+        outside = outside;
         any_moment = λ settled x is m image from to left.
             let at = told_before (d.bytes now) (d.bytes disk) x is (sym keeps.tells) in
             run.crash m image from (omega (arith, to, seen)) (record { met = met.1 settled; left = record { bytes = at.0; tells = at.1; left = left } });
@@ -155,9 +157,10 @@ module _ {D M : Type 0} (d : DiskGhosts D) (m : MediaGhosts M) (read_now : (x : 
 
   replays_now : (out out' : Output) (ran : Ran (Grounded D M)) (parts : D × M)
       → PlaysOut (ground_of d m condition) (begins_on m (handed_as d disk) script g) script g out out' ran → parts.0 ≡ ran.base.heap.cells.disk
-      → KeepsDisk d.size d.bytes disk ran.base.heap.cells.disk → d.moment ran.base.heap.cells.disk ≡ ran.base.moment → parts.1 ≡ ran.base.media
+      → KeepsDisk d.size d.bytes disk ran.base.heap.cells.disk → Both (d.bytes disk) (d.bytes ran.base.heap.cells.disk) KeepsRest
+      → d.moment ran.base.heap.cells.disk ≡ ran.base.moment → parts.1 ≡ ran.base.media
       → ReplaysOn d m disk files script out out' (with_base ran parts)
-  replays_now out out' ran parts plays on keeps seen media_is =
+  replays_now out out' ran parts plays on keeps outside seen media_is =
       let tells : m.told g.media ≡ m.told files = ap m.told o.with_media in
       let shows : M → SeenMedia = seen_media m.told m.faults m.short in
       record {
@@ -172,7 +175,7 @@ module _ {D M : Type 0} (d : DiskGhosts D) (m : MediaGhosts M) (read_now : (x : 
         leaves =
             subst (λ (told : Option Told). LeavesJournal d told (daemons_of script) (first_on g) ran.journal disk parts.0) tells
             (subst (λ (x : D). LeavesJournal d (m.told g.media) (daemons_of script) (first_on g) ran.journal disk x) (sym on)
-            (leaves_journal ran.journal ran.base plays.run keeps seen));
+            (leaves_journal ran.journal ran.base plays.run keeps outside seen));
         failed = plays.failed;
       }
 
@@ -186,13 +189,17 @@ module _ {D M : Type 0} (d : DiskGhosts D) (m : MediaGhosts M) (read_now : (x : 
     -- what it has come to, on a disk that stays as long and tells its bytes if it did
     pub replayed : (out out' : Output) (ran : Ran (Grounded D M)) (result : Ran (D × M))
         → PlaysOut (ground_of d m condition) (begins_on m was script g) script g out out' ran → result ≡ with_base ran result.base
-        → result.base.0 ≡ ran.base.heap.cells.disk → d.size result.base.0 ≡ was.size → is_some (d.bytes result.base.0) ≡ was.tells
+        → result.base.0 ≡ ran.base.heap.cells.disk → d.size result.base.0 ≡ was.size
+        → StaysAsHanded was.bytes (d.bytes result.base.0) ran.base.heap.cells.frame
         → d.moment result.base.0 ≡ ran.base.moment → result.base.1 ≡ ran.base.media → ReplaysOn d m disk files script out out' result
-    replayed out out' ran result plays is on size tells seen media_is =
+    replayed out out' ran result plays is on size stays seen media_is =
         let keeps : KeepsDisk d.size d.bytes disk result.base.0 =
-        record { size = size ∙ ap (λ (w : HandedDisk). w.size) handed; tells = tells ∙ ap (λ (w : HandedDisk). w.tells) handed } in
+        record { size = size ∙ ap (λ (w : HandedDisk). w.size) handed; tells = stays.tells ∙ ap (λ (w : HandedDisk). is_some w.bytes) handed } in
+        let outside : Both (d.bytes disk) (d.bytes result.base.0) KeepsRest =
+        subst (λ (w : HandedDisk). Both w.bytes (d.bytes result.base.0) KeepsRest) handed (stays_rest _ _ _ stays) in
         subst (λ (r : Ran (D × M)). ReplaysOn d m disk files script out out' r) (sym is)
         (replays_now out out' ran result.base
         (subst (λ (w : HandedDisk). PlaysOut (ground_of d m condition) (begins_on m w script g) script g out out' ran) handed plays) on
-        (subst (λ (x : D). KeepsDisk d.size d.bytes disk x) on keeps) (subst (λ (x : D). d.moment x ≡ ran.base.moment) on seen)
+        (subst (λ (x : D). KeepsDisk d.size d.bytes disk x) on keeps)
+        (subst (λ (x : D). Both (d.bytes disk) (d.bytes x) KeepsRest) on outside) (subst (λ (x : D). d.moment x ≡ ran.base.moment) on seen)
         media_is)

@@ -6,7 +6,7 @@ use Rattle.sdr_base.specs.declared.media.Media.{Ghosts as MediaGhosts}
 use Rattle.sdr_core.specs.CoreKept.{AreMadeBetween, RunStart}
 use Rattle.sdr_disk.specs.Moments.{AtEach}
 use Rattle.sdr_disk.specs.Pending.{IsSynced}
-use Rattle.sdr_disk.specs.Told.{IfTold}
+use Rattle.sdr_disk.specs.Told.{Both, IfTold}
 use Rattle.sdr_disk.specs.declared.disk.Disk.{Ghosts as DiskGhosts}
 use Rattle.sdr_core.specs.Caused.{media_change}
 use Rattle.sdr_run.specs.Schedule.{daemons_of}
@@ -14,7 +14,7 @@ use Rattle.sdr_image.specs.Opening.{MayBeOpened}
 use Rattle.sdr_machine.specs.Crash.{IsCrashSafe, OpensAfter, OpensTo, done_by, is_sound}
 use Rattle.sdr_machine.specs.Ground.{State}
 use Rattle.sdr_machine.specs.Legal.{IsAfter, IsLegal}
-use Rattle.sdr_log.specs.Calls.{KeepsDisk}
+use Rattle.sdr_log.specs.Calls.{KeepsDisk, KeepsRest}
 use Rattle.sdr_log.specs.Log.{first_gate}
 use Rattle.sdr_log.specs.Logged.{GivesSame}
 use Rattle.sdr_model.specs.declared.journal.Entry.{Entry}
@@ -23,7 +23,7 @@ use Rattle.sdr_run.specs.Handed.{HandedDisk}
 use Rattle.sdr_run.specs.Playing.{Output, RunsScript}
 use Rattle.sdr_run.specs.declared.playing.Ran.{Ran}
 use Rattle.sdr_station.specs.Grounded.{Grounded, OpensAs}
-use Rattle.sdr_station.specs.Opening.{ExplainsOpen, IsOpen, LeavesBytes, first_on}
+use Rattle.sdr_station.specs.Opening.{ExplainsOpen, IsOpen, LeavesBytes, MayBeAgain, first_on}
 use Rattle.sdr_station.specs.declared.error.OpenError.{OpenError}
 
 -- nothing is pending on a disk that is handed in, or in lines alone that its open batches name
@@ -53,6 +53,8 @@ pub record LeavesJournal {D : Type 0} (d : DiskGhosts D) (told : Option Told) (d
     (old new : D) : Type 0 where
   -- the disk is as long, and tells its bytes if it did
   pub keeps : KeepsDisk d.size d.bytes old new
+  -- no byte outside the regions of which its head tells has changed
+  pub outside : Both (d.bytes old) (d.bytes new) KeepsRest
   -- at each moment of the call a crash leaves the state after some first entries, and all that are done
   pub any_moment : IsSettled d old → IfTold (d.bytes old) (λ _.
       IsCrashSafe d.moment d.may_hold_after (OpensAfter OpensAs told daemons first journal) (d.moment old) journal new)
@@ -99,6 +101,10 @@ pub record IsNotRun {D : Type 0} (d : DiskGhosts D) (disk disk' : D) (cause : Op
   -- the heap is damaged
   pub keeps : KeepsDisk d.size d.bytes disk disk'
   pub bytes : LeavesBytes (d.bytes disk) (d.bytes disk') cause
+  -- no byte outside the regions of which its head tells has changed, and none at all where it tells of none
+  pub outside : Both (d.bytes disk) (d.bytes disk') KeepsRest
+  -- the disk may be handed in again, where it was settled and hasn't failed; and where the heap is damaged nothing is pending
+  pub again : MayBeAgain d.bytes d.moment d.may_hold_after disk disk' cause
   -- where the disk was settled, at each moment of the call a crash leaves what gives the same heap, or none as before
   pub any_moment : IsSettled d disk → IfTold (d.bytes disk) (λ x. AtEach d.moment d.may_hold_after disk disk' (GivesSame x))
   -- no count of faults has fallen

@@ -34,13 +34,13 @@ impl<D: Disk, J: HandedIn> Model for Handed<D, J> {
     ghost view = { λ h. h.disk };
 
     ghost invariant = { λ h. (D.size h.disk ≡ J.was.size)
-        × (is_some (D.bytes h.disk) ≡ J.was.tells) };
+        × (is_some (D.bytes h.disk) ≡ is_some J.was.bytes) };
 }
 
 impl<D: Disk, J: HandedIn> Handed<D, J> {
     pub fn new(disk: D) -> Handed<D, J>
         requires size { D.size disk ≡ J.was.size }
-        requires tells { is_some (D.bytes disk) ≡ J.was.tells }
+        requires tells { is_some (D.bytes disk) ≡ is_some J.was.bytes }
         ensures { result ≡ disk }
     {
         Handed {
@@ -52,7 +52,7 @@ impl<D: Disk, J: HandedIn> Handed<D, J> {
     pub fn into_disk(self) -> D
         ensures disk { result ≡ self }
         ensures size { D.size result ≡ J.was.size }
-        ensures tells { is_some (D.bytes result) ≡ J.was.tells }
+        ensures tells { is_some (D.bytes result) ≡ is_some J.was.bytes }
     {
         let Handed { disk, of: _ } = self;
         disk

@@ -9,30 +9,38 @@ use std::marker::Model;
 use zco_acct::Compares;
 
 /// A heap on a disk that was handed in, with its media. What a crash leaves of it is told where the disk was settled
-/// as it was handed in; all else is told of every disk.
+/// as it was handed in; all else is told of every disk. No byte outside the regions changes.
 pub struct HandedGround<D: Disk, M: Media, J: HandedIn> {
     ground: HeapGround<Handed<D, J>, M, Compares>,
 }
 
 impl<D: Disk, M: Media, J: HandedIn> Model for HandedGround<D, M, J> {
+    ghost use Rattle.sdr_run.specs.Handed.{StaysAsHanded};
     ghost use Rattle.sdr_station.specs.Grounded.{Grounded};
 
     ghost Value = { Grounded D M };
 
     ghost view = { λ s. s.ground };
+
+    ghost invariant = { λ s. StaysAsHanded J.was.bytes
+        (D.bytes s.ground.heap.cells.disk) s.ground.heap.cells.frame };
 }
 
 impl<D: Disk, M: Media, J: HandedIn> HandedGround<D, M, J> {
     ghost use Rattle.std.specs.Prelude.{◌≡◌};
+    ghost use Rattle.sdr_run.specs.Handed.{StaysAsHanded};
 
     pub fn new(ground: HeapGround<Handed<D, J>, M, Compares>) -> HandedGround<D, M, J>
+        requires { StaysAsHanded J.was.bytes (D.bytes ground.heap.cells.disk) ground.heap.cells.frame }
         ensures { result ≡ ground }
     {
         HandedGround { ground }
     }
 
     pub fn into_ground(self) -> HeapGround<Handed<D, J>, M, Compares>
-        ensures { result ≡ self }
+        ensures same { result ≡ self }
+        ensures stays { StaysAsHanded J.was.bytes (D.bytes result.heap.cells.disk)
+            result.heap.cells.frame }
     {
         let HandedGround { ground } = self;
         ground

@@ -1,6 +1,6 @@
 // A schedule that runs on the heap of a disk.
-ghost use Rattle.std.specs.Prelude.{◌≡◌, ◌≤◌, ◌↔◌, IfErr, IfOk, is_some, length};
-ghost use Rattle.sdr_run.specs.Handed.{handed_as};
+ghost use Rattle.std.specs.Prelude.{◌≡◌, ◌≤◌, ◌↔◌, IfErr, IfOk, length};
+ghost use Rattle.sdr_run.specs.Handed.{StaysAsHanded, handed_as};
 ghost use Rattle.sdr_run.specs.Playing.{output};
 ghost use Rattle.sdr_run.specs.Replaying.{IsNotRun, IsSettled, ReplaysOn, with_base};
 
@@ -20,7 +20,7 @@ fn with_parts<D: Disk, M: Media, J: HandedIn>(ran: Ran<HandedGround<D, M, J>>) -
     ensures same { result ≡ with_base ran result.base }
     ensures disk { result.base.0 ≡ ran.base.heap.cells.disk }
     ensures size { D.size result.base.0 ≡ J.was.size }
-    ensures tells { is_some (D.bytes result.base.0) ≡ J.was.tells }
+    ensures stays { StaysAsHanded J.was.bytes (D.bytes result.base.0) ran.base.heap.cells.frame }
     ensures seen { D.moment result.base.0 ≡ ran.base.moment }
     ensures media { result.base.1 ≡ ran.base.media }
 {

@@ -10,11 +10,11 @@ use Rattle.sdr_image.specs.Opening.{MayBeOpened}
 use Rattle.sdr_log.specs.Logged.{GivesSame}
 use Rattle.sdr_shell.proofs.ShutLemmas.{by_shut, by_world, shut_not_usage, shut_status}
 use Rattle.sdr_shell.specs.Answers.{Seen, Wrote}
-use Rattle.sdr_shell.specs.Recovering.{AnswersRecover, IsRecovered, RecoversTo, line_recovered}
+use Rattle.sdr_shell.specs.Recovering.{AnswersRecover, IsNotOpened, IsRecovered, RecoversTo, line_recovered}
 use Rattle.sdr_shell.specs.Shutting.{line_shut, status_shut}
 use Rattle.sdr_shell.specs.declared.status.TheConstants.{DONE, OUTPUT_FAULT, USAGE}
 use Rattle.sdr_station.specs.Grounded.{Grounded}
-use Rattle.sdr_station.specs.Opening.{ExplainsOpen, IsOpen, LeavesBytes, first_on}
+use Rattle.sdr_station.specs.Opening.{IsOpen, first_on}
 use Rattle.sdr_station.specs.declared.error.OpenError.{OpenError}
 
 -- a heap that was opened is put back
@@ -71,11 +71,11 @@ opened_answers {D} d status disk disk' sink sink' g count count_is same opened m
 
 -- one that wasn't opened answers so, where the last line tells why
 pub shut_answers : {D : Type 0} (d : DiskGhosts D) (status : ℕ) (disk disk' : D) (why : OpenError) (sink sink' : Seen) → status ≡ status_shut why
-    → ExplainsOpen (d.bytes disk) (d.faults disk) (d.faults disk') why → LeavesBytes (d.bytes disk) (d.bytes disk') why
+    → IsNotOpened d disk disk' why
     → IfTold (d.bytes disk) (λ x. MayBeOpened x (d.may_hold_after disk (d.moment disk)) → AtEach d.moment d.may_hold_after disk disk' (GivesSame x))
     → Wrote sink sink' (line_shut why) → AnswersRecover d status disk disk' sink sink'
-shut_answers d status disk disk' why sink sink' is explained bytes moments written =
-    recover_answers d status disk disk' sink sink' (RecoversTo.shut why is (record { explained = explained; bytes = bytes }) written) moments
+shut_answers d status disk disk' why sink sink' is shut moments written =
+    recover_answers d status disk disk' sink sink' (RecoversTo.shut why is shut written) moments
 
 -- no recovery answers that the words are no form
 pub never_usage : {D : Type 0} (d : DiskGhosts D) (status : ℕ) (disk disk' : D) (sink sink' : Seen) → RecoversTo d status disk disk' sink sink'

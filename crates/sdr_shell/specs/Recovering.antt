@@ -10,7 +10,7 @@ use Rattle.sdr_disk.specs.Pending.{IsSynced}
 use Rattle.sdr_disk.specs.Told.{Both, IfTold}
 use Rattle.sdr_disk.specs.declared.disk.Disk.{Ghosts as DiskGhosts}
 use Rattle.sdr_image.specs.Opening.{MayBeOpened}
-use Rattle.sdr_log.specs.Calls.{PutsBack}
+use Rattle.sdr_log.specs.Calls.{KeepsRest, PutsBack}
 use Rattle.sdr_log.specs.Log.{put_back_of}
 use Rattle.sdr_log.specs.Logged.{GivesSame}
 use Rattle.sdr_log.specs.declared.frame.Frame.{Frame}
@@ -18,7 +18,7 @@ use Rattle.sdr_model.specs.World.{World}
 use Rattle.sdr_shell.specs.Answers.{Seen, Wrote}
 use Rattle.sdr_shell.specs.Shutting.{line_shut, status_shut}
 use Rattle.sdr_shell.specs.declared.status.TheConstants.{DONE, OUTPUT_FAULT, NOT_FORMATTED, DAMAGED, NO_MEMORY}
-use Rattle.sdr_station.specs.Opening.{ExplainsOpen, LeavesBytes}
+use Rattle.sdr_station.specs.Opening.{ExplainsOpen, LeavesBytes, MayBeAgain}
 use Rattle.sdr_station.specs.declared.error.OpenError.{OpenError}
 
 -- the line that tells how many lines were put back
@@ -54,10 +54,13 @@ pub record IsRecovered {D : Type 0} (d : DiskGhosts D) (disk disk' : D) (count :
       → IsSynced d.bytes d.moment d.may_hold_after disk'
 
 -- The heap of the disk isn't opened, for this reason. The disk's bytes are the same, where it gives no heap; and the open batches are
--- put back and closed, where no world stands for it.
+-- put back and closed, where no world stands for it. No byte outside the regions of which its head tells has changed. Unless it failed
+-- it may be handed in again, where it might be before; and nothing is pending, where no world stands for the heap.
 pub record IsNotOpened {D : Type 0} (d : DiskGhosts D) (disk disk' : D) (why : OpenError) : Type 0 where
   pub explained : ExplainsOpen (d.bytes disk) (d.faults disk) (d.faults disk') why
   pub bytes : LeavesBytes (d.bytes disk) (d.bytes disk') why
+  pub outside : Both (d.bytes disk) (d.bytes disk') KeepsRest
+  pub again : MayBeAgain d.bytes d.moment d.may_hold_after disk disk' why
 
 -- what a recovery came to, which its status tells
 pub data RecoversTo {D : Type 0} (d : DiskGhosts D) (status : ℕ) (disk disk' : D) (sink sink' : Seen) : Type 0 where

@@ -13,4 +13,10 @@ pub returns-in-Err-clause-answers : goal.returns-in-Err-clause-answers
 returns-in-Err-clause-answers g c =
     shut_answers g.D.Disk c.tell_shut-status.result c.args.disk c.in-Err.field-0.disk c.in-Err.field-0.why
     (seen g.K.Sink.taken g.K.Sink.faults c.args.output.now) (seen g.K.Sink.taken g.K.Sink.faults c.tell_shut-status.new.output)
-    c.tell_shut-status.ensures.status c.in-Err.ensures.why c.in-Err.ensures.bytes c.in-Err.ensures.any_moment c.tell_shut-status.ensures.written
+    c.tell_shut-status.ensures.status
+    (record {
+      explained = c.in-Err.ensures.why;
+      bytes = c.in-Err.ensures.bytes;
+      outside = c.in-Err.ensures.inside;
+      again = c.in-Err.ensures.again;
+    }) c.in-Err.ensures.any_moment c.tell_shut-status.ensures.written

@@ -2,6 +2,7 @@ use Rattle.std.proofs.Common.{subst, false}
 use Rattle.sdr_machine.specs.Crash.{LeavesEither}
 use Rattle.sdr_machine.specs.Serving.{Brings, Commits, KeepsGround, MeetsFault}
 use Rattle.sdr_machine.specs.Standing.{GroundState}
+use Rattle.sdr_run.proofs.HandedLemmas.{stays_more}
 use Rattle.sdr_run.proofs.SettledLemmas.{brings_where, ground_where, keeps_where, leaves_either_where, meets_where, on_ok_both}
 use Rattle.sdr_run.specs.Settled.{StandsWhere}
 use Rattle.sdr_station.specs.Grounded.{Grounded}
@@ -40,3 +41,7 @@ returns-clause-any_moment g c =
     let d = g.D.Disk in
     subst (λ (o : Grounded D M). LeavesEither (ground_where g.J.HandedIn.condition d.bytes d.moment d.faults d.may_hold_after g.M.Media) o c.keep.new.self) c.self.view_is
     (leaves_either_where g.J.HandedIn.condition d.bytes d.moment d.faults d.may_hold_after g.M.Media c.self.inside.ground c.keep.new.self c.keep.ensures.time c.keep.ensures.any_moment)
+
+pub invariant_of-self : goal.invariant_of-self
+invariant_of-self g c =
+    stays_more g.D.Disk.bytes g.J.HandedIn.was.bytes c.self.inside.ground c.keep.new.self c.self.invariant c.keep.ensures.inside

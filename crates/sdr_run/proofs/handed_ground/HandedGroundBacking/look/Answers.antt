@@ -2,6 +2,7 @@ use Rattle.std.proofs.Common.{subst, false}
 use Rattle.sdr_machine.specs.Crash.{LeavesBefore}
 use Rattle.sdr_machine.specs.Serving.{Brings, KeepsGround, MeetsFault, Shows}
 use Rattle.sdr_machine.specs.Standing.{GroundState}
+use Rattle.sdr_run.proofs.HandedLemmas.{stays_more}
 use Rattle.sdr_run.proofs.SettledLemmas.{brings_where, ground_where, if_ok_both, keeps_where, leaves_where, meets_where, on_err_more}
 use Rattle.sdr_run.specs.Settled.{StandsWhere}
 use Rattle.sdr_station.specs.Grounded.{Grounded}
@@ -42,3 +43,7 @@ returns-clause-any_moment g c =
     let d = g.D.Disk in
     subst (λ (o : Grounded D M). LeavesBefore (ground_where g.J.HandedIn.condition d.bytes d.moment d.faults d.may_hold_after g.M.Media) o c.look.new.self) c.self.view_is
     (leaves_where g.J.HandedIn.condition d.bytes d.moment d.faults d.may_hold_after g.M.Media c.self.inside.ground c.look.new.self c.look.ensures.time c.look.ensures.any_moment)
+
+pub invariant_of-self : goal.invariant_of-self
+invariant_of-self g c =
+    stays_more g.D.Disk.bytes g.J.HandedIn.was.bytes c.self.inside.ground c.look.new.self c.self.invariant c.look.ensures.inside
