@@ -29,13 +29,13 @@ pub stays_opened : {D M : Type 0} (d : DiskGhosts D) (was : HandedDisk) (given d
     → IsOpen d.bytes d.moment d.may_hold_after given g → KeepsDisk d.size d.bytes given g.heap.cells.disk
     → Both (d.bytes given) (d.bytes g.heap.cells.disk) KeepsRest
     → StaysAsHanded was.bytes (d.bytes g.heap.cells.disk) g.heap.cells.frame
-stays_opened {D} d was given disk g handed same open keeps rest =
+stays_opened {D} d was given disk g handed same opened keeps rest =
     subst (λ (o : Option (List ℕ)). StaysAsHanded o (d.bytes g.heap.cells.disk) g.heap.cells.frame)
     (ap d.bytes same ∙ sym (ap (λ (w : HandedDisk). w.bytes) handed))
     (record {
-      head = open.head;
+      head = opened.head;
       tells = keeps.tells;
-      outside = λ x is y now. (rest x is y now).outside g.heap.cells.frame (open.head x is);
+      outside = λ x is y now. (rest x is y now).outside g.heap.cells.frame (opened.head x is);
     })
 
 -- so no byte outside the regions of which its head tells has changed
@@ -45,6 +45,6 @@ stays_rest was now f stays = rest_outside f was now stays.head stays.outside
 -- a disk on which a heap was just opened may be handed in again
 pub open_again : {D M : Type 0} (d : DiskGhosts D) (disk : D) (g : Grounded D M) (why : OpenError) → IsOpen d.bytes d.moment d.may_hold_after disk g
     → MayBeAgain d.bytes d.moment d.may_hold_after disk g.heap.cells.disk why
-open_again d disk g why open =
+open_again d disk g why opened =
     synced_again d.bytes d.moment d.may_hold_after disk g.heap.cells.disk why
-    (λ may y now. ((open.stands may).rests open.sound y now).rest.only)
+    (λ may y now. ((opened.stands may).rests opened.sound y now).rest.only)
