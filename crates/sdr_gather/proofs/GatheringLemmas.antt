@@ -1,10 +1,11 @@
 -- What reads of media give of pieces.
-use Rattle.std.proofs.Common.{◌≡◌, ◌≤◌, ◌<◌, ◌||◌, ℕ, suc, List, [], ◌∷◌, ◌++◌, Bool, true, false, Option, None, Some, length, take, drop, min, refl, sym, ap, ◌∙◌, subst, arith, IfSome, append_assoc, append-nil, length-append, ◌⊎◌, inl, inr, Result, Ok, Err, IfOk, OnErr}
+use Rattle.std.proofs.Common.{◌≡◌, ◌≤◌, ◌<◌, ◌+◌, ◌||◌, ℕ, suc, List, [], ◌∷◌, ◌++◌, Bool, true, false, Option, None, Some, length, take, drop, min, refl, sym, ap, ◌∙◌, subst, arith, IfSome, append_assoc, append-nil, add-zero, cond, length-append, ◌⊎◌, inl, inr, Result, Ok, Err, IfOk, OnErr}
 use Rattle.std.specs.List.{list_any}
 use Rattle.std.specs.Prelude.{MatchBool, nat_lt}
 use Rattle.std.proofs.lemmas.Bool.{le-ltb, lt-ltb}
 use Rattle.std.proofs.Math.Seq.{take-length}
 use Rattle.std.proofs.lemmas.List.{length-map, length-replicate, length-take}
+use Rattle.std.proofs.lemmas.List.Sums.{sum_by-cons}
 use Rattle.sdr_base.specs.Media.{GivesFrom, Told, file_bytes, item_bytes}
 use Rattle.sdr_machine.specs.Agreeing.{IsFirstShort}
 use Rattle.sdr_machine.specs.Ground.{lies_with_media}
@@ -14,7 +15,16 @@ use Rattle.sdr_model.specs.declared.piece.Piece.{Piece}
 use Rattle.sdr_model.specs.declared.piece.Piece.TheVariants as pieces
 use Rattle.sdr_gather.specs.declared.gathering.Gap.{Gap}
 use Rattle.sdr_gather.specs.declared.gathering.Gap.TheVariants as gaps
-use Rattle.sdr_gather.specs.Gathering.{AddsPiece, AreGathered, Gathering, HasGiven, IsGapIn, IsGapOf, OfMedia}
+use Rattle.sdr_gather.specs.Gathering.{AddsPiece, AreGathered, Gathering, HasGiven, IsGapIn, IsGapOf, OfMedia, count_outside}
+
+-- how many of these lie with media is that of the first and of the others
+pub count_outside-cons : (piece : Piece) (rest : List Piece) → count_outside (piece ∷ rest) ≡ count_outside (piece ∷ []) + count_outside rest
+count_outside-cons piece rest =
+    let all : count_outside (piece ∷ rest) ≡ cond (lies_with_media piece) 1 0 + count_outside rest =
+    sum_by-cons (λ (p : Piece). cond (lies_with_media p) 1 0) piece rest in
+    let alone : count_outside (piece ∷ []) ≡ cond (lies_with_media piece) 1 0 + 0 =
+    sum_by-cons (λ (p : Piece). cond (lies_with_media p) 1 0) piece [] in
+    all ∙ ap (λ n. n + count_outside rest) (sym (alone ∙ add-zero (cond (lies_with_media piece) 1 0)))
 
 -- known bytes are spelled by themselves
 pub spells_known : (bytes : List ℕ) → Spells (known bytes) bytes

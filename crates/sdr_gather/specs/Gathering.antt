@@ -1,5 +1,5 @@
 -- What is gathered of the pieces that a call asks for.
-use Rattle.std.specs.Prelude.{◌≡◌, ◌<◌, ◌≤◌, ℕ, Bool, true, List, ◌++◌, length, Option, IfSome, ⊤}
+use Rattle.std.specs.Prelude.{◌≡◌, ◌<◌, ◌≤◌, ℕ, Bool, true, List, ◌++◌, count_by, length, Option, IfSome, ⊤}
 use Rattle.std.specs.List.{list_any}
 use Rattle.sdr_base.specs.Media.{Told}
 use Rattle.sdr_machine.specs.Agreeing.{IsFirstShort}
@@ -9,6 +9,10 @@ use Rattle.sdr_model.specs.Wire.{Spells}
 use Rattle.sdr_model.specs.declared.piece.Piece.{Piece}
 use Rattle.sdr_gather.specs.declared.gathering.Gap.{Gap}
 use Rattle.sdr_gather.specs.declared.gathering.Gap.TheVariants as gaps
+
+-- how many of these pieces lie with media
+abbrev pub count_outside : List Piece → ℕ
+count_outside = count_by lies_with_media
 
 -- these are the bytes of a piece: those that the world tells, and where media tell, those that they hold
 pub record GivesPiece (told : Option Told) (piece : Piece) (bytes : List ℕ) : Type 0 where

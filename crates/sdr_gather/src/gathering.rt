@@ -1,10 +1,10 @@
 // What a call reads of media.
-ghost use Rattle.std.specs.Prelude.{◌≡◌, ◌≤◌, ◌⊎◌, IfErr, IfOk, OnErr, OnOk, length};
+ghost use Rattle.std.specs.Prelude.{◌≡◌, ◌≤◌, ◌+◌, ◌⊎◌, ◌∷◌, [], IfErr, IfOk, OnErr, OnOk, length};
 ghost use Rattle.std.specs.List.{list_any};
 ghost use Rattle.sdr_base.specs.Causes.{Rose};
 ghost use Rattle.sdr_machine.specs.Ground.{lies_with_media};
 ghost use Rattle.sdr_model.specs.Pieces.{piece_length, pieces_told};
-ghost use Rattle.sdr_gather.specs.Gathering.{AddsPiece, AreGathered, GivesPiece, HasGiven, IsGapIn, IsGapOf, OfMedia};
+ghost use Rattle.sdr_gather.specs.Gathering.{AddsPiece, AreGathered, GivesPiece, HasGiven, IsGapIn, IsGapOf, OfMedia, count_outside};
 
 use sdr_base::{Bytes, Media, MediaFault, NoMemory};
 use sdr_model::Piece;
@@ -54,6 +54,7 @@ fn ask<M: Media>(media: &mut M, piece: &Piece, into: &mut [u8]) -> Result<u64, M
     ensures told { M.told media.new ≡ M.told media.old }
     ensures faults { M.faults media.old ≤ M.faults media.new }
     ensures short { M.short media.old ≤ M.short media.new }
+    ensures asks { M.asks media.new ≤ M.asks media.old + count_outside (piece.now ∷ []) }
 {
     match piece {
         Piece::Known(bytes) => {
@@ -75,6 +76,7 @@ fn read_piece<M: Media>(media: &mut M, piece: &Piece, into: &mut [u8]) -> Result
     ensures told { M.told media.new ≡ M.told media.old }
     ensures faults { M.faults media.old ≤ M.faults media.new }
     ensures short { M.short media.old ≤ M.short media.new }
+    ensures asks { M.asks media.new ≤ M.asks media.old + count_outside (piece.now ∷ []) }
 {
     let have = ask(media, piece, into)?;
     let want = into.len() as u64;
@@ -102,6 +104,7 @@ fn add_piece<M: Media>(
     ensures told { M.told media.new ≡ M.told media.old }
     ensures faults { M.faults media.old ≤ M.faults media.new }
     ensures short { M.short media.old ≤ M.short media.new }
+    ensures asks { M.asks media.new ≤ M.asks media.old + count_outside (piece.now ∷ []) }
 {
     let into = &mut page[..piece.len()];
     read_piece(media, piece, into)?;
@@ -121,6 +124,7 @@ pub fn gather<M: Media>(alloc: Global, media: &mut M, pieces: &[Piece]) -> Resul
     ensures told { M.told media.new ≡ M.told media.old }
     ensures faults { M.faults media.old ≤ M.faults media.new }
     ensures short { M.short media.old ≤ M.short media.new }
+    ensures asks { M.asks media.new ≤ M.asks media.old + count_outside pieces.now }
 {
     let mut page = [0u8; 4096];
     let mut bytes = Vec::new(alloc);

@@ -4,9 +4,10 @@
 //! 2. Where media have fewer bytes of a piece than it has, the read stops there and says so.
 //!
 //! Proved: `gather` gives the bytes of all pieces, those of media as media tell them (`gathered`), or why it
-//! can't: media failed, or had too few bytes of a piece, and the count of that rose (`gap`).
+//! can't: media failed, or had too few bytes of a piece, and the count of that rose (`gap`). On every outcome media
+//! are asked at most once for each piece that lies with them (`asks`).
 //!
-//! Only tested: its answers (`tests/cases`). That `dry` asks media once for each piece is not tested.
+//! Only tested: its answers (`tests/cases`).
 #![tactic(auto)]
 
 mod gathering;

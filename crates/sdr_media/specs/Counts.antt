@@ -3,6 +3,10 @@ use Rattle.std.specs.Prelude.{ℕ, nat_lt, if◌then◌else◌}
 use Rattle.sdr_base.specs.Causes.{counted}
 use Rattle.sdr_media.specs.declared.counts.Counts.{Counts}
 
+-- after one read more
+abbrev pub asked : Counts → Counts
+asked c = record c { asks = counted c.asks }
+
 -- after one fault more
 abbrev pub failed : Counts → Counts
 failed c = record c { faults = counted c.faults }

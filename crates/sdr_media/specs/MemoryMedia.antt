@@ -3,17 +3,15 @@ use Rattle.std.specs.Prelude.{◌≡◌, ◌==◌, ◌↔◌, ℕ, List, [], Boo
 use Rattle.std.specs.Prelude.{Contains, IsErr, bytes_eq, drop, find, length}
 use Rattle.std.specs.declared.option.Option.{Option}
 use Rattle.std.specs.Option.{option_map_or}
-use Rattle.sdr_base.specs.Causes.{counted}
 use Rattle.sdr_base.specs.Media.{Told}
-use Rattle.sdr_media.specs.Counts.{answered, failed}
+use Rattle.sdr_media.specs.Counts.{answered, asked, failed}
 use Rattle.sdr_media.specs.declared.counts.Counts.{Counts}
 
--- the files by path and the items by number, the calls so far, their faults and short answers, and
+-- the files by path and the items by number, the calls so far with their faults and short answers, and
 -- the numbers of the calls that fail
 pub record Stock : Type 0 where
   pub files : List (List ℕ × List ℕ)
   pub items : List (ℕ × List ℕ)
-  pub calls : ℕ
   pub counts : Counts
   pub failing : List ℕ
 
@@ -39,12 +37,12 @@ told_of m = Some (told_by m.files m.items)
 
 -- after one call more
 abbrev pub called : Stock → Stock
-called m = record m { calls = counted m.calls }
+called m = record m { counts = asked m.counts }
 
 -- after a read that was answered so where so many bytes were asked for
 abbrev pub read_by : {E : Type 0} → Result ℕ E → ℕ → Stock → Stock
-read_by (Ok n) asked m = record (called m) { counts = answered n asked m.counts }
-read_by (Err _) asked m = record (called m) { counts = failed m.counts }
+read_by (Ok n) want m = record m { counts = answered n want (asked m.counts) }
+read_by (Err _) want m = record m { counts = failed (asked m.counts) }
 
 -- what stands behind the bytes that were given is as before, and all of it where the read failed
 abbrev pub LeavesRest : {E : Type 0} → Result ℕ E → List ℕ → List ℕ → Type 0
@@ -54,6 +52,6 @@ LeavesRest (Err _) before after = after ≡ before
 -- how a read is answered, what the media are then, and what it leaves of the buffer: it fails just where the call's
 -- number is listed
 pub record AnswersRead {E : Type 0} (result : Result ℕ E) (old new : Stock) (before after : List ℕ) : Type 0 where
-  pub fails : IsErr result ↔ Contains old.failing new.calls
+  pub fails : IsErr result ↔ Contains old.failing new.counts.asks
   pub read : new ≡ read_by result (length after) old
   pub rest : LeavesRest result before after

@@ -1,26 +1,36 @@
 // What media count.
-ghost use Rattle.std.specs.Prelude.{◌≡◌, ◌≤◌};
+ghost use Rattle.std.specs.Prelude.{◌≡◌, ◌+◌, ◌≤◌};
 
 use sdr_base::MediaFault;
 
-/// How often media failed, and how often they gave fewer bytes than were asked for. Each count stops
-/// at 2^64 − 1.
+/// How often media were read, how often they failed, and how often they gave fewer bytes than were
+/// asked for. Each count stops at 2^64 − 1.
 #[derive(Drop)]
 pub struct Counts {
+    pub asks: u64,
     pub faults: u64,
     pub short: u64,
 }
 
 impl Counts {
-    ghost use Rattle.sdr_media.specs.Counts.{answered, failed};
+    ghost use Rattle.sdr_media.specs.Counts.{answered, asked, failed};
 
     pub fn new() -> Counts
-        ensures { result ≡ record { faults = 0; short = 0 } }
+        ensures { result ≡ record { asks = 0; faults = 0; short = 0 } }
     {
         Counts {
+            asks: 0,
             faults: 0,
             short: 0,
         }
+    }
+
+    /// Counts a read, before its answer.
+    pub fn count_ask(&mut self)
+        ensures counted { self.new ≡ asked self.old }
+        ensures once { self.new.asks ≤ self.old.asks + 1 }
+    {
+        self.asks = self.asks.saturating_add(1);
     }
 
     /// Counts a fault.

@@ -1,8 +1,8 @@
 // A folder of the system as media.
-ghost use Rattle.std.specs.Prelude.{◌≡◌, ◌≤◌, ◌↔◌, ◌++◌, Contains, IfOk, IfSome, IsErr, IsSome, IsUtf8};
+ghost use Rattle.std.specs.Prelude.{◌≡◌, ◌+◌, ◌≤◌, ◌↔◌, ◌++◌, Contains, IfOk, IfSome, IsErr, IsSome, IsUtf8};
 ghost use Rattle.std.specs.Prelude.{MatchResult, None, Ok, codes, decimal, length, string_bytes};
 ghost use Rattle.sdr_base.specs.Causes.{HasCause};
-ghost use Rattle.sdr_media.specs.Counts.{answered, failed};
+ghost use Rattle.sdr_media.specs.Counts.{answered, asked, failed};
 
 use crate::counts::Counts;
 use crate::opening::open_to_read;
@@ -114,6 +114,7 @@ impl<R: Files<File = File> + AllocGlobal> FolderMedia<R> {
     pub fn new(rt: R, folder: PathBuf) -> FolderMedia<R>
         ensures faults { ⟦<FolderMedia<R> as Media>⟧.faults result ≡ 0 }
         ensures short { ⟦<FolderMedia<R> as Media>⟧.short result ≡ 0 }
+        ensures asks { ⟦<FolderMedia<R> as Media>⟧.asks result ≡ 0 }
     {
         FolderMedia {
             rt,
@@ -142,17 +143,19 @@ impl<R: Files<File = File> + AllocGlobal> FolderMedia<R> {
     }
 
     // Ends a call, with a fault where its read failed.
-    fn end(&mut self, read: io::Result<usize>, asked: usize) -> Result<u64, MediaFault>
+    fn end(&mut self, read: io::Result<usize>, want: usize) -> Result<u64, MediaFault>
         ensures answer { MatchResult read (λ n. result ≡ Ok n) (λ _. IsErr result) }
         ensures counts { MatchResult read
-            (λ n. self.new ≡ record self.old { counts = answered n asked self.old.counts })
-            (λ _. self.new ≡ record self.old { counts = failed self.old.counts }) }
+            (λ n. self.new ≡ record self.old { counts = answered n want (asked self.old.counts) })
+            (λ _. self.new ≡ record self.old { counts = failed (asked self.old.counts) }) }
         ensures later { self.old.counts.short ≤ self.new.counts.short }
+        ensures asks { self.new.counts.asks ≤ self.old.counts.asks + 1 }
         ensures cause { HasCause self.old.counts.faults self.new.counts.faults result }
     {
+        self.counts.count_ask();
         match read {
             Ok(count) => {
-                self.counts.count_answer(count, asked);
+                self.counts.count_answer(count, want);
                 Ok(count as u64)
             }
             Err(_) => Err(self.counts.count_fault()),
@@ -166,6 +169,8 @@ impl<R: Files<File = File> + AllocGlobal> Media for FolderMedia<R> {
     ghost faults = { λ m. m.counts.faults };
 
     ghost short = { λ m. m.counts.short };
+
+    ghost asks = { λ m. m.counts.asks };
 
     fn file_read(&mut self, path: &[u8], offset: u64, into: &mut [u8]) -> Result<u64, MediaFault> {
         let read = match path_of(path) {

@@ -1,6 +1,6 @@
 // Media in memory.
-ghost use Rattle.std.specs.Prelude.{◌≡◌, ◌≤◌, ◌<◌, ◌↔◌, Contains, IfOk, IsErr, OnErr, OnOk, Some, drop, length};
-ghost use Rattle.sdr_base.specs.Causes.{HasCause, Rose, counted};
+ghost use Rattle.std.specs.Prelude.{◌≡◌, ◌+◌, ◌≤◌, ◌<◌, ◌↔◌, Contains, IfOk, IsErr, OnErr, OnOk, Some, drop, length};
+ghost use Rattle.sdr_base.specs.Causes.{HasCause, Rose};
 ghost use Rattle.sdr_base.specs.Media.{GivesFrom, file_bytes, item_bytes};
 ghost use Rattle.sdr_media.specs.MemoryMedia.{file_held, item_held};
 
@@ -15,8 +15,7 @@ pub struct MemoryMedia {
     files: Vec<(Bytes, Bytes)>,
     /// What each item holds. Where a number stands twice, the first counts.
     items: Vec<(u64, Bytes)>,
-    /// Calls so far.
-    calls: u64,
+    /// What was counted of the calls so far.
     counts: Counts,
     /// The numbers of the calls that fail, counted from 1.
     failing: Vec<u64>,
@@ -30,14 +29,13 @@ impl Model for MemoryMedia {
     ghost view = { λ m. record {
       files = m.files.items;
       items = m.items.items;
-      calls = m.calls;
       counts = m.counts;
       failing = m.failing.items;
     } };
 }
 
 impl MemoryMedia {
-    ghost use Rattle.sdr_media.specs.Counts.{failed};
+    ghost use Rattle.sdr_media.specs.Counts.{asked, failed};
     ghost use Rattle.sdr_media.specs.MemoryMedia.{Stock, called, told_by};
 
     /// Media with these files and items, whose calls fail where their numbers, counted from 1, are in
@@ -51,18 +49,17 @@ impl MemoryMedia {
             ≡ Some (told_by files.items items.items) }
         ensures faults { ⟦<MemoryMedia as Media>⟧.faults result ≡ 0 }
         ensures short { ⟦<MemoryMedia as Media>⟧.short result ≡ 0 }
+        ensures asks { ⟦<MemoryMedia as Media>⟧.asks result ≡ 0 }
         ensures fresh { result ≡ record {
           files = files.items;
           items = items.items;
-          calls = 0;
-          counts = record { faults = 0; short = 0 };
+          counts = record { asks = 0; faults = 0; short = 0 };
           failing = failing.items;
         } }
     {
         MemoryMedia {
             files,
             items,
-            calls: 0,
             counts: Counts::new(),
             failing,
         }
@@ -72,12 +69,13 @@ impl MemoryMedia {
     fn begin(&mut self) -> Result<(), MediaFault>
         ensures ok { OnOk result (self.new ≡ called self.old) }
         ensures err { OnErr result
-            (self.new ≡ record (called self.old) { counts = failed self.old.counts }) }
-        ensures fails { IsErr result ↔ Contains self.old.failing (counted self.old.calls) }
+            (self.new ≡ record self.old { counts = failed (asked self.old.counts) }) }
+        ensures fails { IsErr result ↔ Contains self.old.failing self.new.counts.asks }
+        ensures asks { self.new.counts.asks ≤ self.old.counts.asks + 1 }
         ensures cause { HasCause self.old.counts.faults self.new.counts.faults result }
     {
-        self.calls = self.calls.saturating_add(1);
-        if self.failing.contains(&self.calls) {
+        self.counts.count_ask();
+        if self.failing.contains(&self.counts.asks) {
             return Err(self.counts.count_fault());
         }
         Ok(())
@@ -130,6 +128,8 @@ impl Media for MemoryMedia {
 
     ghost short = { λ m. m.counts.short };
 
+    ghost asks = { λ m. m.counts.asks };
+
     fn file_read(&mut self, path: &[u8], offset: u64, into: &mut [u8]) -> Result<u64, MediaFault>
         ensures bound { IfOk result (λ n. n ≤ length into.new) }
         ensures bytes { IfOk result (λ n.
@@ -139,6 +139,7 @@ impl Media for MemoryMedia {
         ensures later { self.old.counts.short ≤ self.new.counts.short }
         ensures short { IfOk result (λ n. n < length into.new →
             Rose self.old.counts.short self.new.counts.short) }
+        ensures asks { self.new.counts.asks ≤ self.old.counts.asks + 1 }
         ensures cause { HasCause self.old.counts.faults self.new.counts.faults result }
 
         // It fails just where its number is listed, and what it doesn't give stays in the buffer.
@@ -159,6 +160,7 @@ impl Media for MemoryMedia {
         ensures later { self.old.counts.short ≤ self.new.counts.short }
         ensures short { IfOk result (λ n. n < length into.new →
             Rose self.old.counts.short self.new.counts.short) }
+        ensures asks { self.new.counts.asks ≤ self.old.counts.asks + 1 }
         ensures cause { HasCause self.old.counts.faults self.new.counts.faults result }
 
         // It fails just where its number is listed, and what it doesn't give stays in the buffer.

@@ -15,6 +15,7 @@ use Rattle.sdr_model.specs.Pieces.{cut_pieces}
 use Rattle.sdr_model.specs.declared.piece.Piece.{Piece}
 use Rattle.sdr_model.specs.declared.zco.Part.{Part}
 use Rattle.zco_obj.specs.Kept.{KeepsObject}
+use Rattle.zco_wire.specs.Asking.{AsksFor, AsksObject}
 use Rattle.zco_wire.specs.Naming.{IsWire}
 use Rattle.zco_wire.specs.Reading.{FillsWith, asked_headers, asked_source, asked_trailers, end_of}
 use Rattle.zco_wire.specs.Seeing.{SeesPart}
@@ -59,6 +60,11 @@ module _ {blocks : Blocks} {object : ℕ} (asked asked' : ObjectRow → List Pie
       StopsObject m blocks object asked' old new stop
   stops_as m old new stop s = record {
     stops = λ row named k. subst (λ (ps : List Piece). StopsPieces m ps old new stop) (same row named k.keeps) (s.stops row named k);
+  }
+
+  pub asks_as : {M : Type 0} (m : Ghosts M) (old new : M) → AsksObject m blocks object asked old new → AsksObject m blocks object asked' old new
+  asks_as m old new s = record {
+    asks = λ row named k. subst (λ (ps : List Piece). AsksFor m ps old new) (same row named k.keeps) (s.asks row named k);
   }
 
   pub fills_as : {told : Option Told} {into : List ℕ} {given : ℕ} → FillsWith told blocks object asked into given →

@@ -4,8 +4,8 @@ use Rattle.std.specs.Prelude.{◌==◌}
 use Rattle.std.proofs.lemmas.Bool.{eqb-true, ne_eqb}
 use Rattle.std.proofs.lemmas.List.{nil_from_length}
 use Rattle.sdr_base.specs.Media.{Told}
-use Rattle.sdr_gather.specs.Gathering.{AreGathered, Gathering, GivesPiece}
-use Rattle.sdr_gather.proofs.GatheringLemmas.{gathering-end, gathering-next, gathering-start, gathering-trans}
+use Rattle.sdr_gather.specs.Gathering.{AreGathered, Gathering, GivesPiece, count_outside}
+use Rattle.sdr_gather.proofs.GatheringLemmas.{count_outside-cons, gathering-end, gathering-next, gathering-start, gathering-trans}
 use Rattle.sdr_model.specs.Pieces.{cut_pieces, piece_length, piece_part}
 use Rattle.sdr_model.specs.declared.piece.Piece.{Piece}
 use Rattle.zco_wire.specs.Going.{GoesOverPieces, ahead}
@@ -29,6 +29,19 @@ cut_first p skip room count others many nz =
     ∙ ap (λ b. cond b (cut_pieces (skip - piece_length p) (room - count) others)
     (piece_part skip count p ∷ cut_pieces (skip - piece_length p) (room - count) others)) (ne_eqb count 0 nz)
 
+-- of more pieces as many bytes are cut from as many that lie with media at least
+count_rest : (b : Bool) (p : Piece) (rest more : List Piece) → count_outside rest ≤ count_outside more →
+    count_outside (cond b rest (p ∷ rest)) ≤ count_outside (cond b more (p ∷ more))
+count_rest true p rest more le = le
+count_rest false p rest more le = let a = count_outside-cons p rest in let b = count_outside-cons p more in omega (arith, le, a, b)
+
+pub count_more : (skip room : ℕ) (ps others : List Piece) → count_outside (cut_pieces skip room ps) ≤ count_outside (cut_pieces skip room (ps ++ others))
+count_more skip room [] others = omega arith
+count_more skip room (p ∷ ps) others =
+    let count = min room (piece_length p - skip) in
+    count_rest (count == 0) (piece_part skip count p) (cut_pieces (skip - piece_length p) (room - count) ps)
+    (cut_pieces (skip - piece_length p) (room - count) (ps ++ others)) (count_more (skip - piece_length p) (room - count) ps others)
+
 -- nothing is gone over
 pub goes_none : (told : Option Told) (at : Cursor) (into : List ℕ) → at.given ≤ length into → GoesOverPieces told [] at at into into
 goes_none told at into room = record {
@@ -37,6 +50,7 @@ goes_none told at into room = record {
   room = room;
   stand = sym (append-nil (take at.given into));
   gathers = λ others. gathering-start told (ahead at (length into) others);
+  counts = λ others. omega arith;
 }
 
 -- where the buffer is full, all others are gone over
@@ -53,6 +67,11 @@ goes_full told over at into full = record {
       λ ps. ap (λ n. cut_pieces at.skip n ps) z ∙ cut_none at.skip ps in
       subst (λ (all : List Piece). Gathering told all (ahead at (length into) others) []) (sym (none (over ++ others)))
       (subst (λ (rest : List Piece). Gathering told [] rest []) (sym (none others)) (gathering-start told []));
+  counts = λ others.
+      let z : length into - at.given ≡ 0 = omega (arith, full) in
+      let none : (ps : List Piece) → count_outside (ahead at (length into) ps) ≡ 0 =
+      λ ps. ap count_outside (ap (λ n. cut_pieces at.skip n ps) z ∙ cut_none at.skip ps) in
+      let all = none (over ++ others) in let these = none over in let those = none others in omega (arith, all, these, those);
 }
 
 -- some, and then others
@@ -71,6 +90,15 @@ goes_trans {told} {ps} {qs} {a} {b} {c} {x} {y} {z} g h same =
           (subst (λ (all : List Piece). Gathering told (ahead a (length x) all) (ahead b (length x) (qs ++ others)) g.bytes)
           (sym (append_assoc ps qs others)) (g.gathers (qs ++ others)))
           (subst (λ n. Gathering told (ahead b n (qs ++ others)) (ahead c n others) h.bytes) same (h.gathers others));
+      counts = λ others.
+          let whole : count_outside (ahead a (length x) ((ps ++ qs) ++ others)) ≡ count_outside (ahead a (length x) (ps ++ (qs ++ others))) =
+          ap (λ (l : List Piece). count_outside (ahead a (length x) l)) (append_assoc ps qs others) in
+          let first = g.counts (qs ++ others) in
+          let both = g.counts qs in
+          let second : count_outside (ahead b (length x) (qs ++ others))
+          ≡ count_outside (ahead b (length x) qs) + count_outside (ahead c (length x) others) =
+          subst (λ n. count_outside (ahead b n (qs ++ others)) ≡ count_outside (ahead b n qs) + count_outside (ahead c n others)) same (h.counts others) in
+          omega (arith, whole, first, both, second);
     }
 
 -- all pieces were gone over from the begin of the buffer on
@@ -117,6 +145,16 @@ module _ (told : Option Told) (p : Piece) (at new : Cursor) (into into' bytes : 
       (gathering-start told (q ∷ ahead new (length into) others))
       (record { bytes = bytes; gives = gives refl; added = refl }))
 
+  counts_one : (others : List Piece) (b : Bool) → (count == 0) ≡ b →
+      count_outside (ahead at (length into) (p ∷ others))
+      ≡ count_outside (ahead at (length into) (p ∷ [])) + count_outside (ahead new (length into) others)
+  counts_one others true is =
+      let all = ap count_outside (ahead_is others true is) in let this = ap count_outside (ahead_is [] true is) in omega (arith, all, this)
+  counts_one others false is =
+      let all = ap count_outside (ahead_is others false is) in
+      let this = ap count_outside (ahead_is [] false is) in
+      let first = count_outside-cons (piece_part at.skip count p) (ahead new (length into) others) in omega (arith, all, this, first)
+
   pub goes_one : length bytes ≡ count → take new.given into' ≡ take at.given into ++ bytes →
       (count ≢ 0 → GivesPiece told (piece_part at.skip count p) bytes) → GoesOverPieces told (p ∷ []) at new into into'
   goes_one long stand gives = record {
@@ -125,6 +163,7 @@ module _ (told : Option Told) (p : Piece) (at new : Cursor) (into into' bytes : 
     room = omega (arith, given, many, room);
     stand = stand;
     gathers = λ others. gathers_one others (count == 0) refl (λ z. none z) (λ f. gives (λ z. some f z));
+    counts = λ others. counts_one others (count == 0) refl;
   }
     where
       none : (count == 0) ≡ true → bytes ≡ []

@@ -17,6 +17,7 @@ use Rattle.sdr_model.specs.declared.zco.Part.{Part}
 use Rattle.zco_obj.specs.Walks.{SeesCapsule}
 use Rattle.zco_obj.specs.declared.extent.ExtentPiece.{ExtentPiece as Range}
 use Rattle.zco_obj.specs.declared.seeing.SeenCapsule.{SeenCapsule}
+use Rattle.zco_wire.specs.Asking.{AsksAtRange, AsksFor, AsksRange}
 use Rattle.zco_wire.specs.Going.{GoesOverHead, GoesOverRange, ahead}
 use Rattle.zco_wire.specs.Naming.{SomeNamed}
 use Rattle.zco_wire.specs.Sources.{GivesRange}
@@ -112,3 +113,22 @@ range_stops m range at window room old new stop o l nz s = record {
 pub range_failed : {blocks : Blocks} {room : ℕ} {M : Type 0} (m : Ghosts M) (range : Range) (at : Cursor) (old new : M) (stop : Stop) →
     OnlyFault stop → StopsAtRange m blocks range at room old new stop
 range_failed {blocks} {room} m range at old new stop f = record { stops = λ p n others. only_fault m (ahead at room (p ∷ others)) old new stop f }
+
+-- media were asked once for a window that lies with them
+pub range_asks_at : {blocks : Blocks} {M : Type 0} (m : Ghosts M) (range : Range) (at : Cursor) (window : Part) (room : ℕ) (old new : M) →
+    window.offset ≡ min at.skip range.bytes → window.length ≡ min (room - at.given) (range.bytes - at.skip) → window.length ≢ 0 →
+    AsksRange m blocks (record { of = range.of; offset = range.offset + window.offset; bytes = window.length }) old new →
+    AsksAtRange m blocks range at room old new
+range_asks_at m range at window room old new o l nz s = record {
+  asks = λ p n.
+      let b = named_length n in
+      let at_skip : window.offset ≡ at.skip = omega (arith, o, l, nz) in
+      let many : window.length ≡ min (room - at.given) (piece_length p - at.skip) = omega (arith, l, b) in
+      subst (λ (all : List Piece). AsksFor m all old new)
+      (ap (λ k. piece_part k window.length p ∷ []) at_skip ∙ sym (cut_first p at.skip (room - at.given) window.length [] many nz))
+      (s.asks (piece_part window.offset window.length p) (within_named window.offset window.length n (omega (arith, o, l))));
+}
+
+pub range_unasked_at : {blocks : Blocks} {room : ℕ} {M : Type 0} (m : Ghosts M) (range : Range) (at : Cursor) (old : M) →
+    AsksAtRange m blocks range at room old old
+range_unasked_at m range at old = record { asks = λ p n. omega arith }

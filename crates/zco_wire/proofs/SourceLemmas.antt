@@ -1,5 +1,5 @@
 -- Ranges of sources that are read.
-use Rattle.std.proofs.Common.{◌≡◌, ◌≤◌, ◌<◌, ◌+◌, ℕ, true, false, List, [], ◌∷◌, length, take, Option, None, Some, IfSome, refl, sym, ap, ◌∙◌, subst, arith, true≢false}
+use Rattle.std.proofs.Common.{◌≡◌, ◌≤◌, ◌<◌, ◌+◌, ℕ, true, false, cond, List, [], ◌∷◌, length, take, Option, None, Some, IfSome, refl, sym, ap, ◌∙◌, subst, arith, true≢false}
 use Rattle.sdr_base.specs.Blocks.{Block, Blocks, HasBytes, Reaches}
 use Rattle.sdr_base.specs.Causes.{Rose}
 use Rattle.sdr_base.specs.Media.{GivesFrom, Told, file_bytes, item_bytes}
@@ -24,6 +24,7 @@ use Rattle.sdr_model.specs.declared.piece.Piece.TheVariants as pieces
 use Rattle.zco_obj.specs.declared.extent.ExtentPiece.{ExtentPiece as Range}
 use Rattle.zco_ref.specs.Kept.{IsTiedRaw}
 use Rattle.zco_ref.proofs.KeptLemmas.{subject_is}
+use Rattle.zco_wire.specs.Asking.{AsksRange}
 use Rattle.zco_wire.specs.Naming.{HasUntil, IsNamed, medium_piece}
 use Rattle.zco_wire.specs.Seeing.{SeesMedium, SeesRaw, is_raw}
 use Rattle.zco_wire.specs.Sources.{GivesRange, IsShortOf, SeesPath}
@@ -158,3 +159,26 @@ module _ {M : Type 0} (m : Ghosts M) (blocks : Blocks) (range : Range) (old new 
         (sym (n.is ∙ ap (λ (j : Medium). medium_piece j n.source.row n.bytes range.offset range.bytes) (sym (s.sees n.source n.tied.keeps))))
         (fails_by k is n.source.row n.bytes);
   }
+
+-- media were asked once for a range that lies with them
+module _ {M : Type 0} (m : Ghosts M) (blocks : Blocks) (range : Range) (old new : M) where
+  outside_by : (k : Medium) → is_raw k ≡ false → (row : SourceRow) (bytes : List ℕ) →
+      lies_with_media (medium_piece k row bytes range.offset range.bytes) ≡ true
+  outside_by media.File is row bytes = refl
+  outside_by media.Bulk is row bytes = refl
+  outside_by media.Heap is row bytes = absurd (true≢false is)
+  outside_by media.Obj is row bytes = absurd (true≢false is)
+
+  pub range_asks : (k : Medium) → is_raw k ≡ false → SeesMedium (blocks range.of) k → m.asks new ≤ m.asks old + 1 → AsksRange m blocks range old new
+  range_asks k is s once = record {
+    asks = λ p n.
+        let e : lies_with_media p ≡ true =
+        ap lies_with_media
+        (n.is ∙ ap (λ (j : Medium). medium_piece j n.source.row n.bytes range.offset range.bytes) (sym (s.sees n.source n.tied.keeps)))
+        ∙ outside_by k is n.source.row n.bytes in
+        subst (λ b. m.asks new ≤ m.asks old + (0 + cond b 1 0)) (sym e) (omega (arith, once));
+  }
+
+-- they weren't asked
+pub range_unasked : {M : Type 0} (m : Ghosts M) (blocks : Blocks) (range : Range) (old : M) → AsksRange m blocks range old old
+range_unasked m blocks range old = record { asks = λ p n. omega arith }

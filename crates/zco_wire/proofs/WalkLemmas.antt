@@ -1,5 +1,5 @@
 -- Chains of headers, of trailers and of extents that are gone over.
-use Rattle.std.proofs.Common.{◌≡◌, ◌≢◌, ◌≤◌, ◌+◌, ℕ, List, [], ◌∷◌, ◌++◌, Option, Some, length, refl, sym, ap, ◌∙◌, subst, arith, append_assoc, append-nil, length-append}
+use Rattle.std.proofs.Common.{◌≡◌, ◌≢◌, ◌≤◌, ◌+◌, ◌-◌, ℕ, List, [], ◌∷◌, ◌++◌, Option, Some, length, refl, sym, ap, ◌∙◌, subst, arith, append_assoc, append-nil, length-append}
 use Rattle.std.specs.Prelude.{All, None}
 use Rattle.std.proofs.lemmas.List.{map-append}
 use Rattle.std.proofs.lemmas.List.Elements.{All-head, All-tail}
@@ -9,7 +9,7 @@ use Rattle.sdr_base.specs.Media.{Told}
 use Rattle.sdr_base.specs.Objects.{OnlyFault}
 use Rattle.sdr_base.specs.declared.media.Media.{Ghosts}
 use Rattle.sdr_base.specs.declared.stop.Stop.{Stop}
-use Rattle.sdr_gather.specs.Gathering.{Gathering}
+use Rattle.sdr_gather.specs.Gathering.{Gathering, count_outside}
 use Rattle.sdr_base.specs.ZcoObjects.{CapsuleRow, ExtentRow, capsule_addr, capsule_block, extent_addr, extent_block}
 use Rattle.sdr_model.specs.declared.piece.Piece.{Piece}
 use Rattle.sdr_model.specs.declared.piece.Piece.TheVariants as pieces
@@ -19,13 +19,14 @@ use Rattle.zco_obj.specs.declared.seeing.SeenCapsule.{SeenCapsule}
 use Rattle.zco_obj.proofs.KeptLemmas.{first_capsule, first_extent}
 use Rattle.zco_obj.proofs.WalkLemmas.{fits_left, has_first, none_at_zero, one_found}
 use Rattle.zco_obj.specs.declared.extent.ExtentPiece.{ExtentPiece as Range}
+use Rattle.zco_wire.specs.Asking.{AsksAtNamed, AsksAtRange, AsksFor}
 use Rattle.zco_wire.specs.Going.{GoesOverPieces, GoesOverHead, GoesOverHeads, GoesOverNamed, GoesOverRange, WalksHeads, WalksNamed, ahead}
 use Rattle.zco_wire.specs.Naming.{AreNamed, IsNamed, NamesAt, SomeNamed, head_pieces}
 use Rattle.zco_wire.specs.Seeing.{SeesLink}
 use Rattle.zco_wire.specs.Stopping.{KeepsTold, StopsAtNamed, StopsAtRange, StopsPieces}
 use Rattle.zco_wire.specs.declared.cursor.Cursor.{Cursor}
 use Rattle.zco_wire.specs.declared.link.Link.{Link}
-use Rattle.zco_wire.proofs.GoingLemmas.{goes_full, goes_none, goes_trans}
+use Rattle.zco_wire.proofs.GoingLemmas.{count_more, goes_full, goes_none, goes_trans}
 use Rattle.zco_wire.proofs.NamingLemmas.{NamedFirst, named_first, named_none}
 use Rattle.zco_wire.proofs.StoppingLemmas.{only_fault, stops_later}
 
@@ -169,8 +170,8 @@ module _ {blocks : Blocks} {extents : List ExtentRow} {first : ℕ} (c : Extents
   extent_keeps w nz =
       let n = next_extent w nz in record { block = n.found; fits = n.fits; small = first_extent n.behind n.rest }
 
-module _ {told : Option Told} {blocks : Blocks} {first : ℕ} where
-  pub named_start : (at : Cursor) (into : List ℕ) → at.given ≤ length into → WalksNamed told blocks first first 0 at at into into
+module _ {M : Type 0} {m : Ghosts M} {before : M} {blocks : Blocks} {first : ℕ} where
+  pub named_start : (at : Cursor) (into : List ℕ) → at.given ≤ length into → WalksNamed m before before blocks first first 0 at at into into
   named_start at into room = record {
     walks = λ extents named c. record {
       walk = walk_begun ExtentFits extent_addr extent_block (λ p n x. refl) c.chain;
@@ -178,11 +179,13 @@ module _ {told : Option Told} {blocks : Blocks} {first : ℕ} where
       left = named;
       whole = refl;
       are = c.are;
-      goes = goes_none told at into room;
+      goes = goes_none (m.told before) at into room;
+      asks = omega arith;
     };
   }
 
-  module _ {extent i : ℕ} {at now : Cursor} {into into' : List ℕ} (w : WalksNamed told blocks first extent i at now into into') where
+  module _ {mid : M} {extent i : ℕ} {at now : Cursor} {into into' : List ℕ}
+      (w : WalksNamed m before mid blocks first extent i at now into into') where
     pub some_extent : {extents : List ExtentRow} {named : List Piece} → NamesAt blocks first extents named → extent ≢ 0 →
         SomeExtent (blocks extent)
     some_extent {extents} {named} c nz =
@@ -215,10 +218,22 @@ module _ {told : Option Told} {blocks : Blocks} {first : ℕ} where
         SeesLink (blocks extent) link → SomeNamed blocks link.range
     some_named c nz link s = record { piece = (first_named c nz).one; named = here_named c nz link s }
 
-    pub named_on : {after : Cursor} {into'' : List ℕ} (link : Link) → extent ≢ 0 → SeesLink (blocks extent) link →
-        GoesOverRange told blocks link.range now after into' into'' → length into' ≡ length into →
-        WalksNamed told blocks first link.next (i + 1) at after into into''
-    named_on {after} {into''} link nz s g same = record {
+    -- one more of what the chain names was asked of media
+    asks_on : {after : M} {extents : List ExtentRow} {named : List Piece} (link : Link) (c : NamesAt blocks first extents named) (nz : extent ≢ 0) →
+        SeesLink (blocks extent) link → length into' ≡ length into → AsksAtRange m blocks link.range now (length into') mid after →
+        m.asks after ≤ m.asks before + (count_outside (ahead at (length into) (w.walks extents named c).done)
+        + count_outside (ahead now (length into) ((first_named c nz).one ∷ [])))
+    asks_on {after} {extents} {named} link c nz s same g =
+        let f = first_named c nz in
+        let one = subst (λ n. AsksFor m (ahead now n (f.one ∷ [])) mid after) same (g.asks f.one (here_named c nz link s)) in
+        let most = (w.walks extents named c).asks in
+        omega (arith, one, most)
+
+    pub named_on : {after : Cursor} {last : M} {into'' : List ℕ} (link : Link) → extent ≢ 0 → SeesLink (blocks extent) link →
+        GoesOverRange (m.told before) blocks link.range now after into' into'' → length into' ≡ length into →
+        AsksAtRange m blocks link.range now (length into') mid last →
+        WalksNamed m before last blocks first link.next (i + 1) at after into into''
+    named_on {after} {last} {into''} link nz s g same a = record {
       walks = λ extents named c.
           let v = w.walks extents named c in
           let n = next_extent c.chain v.walk nz in
@@ -231,14 +246,39 @@ module _ {told : Option Told} {blocks : Blocks} {first : ℕ} where
             whole = v.whole ∙ ap (λ (l : List Piece). v.done ++ l) f.is ∙ sym (append_assoc v.done (f.one ∷ []) f.others);
             are = f.rest;
             goes = goes_trans v.goes (g.goes f.one (here_named c nz link s)) same;
+            asks = let all = v.goes.counts (f.one ∷ []) in let most = asks_on link c nz s same a in omega (arith, all, most);
           };
     }
 
+    -- what was asked of media is of what the chain names
+    pub named_asks : AsksAtNamed m blocks first at (length into) before mid
+    named_asks = record {
+      asks = λ extents named c.
+          let v = w.walks extents named c in
+          let all = v.goes.counts v.left in
+          let whole : count_outside (ahead at (length into) named) ≡ count_outside (ahead at (length into) (v.done ++ v.left)) =
+          ap (λ (l : List Piece). count_outside (ahead at (length into) l)) v.whole in
+          let most = v.asks in omega (arith, all, whole, most);
+    }
+
+    pub named_asks_on : {last : M} (link : Link) → extent ≢ 0 → SeesLink (blocks extent) link → length into' ≡ length into →
+        AsksAtRange m blocks link.range now (length into') mid last → AsksAtNamed m blocks first at (length into) before last
+    named_asks_on {last} link nz s same a = record {
+      asks = λ extents named c.
+          let v = w.walks extents named c in
+          let f = first_named c nz in
+          let all = v.goes.counts (f.one ∷ f.others) in
+          let whole : count_outside (ahead at (length into) named) ≡ count_outside (ahead at (length into) (v.done ++ (f.one ∷ f.others))) =
+          ap (λ (l : List Piece). count_outside (ahead at (length into) l)) (v.whole ∙ ap (λ (l : List Piece). v.done ++ l) f.is) in
+          let more = count_more now.skip (length into - now.given) (f.one ∷ []) f.others in
+          let most = asks_on link c nz s same a in omega (arith, all, whole, more, most);
+    }
+
     -- where what it names wasn't read, the chain wasn't
-    pub named_stops : {M : Type 0} (m : Ghosts M) (link : Link) (old mid new : M) (stop : Stop) → extent ≢ 0 → SeesLink (blocks extent) link →
-        told ≡ m.told old → KeepsTold m old mid → length into' ≡ length into →
-        StopsAtRange m blocks link.range now (length into') mid new stop → StopsAtNamed m blocks first at (length into) old new stop
-    named_stops m link old mid new stop nz s e k same g = record {
+    pub named_stops : (link : Link) (new : M) (stop : Stop) → extent ≢ 0 → SeesLink (blocks extent) link →
+        KeepsTold m before mid → length into' ≡ length into →
+        StopsAtRange m blocks link.range now (length into') mid new stop → StopsAtNamed m blocks first at (length into) before new stop
+    named_stops link new stop nz s k same g = record {
       stops = λ extents named c others.
           let v = w.walks extents named c in
           let f = first_named c nz in
@@ -246,43 +286,48 @@ module _ {told : Option Told} {blocks : Blocks} {first : ℕ} where
           ap (λ (l : List Piece). l ++ others) (v.whole ∙ ap (λ (l : List Piece). v.done ++ l) f.is)
           ∙ append_assoc v.done (f.one ∷ f.others) others in
           let rest = f.one ∷ (f.others ++ others) in
-          let gathers : Gathering told (ahead at (length into) (v.done ++ rest)) (ahead now (length into) rest) v.goes.bytes = v.goes.gathers rest in
-          stops_later m (ahead at (length into) (named ++ others)) (ahead now (length into) rest) v.goes.bytes old mid new stop
-          (subst (λ (t : Option Told). Gathering t (ahead at (length into) (named ++ others)) (ahead now (length into) rest) v.goes.bytes) e
-          (subst (λ (l : List Piece). Gathering told (ahead at (length into) l) (ahead now (length into) rest) v.goes.bytes) (sym whole) gathers)) k
+          let gathers : Gathering (m.told before) (ahead at (length into) (v.done ++ rest)) (ahead now (length into) rest) v.goes.bytes =
+          v.goes.gathers rest in
+          stops_later m (ahead at (length into) (named ++ others)) (ahead now (length into) rest) v.goes.bytes before mid new stop
+          (subst (λ (l : List Piece). Gathering (m.told before) (ahead at (length into) l) (ahead now (length into) rest) v.goes.bytes) (sym whole)
+          gathers) k
           (subst (λ n. StopsPieces m (ahead now n rest) mid new stop) same
           (g.stops f.one (here_named c nz link s) (f.others ++ others)));
     }
 
     -- all were gone over, or what is left has no room
     named_over : ((extents : List ExtentRow) (named : List Piece) (c : NamesAt blocks first extents named) →
-        (w.walks extents named c).walk.left ≡ []) → GoesOverNamed told blocks first at now into into'
+        (w.walks extents named c).walk.left ≡ []) → GoesOverNamed (m.told before) blocks first at now into into'
     named_over none = record {
       goes = λ extents named c.
           let v = w.walks extents named c in
           let left : v.left ≡ [] =
           named_none blocks v.left (subst (λ (l : List ExtentRow). AreNamed blocks l v.left) (none extents named c) v.are) in
           let all : named ≡ v.done = v.whole ∙ ap (λ (l : List Piece). v.done ++ l) left ∙ append-nil v.done in
-          subst (λ (l : List Piece). GoesOverPieces told l at now into into') (sym all) v.goes;
+          subst (λ (l : List Piece). GoesOverPieces (m.told before) l at now into into') (sym all) v.goes;
     }
 
-    pub named_at_zero : extent ≡ 0 → GoesOverNamed told blocks first at now into into'
+    pub named_at_zero : extent ≡ 0 → GoesOverNamed (m.told before) blocks first at now into into'
     named_at_zero z =
         named_over (λ extents named c. over_at_zero ExtentFits extent_addr extent_block (λ p n x. refl) c.chain (w.walks extents named c).walk z)
 
-    pub named_at_most : i ≡ 4194304 → GoesOverNamed told blocks first at now into into'
+    pub named_at_most : i ≡ 4194304 → GoesOverNamed (m.told before) blocks first at now into into'
     named_at_most all =
         named_over (λ extents named c. over_at_most ExtentFits extent_addr extent_block (λ p n x. refl) c.chain (w.walks extents named c).walk all)
 
-    pub named_at_full : now.given ≡ length into' → length into' ≡ length into → GoesOverNamed told blocks first at now into into'
+    pub named_at_full : now.given ≡ length into' → length into' ≡ length into → GoesOverNamed (m.told before) blocks first at now into into'
     named_at_full full same = record {
       goes = λ extents named c.
           let v = w.walks extents named c in
-          subst (λ (ps : List Piece). GoesOverPieces told ps at now into into') (sym v.whole)
-          (goes_trans v.goes (goes_full told v.left now into' full) same);
+          subst (λ (ps : List Piece). GoesOverPieces (m.told before) ps at now into into') (sym v.whole)
+          (goes_trans v.goes (goes_full (m.told before) v.left now into' full) same);
     }
 
 -- where the heap failed, nothing is said of what extents name
 pub named_failed : {blocks : Blocks} {room : ℕ} {M : Type 0} (m : Ghosts M) (first : ℕ) (at : Cursor) (old new : M) (stop : Stop) → OnlyFault stop →
     StopsAtNamed m blocks first at room old new stop
 named_failed {blocks} {room} m first at old new stop f = record { stops = λ extents named c others. only_fault m (ahead at room (named ++ others)) old new stop f }
+
+pub named_unasked : {blocks : Blocks} {room : ℕ} {M : Type 0} (m : Ghosts M) (first : ℕ) (at : Cursor) (old : M) →
+    AsksAtNamed m blocks first at room old old
+named_unasked m first at old = record { asks = λ extents named c. omega arith }

@@ -9,7 +9,7 @@ use Rattle.sdr_base.specs.ZcoObjects.{ObjectRow, extent_addr}
 use Rattle.sdr_base.specs.Linked.{first_of}
 use Rattle.sdr_base.specs.declared.media.Media.{Ghosts}
 use Rattle.sdr_base.specs.declared.stop.Stop.{Stop}
-use Rattle.sdr_gather.specs.Gathering.{AreGathered, Gathering}
+use Rattle.sdr_gather.specs.Gathering.{AreGathered, Gathering, count_outside}
 use Rattle.sdr_model.specs.Pieces.{cut_pieces}
 use Rattle.sdr_model.specs.declared.piece.Piece.{Piece}
 use Rattle.zco_obj.specs.Kept.{KeepsObject, SomeObject}
@@ -19,12 +19,13 @@ use Rattle.zco_obj.specs.declared.linking.Side.TheVariants as sides
 use Rattle.zco_obj.specs.declared.object.Firsts.{Firsts}
 use Rattle.zco_obj.proofs.KeptLemmas.{object_word}
 use Rattle.zco_obj.proofs.PartsLemmas.{extents_at, side_at}
+use Rattle.zco_wire.specs.Asking.{AsksAtNamed, AsksFor, AsksObject}
 use Rattle.zco_wire.specs.Going.{GoesOverHeads, GoesOverNamed, ahead}
 use Rattle.zco_wire.specs.Naming.{KeepsWire, NamesAt, SomeNames, SomeWire, head_pieces, wire_of}
 use Rattle.zco_wire.specs.Reading.{FillsWith, asked_wire}
 use Rattle.zco_wire.specs.Stopping.{StopsAtNamed, StopsObject, StopsPieces}
 use Rattle.zco_wire.specs.declared.cursor.Cursor.{Cursor}
-use Rattle.zco_wire.proofs.GoingLemmas.{goes_all, goes_trans}
+use Rattle.zco_wire.proofs.GoingLemmas.{count_more, goes_all, goes_trans}
 use Rattle.zco_wire.proofs.PartLemmas.{extents_few, gathered_ends, wire_most}
 use Rattle.zco_wire.proofs.StoppingLemmas.{only_fault, stops_later, told_same}
 
@@ -74,6 +75,24 @@ module _ {blocks : Blocks} {object : ℕ} {firsts : Firsts} (t : TellsFirsts blo
         (goes_trans (e.goes row.extents named (extents k)) (l.goes told row.trailers (trailers k)) second) first);
   }
 
+  -- what was asked for its extents was asked for the object
+  pub wire_asks : {M : Type 0} (m : Ghosts M) {a : Cursor} {x y : List ℕ} (place : ℕ) (old new : M) → GoesOverHeads blocks firsts.header (begin_at place) a x y →
+      length y ≡ length x → AsksAtNamed m blocks firsts.extent a (length y) old new → AsksObject m blocks object (asked_wire place (length x)) old new
+  wire_asks m {a} {x} {y} place old new h same s = record {
+    asks = λ row named k.
+        let others = head_pieces row.trailers in
+        let g = h.goes (m.told old) row.headers (headers k) in
+        let z : length x - 0 ≡ length x = omega arith in
+        let all : count_outside (cut_pieces place (length x) (wire_of row named))
+        ≡ count_outside (ahead (begin_at place) (length x) (head_pieces row.headers)) + count_outside (ahead a (length x) (named ++ others)) =
+        subst (λ n. count_outside (cut_pieces place n (wire_of row named))
+        ≡ count_outside (ahead (begin_at place) (length x) (head_pieces row.headers)) + count_outside (ahead a (length x) (named ++ others))) z
+        (g.counts (named ++ others)) in
+        let more = count_more a.skip (length x - a.given) named others in
+        let most = subst (λ n. AsksFor m (ahead a n named) old new) same (s.asks row.extents named (extents k)) in
+        omega (arith, all, more, most);
+  }
+
   -- where the extents' bytes weren't read, the object's weren't
   pub wire_stops : {M : Type 0} (m : Ghosts M) {a : Cursor} {x y : List ℕ} (place : ℕ) (old new : M) (stop : Stop) →
       GoesOverHeads blocks firsts.header (begin_at place) a x y → length y ≡ length x →
@@ -90,6 +109,11 @@ module _ {blocks : Blocks} {object : ℕ} {firsts : Firsts} (t : TellsFirsts blo
         (told_same m old)
         (subst (λ n. StopsPieces m (ahead a n (named ++ others)) old new stop) same (s.stops row.extents named (extents k) others));
   }
+
+-- media weren't asked
+pub object_unasked : {blocks : Blocks} {object : ℕ} {M : Type 0} (m : Ghosts M) (asked : ObjectRow → List Piece → List Piece) (old : M) →
+    AsksObject m blocks object asked old old
+object_unasked m asked old = record { asks = λ row named k. omega arith }
 
 -- what was given of an object ends within it
 given_long : (given : ℕ) (into : List ℕ) → given ≤ length into → length (take given into) ≡ given
@@ -128,6 +152,14 @@ module _ {blocks : Blocks} {object first : ℕ} (at : (row : ObjectRow) → Keep
         subst (λ (ps : List Piece). StopsPieces m ps old new stop)
         (ap (λ n. cut_pieces place n (named ++ [])) z ∙ ap (cut_pieces place room) (append-nil named))
         (s.stops row.extents named (names_from k (at row k.keeps)) []);
+  }
+
+  pub some_asks : {M : Type 0} (m : Ghosts M) (place room : ℕ) (old new : M) → AsksAtNamed m blocks first (begin_at place) room old new →
+      AsksObject m blocks object (λ row named. cut_pieces place room named) old new
+  some_asks m place room old new s = record {
+    asks = λ row named k.
+        let z : room - 0 ≡ room = omega arith in
+        subst (λ n. AsksFor m (cut_pieces place n named) old new) z (s.asks row.extents named (names_from k (at row k.keeps)));
   }
 
   pub some_names : SomeWire blocks object → SomeNames blocks first

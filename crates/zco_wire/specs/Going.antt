@@ -3,7 +3,8 @@ use Rattle.std.specs.Prelude.{◌≡◌, ◌≤◌, ◌-◌, ◌+◌, ℕ, List,
 use Rattle.sdr_base.specs.Blocks.{Block, Blocks}
 use Rattle.sdr_base.specs.Media.{Told}
 use Rattle.sdr_base.specs.ZcoObjects.{CapsuleRow, ExtentRow, capsule_addr, extent_addr}
-use Rattle.sdr_gather.specs.Gathering.{Gathering}
+use Rattle.sdr_base.specs.declared.media.Media.{Ghosts}
+use Rattle.sdr_gather.specs.Gathering.{Gathering, count_outside}
 use Rattle.sdr_model.specs.Pieces.{cut_pieces}
 use Rattle.sdr_model.specs.declared.piece.Piece.{Piece}
 use Rattle.sdr_model.specs.declared.piece.Piece.TheVariants as pieces
@@ -17,7 +18,7 @@ abbrev pub ahead : Cursor → ℕ → List Piece → List Piece
 ahead at room = cut_pieces at.skip (room - at.given)
 
 -- These pieces were gone over: behind the bytes given before stand those of these pieces, and what is to be given of others behind
--- them is the rest of what was to be given of all.
+-- them is the rest of what was to be given of all, so that as many of all lie with media as of these and of those together.
 pub record GoesOverPieces (told : Option Told) (over : List Piece) (old new : Cursor) (into into' : List ℕ) : Type 0
   where
     pub bytes : List ℕ
@@ -25,6 +26,8 @@ pub record GoesOverPieces (told : Option Told) (over : List Piece) (old new : Cu
     pub room : new.given ≤ length into
     pub stand : take new.given into' ≡ take old.given into ++ bytes
     pub gathers : (others : List Piece) → Gathering told (ahead old (length into) (over ++ others)) (ahead new (length into) others) bytes
+    pub counts : (others : List Piece) → count_outside (ahead old (length into) (over ++ others))
+        ≡ count_outside (ahead old (length into) over) + count_outside (ahead new (length into) others)
 
 -- whichever header or trailer stands there, it was gone over
 pub record GoesOverHead (found : Option Block) (old new : Cursor) (into into' : List ℕ) : Type 0 where
@@ -54,17 +57,20 @@ pub record WalksHeads (blocks : Blocks) (first head i : ℕ) (old new : Cursor) 
   pub walks : (told : Option Told) (rows : List CapsuleRow) → CapsulesAt blocks first rows
       → WalkedHeads told rows head i old new into into'
 
--- What some first extents of a chain name was gone over, so many, and the address is that of the next one.
-pub record WalkedNamed (told : Option Told) (blocks : Blocks) (extents : List ExtentRow) (named : List Piece) (extent i : ℕ) (old new : Cursor)
-    (into into' : List ℕ) : Type 0 where
+-- What some first extents of a chain name was gone over, so many, and the address is that of the next one. Media were asked at
+-- most once for each part of it that lies with them.
+pub record WalkedNamed {M : Type 0} (m : Ghosts M) (before now : M) (blocks : Blocks) (extents : List ExtentRow) (named : List Piece)
+    (extent i : ℕ) (old new : Cursor) (into into' : List ℕ) : Type 0 where
   pub walk : Passed extent_addr extents extent i
   pub done : List Piece
   pub left : List Piece
   pub whole : named ≡ done ++ left
   pub are : AreNamed blocks walk.left left
-  pub goes : GoesOverPieces told done old new into into'
+  pub goes : GoesOverPieces (m.told before) done old new into into'
+  pub asks : m.asks now ≤ m.asks before + count_outside (ahead old (length into) done)
 
 -- so it is of whichever chain stands there
-pub record WalksNamed (told : Option Told) (blocks : Blocks) (first extent i : ℕ) (old new : Cursor) (into into' : List ℕ) : Type 0 where
+pub record WalksNamed {M : Type 0} (m : Ghosts M) (before now : M) (blocks : Blocks) (first extent i : ℕ) (old new : Cursor)
+    (into into' : List ℕ) : Type 0 where
   pub walks : (extents : List ExtentRow) (named : List Piece) → NamesAt blocks first extents named
-      → WalkedNamed told blocks extents named extent i old new into into'
+      → WalkedNamed m before now blocks extents named extent i old new into into'

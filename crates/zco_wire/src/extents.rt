@@ -2,6 +2,7 @@
 ghost use Rattle.std.specs.Prelude.{◌≡◌, ◌≤◌, IfErr, IfOk, length};
 ghost use Rattle.sdr_base.specs.Moves.{KeepsSome};
 ghost use Rattle.sdr_base.specs.Works.{Looks};
+ghost use Rattle.zco_wire.specs.Asking.{AsksAtNamed, AsksAtRange};
 ghost use Rattle.zco_wire.specs.Going.{GoesOverNamed, GoesOverRange};
 ghost use Rattle.zco_wire.specs.Naming.{SomeNamed, SomeNames};
 ghost use Rattle.zco_wire.specs.Stopping.{KeepsTold, StopsAtNamed, StopsAtRange, past_media};
@@ -32,6 +33,8 @@ fn read_asked<O: Objects, M: Media>(
     ensures room { IfOk result (λ to. to.given ≤ length into.old) }
     ensures same { length into.new ≡ length into.old }
     ensures media { KeepsTold M.Media media.old media.new }
+    ensures asks { AsksAtRange M.Media (O.heap o.old).blocks range at (length into.old)
+        media.old media.new }
     ensures looks { Looks O.HasHeap o.old o.new (past_media result) }
 {
     let part = window(at, range.bytes, into.len() as u64);
@@ -70,6 +73,8 @@ pub fn read_extents<O: Objects, M: Media>(
     ensures room { IfOk result (λ to. to.given ≤ length into.old) }
     ensures same { length into.new ≡ length into.old }
     ensures media { KeepsTold M.Media media.old media.new }
+    ensures asks { AsksAtNamed M.Media (O.heap o.old).blocks first at (length into.old)
+        media.old media.new }
     ensures looks { Looks O.HasHeap o.old o.new (past_media result) }
 {
     check_failed(o)?;

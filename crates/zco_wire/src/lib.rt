@@ -9,9 +9,10 @@
 //!
 //! Proved: `transmit` and the `receive_` calls give just the bytes of their stretch of the object, those of media
 //! as media tell them (`given`). `SourceShort` and `MediaFault` come only where such bytes are asked and the
-//! media's count rose (`stops`). The heap stays (`looks`).
+//! media's count rose (`stops`). On every outcome media are asked at most once for each extent that lies with them
+//! and of which a byte is asked (`asks`). The heap stays (`looks`).
 //!
-//! Only tested: each call's answers (`tests/cases`); that media are asked once for each extent (`tests/faults`).
+//! Only tested: each call's answers (`tests/cases`).
 #![tactic(auto)]
 
 mod cursor;

@@ -6,6 +6,7 @@ ghost use Rattle.sdr_base.specs.Objects.{OnlyFault};
 ghost use Rattle.sdr_base.specs.Works.{Looks};
 ghost use Rattle.sdr_model.specs.Pieces.{cut_pieces};
 ghost use Rattle.zco_obj.specs.Kept.{SomeObject};
+ghost use Rattle.zco_wire.specs.Asking.{AsksObject, AsksOnce};
 ghost use Rattle.zco_wire.specs.Naming.{IsWire, SomeWire};
 ghost use Rattle.zco_wire.specs.Reading.{FillsWith, GivesObject, asked_headers, asked_source, asked_trailers, end_of};
 ghost use Rattle.zco_wire.specs.Seeing.{SeesPart};
@@ -41,6 +42,8 @@ pub fn receive_headers<O: Objects, M: Media>(
     ensures stays { OnErr result (reader.new ≡ reader.old) }
     ensures same { length into.new ≡ length into.old }
     ensures media { KeepsTold M.Media media.old media.new }
+    ensures asks { AsksOnce M.Media (O.heap o.old).blocks reader.old.object
+        (asked_headers reader.old.place (length into.old)) media.old media.new }
     ensures looks { Looks O.HasHeap o.old o.new (past_media result) }
 {
     expect_kind(o, reader.object, Kind::Object)?;
@@ -70,6 +73,8 @@ pub fn receive_source<O: Objects, M: Media>(
     ensures stays { OnErr result (reader.new ≡ reader.old) }
     ensures same { length into.new ≡ length into.old }
     ensures media { KeepsTold M.Media media.old media.new }
+    ensures asks { AsksOnce M.Media (O.heap o.old).blocks reader.old.object
+        (asked_source reader.old.place (length into.old)) media.old media.new }
     ensures looks { Looks O.HasHeap o.old o.new (past_media result) }
 {
     expect_kind(o, reader.object, Kind::Object)?;
@@ -101,6 +106,8 @@ pub fn receive_trailers<O: Objects, M: Media>(
     ensures stays { OnErr result (reader.new ≡ reader.old) }
     ensures same { length into.new ≡ length into.old }
     ensures media { KeepsTold M.Media media.old media.new }
+    ensures asks { AsksOnce M.Media (O.heap o.old).blocks reader.old.object
+        (asked_trailers reader.old.place (length into.old)) media.old media.new }
     ensures looks { Looks O.HasHeap o.old o.new (past_media result) }
 {
     expect_kind(o, reader.object, Kind::Object)?;
@@ -146,6 +153,8 @@ fn read_some<O: Objects, M: Media>(
         (λ row named. cut_pieces place (min (length into.old) most) named) media.old media.new) }
     ensures same { length into.new ≡ length into.old }
     ensures media { KeepsTold M.Media media.old media.new }
+    ensures asks { AsksObject M.Media (O.heap o.old).blocks object
+        (λ row named. cut_pieces place (min (length into.old) most) named) media.old media.new }
     ensures looks { Looks O.HasHeap o.old o.new (past_media result) }
 {
     let first = word(o, object, words::FIRST_EXTENT)?;

@@ -2,6 +2,7 @@
 ghost use Rattle.std.specs.Prelude.{◌≡◌, ◌≢◌, ◌≤◌, ◌<◌, ◌+◌, ◌^◌, IfErr, IfOk, OnErr, OnOk, length};
 ghost use Rattle.sdr_base.specs.Moves.{KeepsSome};
 ghost use Rattle.sdr_base.specs.Works.{Looks};
+ghost use Rattle.zco_wire.specs.Asking.{AsksObject, AsksOnce};
 ghost use Rattle.zco_wire.specs.Naming.{IsWire, SomeWire};
 ghost use Rattle.zco_wire.specs.Reading.{FillsWith, GivesObject, asked_wire};
 ghost use Rattle.zco_wire.specs.Stopping.{IsPageRefused, KeepsTold, ReadStops, StopsObject, past_media};
@@ -41,6 +42,8 @@ pub fn transmit<O: Objects, M: Media>(
     ensures stays { OnErr result (reader.new ≡ reader.old) }
     ensures same { length into.new ≡ length into.old }
     ensures media { KeepsTold M.Media media.old media.new }
+    ensures asks { AsksOnce M.Media (O.heap o.old).blocks reader.old.object
+        (asked_wire reader.old.place (length into.old)) media.old media.new }
     ensures looks { Looks O.HasHeap o.old o.new (past_media result) }
 {
     expect_kind(o, reader.object, Kind::Object)?;
@@ -83,6 +86,8 @@ fn read_wire<O: Objects, M: Media>(
         (asked_wire place (length into.old)) media.old media.new) }
     ensures same { length into.new ≡ length into.old }
     ensures media { KeepsTold M.Media media.old media.new }
+    ensures asks { AsksObject M.Media (O.heap o.old).blocks object
+        (asked_wire place (length into.old)) media.old media.new }
     ensures looks { Looks O.HasHeap o.old o.new (past_media result) }
 {
     let first = first_parts(o, object)?;

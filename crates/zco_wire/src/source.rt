@@ -1,10 +1,11 @@
 // The bytes of a source.
-ghost use Rattle.std.specs.Prelude.{◌≡◌, ◌≤◌, IfErr, IfOk, OnOk, Option, length};
+ghost use Rattle.std.specs.Prelude.{◌≡◌, ◌≤◌, ◌+◌, IfErr, IfOk, OnOk, Option, length};
 ghost use Rattle.sdr_base.specs.Media.{Told};
 ghost use Rattle.sdr_base.specs.Moves.{KeepsSome};
 ghost use Rattle.sdr_base.specs.Objects.{OnlyFault};
 ghost use Rattle.sdr_base.specs.Works.{Looks};
 ghost use Rattle.zco_ref.specs.Kept.{SomeSource};
+ghost use Rattle.zco_wire.specs.Asking.{AsksRange};
 ghost use Rattle.zco_wire.specs.Naming.{SomeNamed};
 ghost use Rattle.zco_wire.specs.Seeing.{SeesMedium, SeesRaw};
 ghost use Rattle.zco_wire.specs.Sources.{GivesRange, IsShortOf, SeesPath, SomePath, TellsPath};
@@ -87,6 +88,7 @@ fn read_file<O: Objects, M: Media>(
         (StopsRange M.Media (O.heap o.old).blocks range media.old media.new) }
     ensures same { length into.new ≡ length into.old }
     ensures media { KeepsTold M.Media media.old media.new }
+    ensures asks { M.asks media.new ≤ M.asks media.old + 1 }
     ensures looks { Looks O.HasHeap o.old o.new (past_media result) }
 {
     let mut buffer = [0; LONGEST_PATH as usize];
@@ -114,6 +116,7 @@ fn read_item<O: Objects, M: Media>(
         (StopsRange M.Media (O.heap o.old).blocks range media.old media.new) }
     ensures same { length into.new ≡ length into.old }
     ensures media { KeepsTold M.Media media.old media.new }
+    ensures asks { M.asks media.new ≤ M.asks media.old + 1 }
     ensures looks { Looks O.HasHeap o.old o.new (past_media result) }
 {
     let item = word(o, range.of, words::SUBJECT)?;
@@ -155,6 +158,7 @@ pub fn read_range<O: Objects, M: Media>(
         (StopsRange M.Media (O.heap o.old).blocks range media.old media.new) }
     ensures same { length into.new ≡ length into.old }
     ensures media { KeepsTold M.Media media.old media.new }
+    ensures asks { AsksRange M.Media (O.heap o.old).blocks range media.old media.new }
     ensures looks { Looks O.HasHeap o.old o.new (past_media result) }
 {
     match medium(o, range.of)? {

@@ -1,8 +1,8 @@
-use Rattle.std.proofs.Common.{◌≡◌, ◌≤◌, ◌∷◌, [], length, subst, sym, ◌∙◌, arith}
+use Rattle.std.proofs.Common.{◌≡◌, ◌≤◌, ◌+◌, ◌∷◌, [], length, subst, sym, ◌∙◌, arith}
 use Rattle.std.proofs.lemmas.List.{nil_from_length}
 use Rattle.sdr_model.specs.Pieces.{pieces_told}
-use Rattle.sdr_gather.specs.Gathering.{AddsPiece, AreGathered, Gathering}
-use Rattle.sdr_gather.proofs.GatheringLemmas.{gathering-end, gathering-next, rest_fits}
+use Rattle.sdr_gather.specs.Gathering.{AddsPiece, AreGathered, Gathering, count_outside}
+use Rattle.sdr_gather.proofs.GatheringLemmas.{count_outside-cons, gathering-end, gathering-next, rest_fits}
 use Rattle.sdr_gather.proofs.gathering.gather.Goals as goal
 
 pub loop-piece-preserved : goal.loop-piece-preserved
@@ -18,6 +18,11 @@ loop-piece-preserved g c =
       told = c.add_piece.ensures.told ∙ c.loop-piece.invariant.told;
       faults = omega (arith, c.loop-piece.invariant.faults, c.add_piece.ensures.faults);
       short = omega (arith, c.loop-piece.invariant.short, c.add_piece.ensures.short);
+      asks =
+          let more = c.add_piece.ensures.asks in
+          let before = subst (λ l. g.M.Media.asks c.loop-piece.media + count_outside l ≤ g.M.Media.asks c.args.media.now + count_outside c.args.pieces.now) e
+          c.loop-piece.invariant.asks in
+          omega (arith, more, before, count_outside-cons c.in-Some.piece.now c.in-Some.after.now);
     }
 
 pub returns-clause-gathered : goal.returns-clause-gathered

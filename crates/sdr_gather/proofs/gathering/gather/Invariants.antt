@@ -1,6 +1,6 @@
-use Rattle.std.proofs.Common.{◌≡◌, ◌≤◌, length}
+use Rattle.std.proofs.Common.{◌≡◌, ◌≤◌, ◌+◌, length}
 use Rattle.sdr_model.specs.Pieces.{pieces_told}
-use Rattle.sdr_gather.specs.Gathering.{Gathering}
+use Rattle.sdr_gather.specs.Gathering.{Gathering, count_outside}
 use Rattle.sdr_gather.proofs.gathering.gather.Given as goal
 
 abbrev pub invariant-loop-piece : goal.invariant-loop-piece
@@ -11,6 +11,7 @@ invariant-loop-piece g l = record {
   told : g.M.Media.told l.media ≡ g.M.Media.told l.fn.media;
   faults : g.M.Media.faults l.fn.media ≤ g.M.Media.faults l.media;
   short : g.M.Media.short l.fn.media ≤ g.M.Media.short l.media;
+  asks : g.M.Media.asks l.media + count_outside l.rest ≤ g.M.Media.asks l.fn.media + count_outside l.pieces;
 }
 
 abbrev pub decreases-loop-piece : goal.decreases-loop-piece

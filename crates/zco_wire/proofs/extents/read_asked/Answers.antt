@@ -2,7 +2,7 @@
 use Rattle.std.proofs.Common.{◌∙◌, length, arith}
 use Rattle.std.proofs.lemmas.Slice.{take-put_mid}
 use Rattle.std.proofs.lemmas.Result.{err_from_is_err_and}
-use Rattle.zco_wire.proofs.HeadLemmas.{nothing_over, range_failed, range_over, range_stops, slice_long, some_within}
+use Rattle.zco_wire.proofs.HeadLemmas.{nothing_over, range_asks_at, range_failed, range_over, range_stops, range_unasked_at, slice_long, some_within}
 use Rattle.zco_wire.proofs.StoppingLemmas.{looks_past}
 use Rattle.zco_wire.proofs.extents.read_asked.Goals as goal
 
@@ -56,3 +56,21 @@ returns-clause-read g c =
     (take-put_mid c.args.at.given _ c.args.into.now c.read_range.new.into c.behind-2.result.given (omega (arith, c.behind-2.ensures.given, got)) c.requires.room)
     c.args.range (record { offset = w.offset; length = w.length; skip = c.behind-2.ensures.skip; given = c.behind-2.ensures.given }) got
     (λ nz. c.in_ok-read_range.ensures.gives)
+
+pub returns-clause-asks : goal.returns-clause-asks
+returns-clause-asks g c =
+    let w = c.window-part.ensures in
+    range_asks_at g.M.Media c.args.range c.args.at c.window-part.result (length c.args.into.now) c.args.media.now c.read_range.new.media
+    w.offset w.length c.if-part-eq0.false c.read_range.ensures.asks
+
+pub returns-in_err-read_range-clause-asks : goal.returns-in_err-read_range-clause-asks
+returns-in_err-read_range-clause-asks g c =
+    let w = c.window-part.ensures in
+    range_asks_at g.M.Media c.args.range c.args.at c.window-part.result (length c.args.into.now) c.args.media.now c.read_range.new.media
+    w.offset w.length c.if-part-eq0.false c.read_range.ensures.asks
+
+pub returns-then-part-eq0-clause-asks : goal.returns-then-part-eq0-clause-asks
+returns-then-part-eq0-clause-asks g c = range_unasked_at g.M.Media c.args.range c.args.at c.args.media.now
+
+pub returns-in_err-check_failed-clause-asks : goal.returns-in_err-check_failed-clause-asks
+returns-in_err-check_failed-clause-asks g c = range_unasked_at g.M.Media c.args.range c.args.at c.args.media.now

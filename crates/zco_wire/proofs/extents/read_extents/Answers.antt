@@ -3,7 +3,7 @@ use Rattle.std.proofs.Common.{◌∙◌, refl, arith}
 use Rattle.std.proofs.lemmas.Result.{err_from_is_err_and}
 use Rattle.sdr_base.proofs.WorksLemmas.{looks_looks, looks_ok, looks_on}
 use Rattle.zco_wire.proofs.StoppingLemmas.{looks_past, told_same, told_then}
-use Rattle.zco_wire.proofs.WalkLemmas.{named_at_full, named_at_most, named_at_zero, named_failed, named_on, named_start, named_stops, some_extent, some_named}
+use Rattle.zco_wire.proofs.WalkLemmas.{named_asks, named_asks_on, named_at_full, named_at_most, named_at_zero, named_failed, named_on, named_start, named_stops, named_unasked, some_extent, some_named}
 use Rattle.zco_wire.proofs.extents.read_extents.Goals as goal
 
 pub returns-in_err-check_failed-clause-stops : goal.returns-in_err-check_failed-clause-stops
@@ -55,8 +55,29 @@ returns-in_err-cursor-clause-stops g c =
     let seen = rw l.looks.same at c.in_ok-link.ensures.seen in
     let stops = rw (c.see_link.ensures.looks.same, l.looks.same) at c.in_err-cursor.ensures.stops in
     rw (p.1, p.2)
-    (named_stops l.walks g.M.Media c.in_ok-link.link c.args.media.now c.loop-i.media c.read_asked.new.media _ c.if-extent-eq0.false seen refl
-    l.media l.same stops)
+    (named_stops l.walks c.in_ok-link.link c.read_asked.new.media _ c.if-extent-eq0.false seen l.media l.same stops)
+
+pub returns-in_err-cursor-clause-asks : goal.returns-in_err-cursor-clause-asks
+returns-in_err-cursor-clause-asks g c =
+    let l = c.loop-i.invariant in
+    let seen = rw l.looks.same at c.in_ok-link.ensures.seen in
+    named_asks_on l.walks c.in_ok-link.link c.if-extent-eq0.false seen l.same
+    (rw (c.see_link.ensures.looks.same, l.looks.same) at c.read_asked.ensures.asks)
+
+pub returns-in_err-link-clause-asks : goal.returns-in_err-link-clause-asks
+returns-in_err-link-clause-asks g c = named_asks c.loop-i.invariant.walks
+
+pub returns-in_err-check_failed-clause-asks : goal.returns-in_err-check_failed-clause-asks
+returns-in_err-check_failed-clause-asks g c = named_unasked g.M.Media c.args.first c.args.at c.args.media.now
+
+pub returns-after-loop-i-clause-asks : goal.returns-after-loop-i-clause-asks
+returns-after-loop-i-clause-asks g c = named_asks c.loop-i.invariant.walks
+
+pub returns-then-extent-eq0-clause-asks : goal.returns-then-extent-eq0-clause-asks
+returns-then-extent-eq0-clause-asks g c = named_asks c.loop-i.invariant.walks
+
+pub returns-then-full-clause-asks : goal.returns-then-full-clause-asks
+returns-then-full-clause-asks g c = named_asks c.loop-i.invariant.walks
 
 pub returns-in_err-cursor-clause-same : goal.returns-in_err-cursor-clause-same
 returns-in_err-cursor-clause-same g c = c.read_asked.ensures.same ∙ c.loop-i.invariant.same
@@ -76,7 +97,8 @@ loop-i-preserved g c =
     let seen = rw l.looks.same at c.in_ok-link.ensures.seen in
     let read = rw (c.see_link.ensures.looks.same, l.looks.same) at c.in_ok-cursor.ensures.read in
     record {
-      walks = named_on l.walks c.in_ok-link.link c.if-extent-eq0.false seen (rw l.media.told at read) l.same;
+      walks = named_on l.walks c.in_ok-link.link c.if-extent-eq0.false seen (rw l.media.told at read) l.same
+          (rw (c.see_link.ensures.looks.same, l.looks.same) at c.read_asked.ensures.asks);
       room = let r = c.in_ok-cursor.ensures.room in let s = c.read_asked.ensures.same in omega (arith, r, s);
       same = c.read_asked.ensures.same ∙ l.same;
       media = told_then l.media c.read_asked.ensures.media;

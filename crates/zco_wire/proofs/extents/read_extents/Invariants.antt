@@ -8,7 +8,7 @@ use Rattle.zco_wire.proofs.extents.read_extents.Given as goal
 
 abbrev pub invariant-loop-i : goal.invariant-loop-i
 invariant-loop-i g l = record {
-  walks : WalksNamed (g.M.Media.told l.fn.media) (g.O.HasHeap.heap l.fn.o).blocks l.first l.extent l.i l.fn.at l.cursor l.fn.into l.into;
+  walks : WalksNamed g.M.Media l.fn.media l.media (g.O.HasHeap.heap l.fn.o).blocks l.first l.extent l.i l.fn.at l.cursor l.fn.into l.into;
   room : l.cursor.given ≤ length l.into;
   same : length l.into ≡ length l.fn.into;
   media : KeepsTold g.M.Media l.fn.media l.media;

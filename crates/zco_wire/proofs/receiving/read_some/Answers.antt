@@ -5,10 +5,11 @@ use Rattle.std.proofs.lemmas.Result.{err_from_is_err_and}
 use Rattle.sdr_base.proofs.WorksLemmas.{looks_looks}
 use Rattle.zco_obj.proofs.KeptLemmas.{object_reaches}
 use Rattle.sdr_model.specs.Pieces.{cut_pieces}
+use Rattle.zco_wire.specs.Asking.{AsksAtNamed}
 use Rattle.zco_wire.specs.Reading.{FillsWith}
 use Rattle.zco_wire.specs.Stopping.{StopsAtNamed}
 use Rattle.zco_wire.proofs.StoppingLemmas.{looks_past}
-use Rattle.zco_wire.proofs.WireLemmas.{begin_at, fills_some, first_is, object_failed, some_ends, some_names, some_stops}
+use Rattle.zco_wire.proofs.WireLemmas.{begin_at, fills_some, first_is, object_failed, object_unasked, some_asks, some_ends, some_names, some_stops}
 use Rattle.zco_wire.proofs.receiving.read_some.Goals as goal
 
 pub word-requires-clause-inside : goal.word-requires-clause-inside
@@ -70,3 +71,30 @@ returns-clause-ends g c = λ nz.
     let few = c.in_ok-at.ensures.room in let same = c.read_extents.ensures.same in
     some_ends c.args.place (length sub) c.in_ok-at.at.given w c.requires.object
     (fills_some (first_is c.in_ok-first.ensures.given) c.args.place (drop c.min-count.result c.args.into.now) e (omega (arith, few, same))) nz
+
+pub returns-in_err-first-clause-asks : goal.returns-in_err-first-clause-asks
+returns-in_err-first-clause-asks g c = object_unasked g.M.Media _ c.args.media.now
+
+pub returns-in_err-at-clause-asks : goal.returns-in_err-at-clause-asks
+returns-in_err-at-clause-asks g c =
+    let blocks = (g.O.HasHeap.heap c.args.o.now).blocks in
+    let first = c.in_ok-first.first in
+    let t = length-take c.min-count.result c.args.into.now in
+    let m = c.min-count.ensures in
+    let room : length (take c.min-count.result c.args.into.now) ≡ min (length c.args.into.now) c.args.most = omega (arith, t, m) in
+    let a = rw c.word.ensures.looks.same at c.read_extents.ensures.asks in
+    some_asks (first_is c.in_ok-first.ensures.given) g.M.Media c.args.place (min (length c.args.into.now) c.args.most) c.args.media.now
+    c.read_extents.new.media
+    (subst (λ n. AsksAtNamed g.M.Media blocks first (begin_at c.args.place) n c.args.media.now c.read_extents.new.media) room a)
+
+pub returns-clause-asks : goal.returns-clause-asks
+returns-clause-asks g c =
+    let blocks = (g.O.HasHeap.heap c.args.o.now).blocks in
+    let first = c.in_ok-first.first in
+    let t = length-take c.min-count.result c.args.into.now in
+    let m = c.min-count.ensures in
+    let room : length (take c.min-count.result c.args.into.now) ≡ min (length c.args.into.now) c.args.most = omega (arith, t, m) in
+    let a = rw c.word.ensures.looks.same at c.read_extents.ensures.asks in
+    some_asks (first_is c.in_ok-first.ensures.given) g.M.Media c.args.place (min (length c.args.into.now) c.args.most) c.args.media.now
+    c.read_extents.new.media
+    (subst (λ n. AsksAtNamed g.M.Media blocks first (begin_at c.args.place) n c.args.media.now c.read_extents.new.media) room a)

@@ -4,7 +4,7 @@ use Rattle.std.proofs.lemmas.Result.{err_from_is_err_and}
 use Rattle.sdr_base.proofs.WorksLemmas.{looks_looks, looks_ok}
 use Rattle.zco_wire.specs.Reading.{asked_wire}
 use Rattle.zco_wire.proofs.StoppingLemmas.{looks_past}
-use Rattle.zco_wire.proofs.WireLemmas.{fills_wire, object_failed, some_extents, some_headers, some_object, some_trailers, wire_ends, wire_stops}
+use Rattle.zco_wire.proofs.WireLemmas.{fills_wire, object_failed, object_unasked, some_extents, some_headers, some_object, some_trailers, wire_asks, wire_ends, wire_stops}
 use Rattle.zco_wire.proofs.sending.read_wire.Goals as goal
 
 pub first_parts-requires-clause-object : goal.first_parts-requires-clause-object
@@ -92,3 +92,27 @@ returns-clause-looks g c =
     looks_ok
     (looks_looks (looks_looks (looks_looks c.in_ok-first.ensures.looks c.in_ok-headers.ensures.looks) c.in_ok-extents.ensures.looks)
     c.in_ok-trailers.ensures.looks)
+
+pub returns-in_err-first-clause-asks : goal.returns-in_err-first-clause-asks
+returns-in_err-first-clause-asks g c = object_unasked g.M.Media (asked_wire c.args.place (length c.args.into.now)) c.args.media.now
+
+pub returns-in_err-headers-clause-asks : goal.returns-in_err-headers-clause-asks
+returns-in_err-headers-clause-asks g c = object_unasked g.M.Media (asked_wire c.args.place (length c.args.into.now)) c.args.media.now
+
+pub returns-in_err-extents-clause-asks : goal.returns-in_err-extents-clause-asks
+returns-in_err-extents-clause-asks g c =
+    let h = rw c.first_parts.ensures.looks.same at c.in_ok-headers.ensures.read in
+    let a = rw (c.read_heads.ensures.looks.same, c.first_parts.ensures.looks.same) at c.read_extents.ensures.asks in
+    wire_asks c.in_ok-first.ensures.told g.M.Media c.args.place c.args.media.now c.read_extents.new.media h c.read_heads.ensures.same a
+
+pub returns-in_err-trailers-clause-asks : goal.returns-in_err-trailers-clause-asks
+returns-in_err-trailers-clause-asks g c =
+    let h = rw c.first_parts.ensures.looks.same at c.in_ok-headers.ensures.read in
+    let a = rw (c.read_heads.ensures.looks.same, c.first_parts.ensures.looks.same) at c.read_extents.ensures.asks in
+    wire_asks c.in_ok-first.ensures.told g.M.Media c.args.place c.args.media.now c.read_extents.new.media h c.read_heads.ensures.same a
+
+pub returns-clause-asks : goal.returns-clause-asks
+returns-clause-asks g c =
+    let h = rw c.first_parts.ensures.looks.same at c.in_ok-headers.ensures.read in
+    let a = rw (c.read_heads.ensures.looks.same, c.first_parts.ensures.looks.same) at c.read_extents.ensures.asks in
+    wire_asks c.in_ok-first.ensures.told g.M.Media c.args.place c.args.media.now c.read_extents.new.media h c.read_heads.ensures.same a

@@ -5,6 +5,7 @@ use Rattle.sdr_base.proofs.WorksLemmas.{looks_looks}
 use Rattle.zco_wire.specs.Reading.{asked_wire}
 use Rattle.zco_wire.proofs.AnswerLemmas.{missed, object_stops, paged}
 use Rattle.zco_wire.proofs.StoppingLemmas.{looks_past}
+use Rattle.zco_wire.proofs.WireLemmas.{object_unasked}
 use Rattle.zco_wire.proofs.sending.transmit.Goals as goal
 
 pub returns-in_err-expect_kind-clause-stops : goal.returns-in_err-expect_kind-clause-stops
@@ -56,3 +57,27 @@ returns-clause-given g c =
 
 pub returns-clause-looks : goal.returns-clause-looks
 returns-clause-looks g c = looks_looks c.in_ok-expect_kind.ensures.looks c.in_ok-given.ensures.looks
+
+pub returns-in_err-expect_kind-clause-asks : goal.returns-in_err-expect_kind-clause-asks
+returns-in_err-expect_kind-clause-asks g c = record {
+  once = object_unasked g.M.Media (asked_wire c.args.reader.now.place (length c.args.into.now)) c.args.media.now;
+  none = λ no. refl;
+}
+
+pub returns-in_err-check_page-clause-asks : goal.returns-in_err-check_page-clause-asks
+returns-in_err-check_page-clause-asks g c = record {
+  once = object_unasked g.M.Media (asked_wire c.args.reader.now.place (length c.args.into.now)) c.args.media.now;
+  none = λ no. refl;
+}
+
+pub returns-in_err-given-clause-asks : goal.returns-in_err-given-clause-asks
+returns-in_err-given-clause-asks g c = record {
+  once = rw c.expect_kind.ensures.looks.same at c.read_wire.ensures.asks;
+  none = λ no. absurd (no c.in_ok-expect_kind.ensures.found);
+}
+
+pub returns-clause-asks : goal.returns-clause-asks
+returns-clause-asks g c = record {
+  once = rw c.expect_kind.ensures.looks.same at c.read_wire.ensures.asks;
+  none = λ no. absurd (no c.in_ok-expect_kind.ensures.found);
+}
