@@ -16,6 +16,7 @@
 //! answers and the journal are those of one run of the script on the heap that was opened (`ReplaysOn`), for every disk. If the disk was
 //! settled (`IsSettled`), a crash at any moment of the call leaves a disk that opens to the state after some first entries, all done ones
 //! among them (`any_moment`, `LeavesJournal`). Each entry is begun and done between the begin of the call and its return (`in_time`).
+//! No byte outside the regions changes (`outside`). A settled disk that didn't fail is settled again (`settled`, `again`).
 //!
 //! Only tested: each call's answers (`tests/cases`).
 #![tactic(auto)]
