@@ -1,5 +1,5 @@
 -- What the blocks of a heap tell of one another is right where an audit of its owners, lists, hashes, names and counts passes.
-use Rattle.std.proofs.Common.{◌≡◌, ◌≤◌, ◌<◌, ◌+◌, ◌-◌, ◌/◌, ◌==◌, ◌||◌, ℕ, Bool, List, not, true, false, length, get_or, take, drop, map, nat_eq, sum_by, arith, ap, ◌∙◌, refl, sym, subst, inl, inr, eqb-true}
+use Rattle.std.proofs.Common.{◌≡◌, ◌≤◌, ◌<◌, ◌+◌, ◌-◌, ◌/◌, ◌==◌, ◌||◌, ℕ, Bool, List, not, true, false, length, get_or, take, map, nat_eq, sum_by, arith, ap, ◌∙◌, refl, sym, subst, inl, inr, eqb-true}
 use Rattle.std.specs.Prelude.{is_none, Option, None, Some, nat_le, slice_index_or}
 use Rattle.std.specs.Cmp.Lexicographic.{bytes_decides, pointwise}
 use Rattle.std.specs.List.{All, list_all, range_with_len}
@@ -42,19 +42,13 @@ use Rattle.audit_world.proofs.RiseLemmas.{rows_distinct}
 use Rattle.audit_world.proofs.TiesLemmas.{unless}
 use Rattle.audit_world.specs.Told.{bucket_told, entry_told, extent_told, hash_told, name_told, object_told, world_told}
 
--- the bytes of a block, as keys and names are read and as things are
-pub same_bytes : (o : Option Block) → bytes_of o ≡ bytes_of o
-same_bytes None = refl
-same_bytes (Some block) = refl
-
 key_read : (heap : View) (addr : ℕ) → text_at heap texts.Key addr ≡ (entry_told heap addr).key
-key_read heap addr = ap (drop 16) (same_bytes (heap.blocks addr))
+key_read heap addr = refl
 
 name_read : (heap : View) (addr : ℕ) → text_at heap texts.Name addr ≡ (name_told heap addr).name
 name_read heap addr =
     let bytes : List ℕ = bytes_of (heap.blocks addr) in
-    ap (keyed.text_in texts.Name) (same_bytes (heap.blocks addr))
-    ∙ (λ i. take (sym (get_or-drop 24 bytes 0 0) i) (sym (drop-drop 1 24 bytes) i))
+    λ i. take (sym (get_or-drop 24 bytes 0 0) i) (sym (drop-drop 1 24 bytes) i)
 
 -- what passes of all numbers of a range passes of each
 passes_at : (p : ℕ → Bool) (n k : ℕ) → list_all p (range_with_len 0 n) ≡ true → k < n → p k ≡ true

@@ -1,6 +1,6 @@
 -- Lists, hashes and names of a heap that keeps a world are right.
-use Rattle.std.proofs.Common.{◌≡◌, ◌≤◌, ◌<◌, ◌+◌, ◌/◌, ◌^◌, ◌==◌, ◌&&◌, ℕ, zero, suc, Bool, true, false, cond, nat_eq, List, [], ◌∷◌, map, filter, length, get_or, drop, take, sum_by, Some, arith, refl, sym, ap, ◌∙◌, subst}
-use Rattle.std.specs.Prelude.{None, Option, is_none}
+use Rattle.std.proofs.Common.{◌≡◌, ◌≤◌, ◌<◌, ◌+◌, ◌/◌, ◌^◌, ◌==◌, ◌&&◌, ℕ, zero, suc, Bool, true, false, cond, nat_eq, List, [], ◌∷◌, map, filter, length, take, sum_by, Some, arith, refl, sym, ap, ◌∙◌, subst}
+use Rattle.std.specs.Prelude.{Option, is_none}
 use Rattle.std.specs.Cmp.Lexicographic.{pointwise}
 use Rattle.std.specs.List.{All, list_all, range_with_len}
 use Rattle.std.proofs.lemmas.Bool.{and_from, eq-eqb}
@@ -58,10 +58,6 @@ use Rattle.sdr_audit.proofs.ToldLemmas.{names_are}
 use Rattle.sdr_audit.proofs.KeptLemmas.{All-unmap}
 use Rattle.sdr_audit.proofs.SoundStandLemmas.{All-every}
 
-same_bytes : (o : Option Block) → bytes_of o ≡ bytes_of o
-same_bytes None = refl
-same_bytes (Some block) = refl
-
 -- a test that passes at each of so many numbers passes at all
 all_range : (p : ℕ → Bool) (a n : ℕ) → ((k : ℕ) → a ≤ k → k < a + n → p k ≡ true) → list_all p (range_with_len a n) ≡ true
 all_range p a zero passes = refl
@@ -90,7 +86,7 @@ keys_pass q p R passes (e ∷ es) all =
 module _ (heap : View) where
   -- the key of an entry is what is told of it
   key_told : (n : ℕ) → text_at heap texts.Key n ≡ (entry_told heap n).key
-  key_told n = ap (λ (l : List ℕ). drop 16 l) (same_bytes (heap.blocks n))
+  key_told n = refl
 
   keys_told : (ns : List ℕ) → map (text_at heap texts.Key) ns ≡ map (λ (e : HashEntry). e.key) (map (entry_told heap) ns)
   keys_told ns = (λ i. map (λ (n : ℕ). key_told n i) ns) ∙ sym (map-map (λ (e : HashEntry). e.key) (entry_told heap) ns)
@@ -99,8 +95,7 @@ module _ (heap : View) where
   name_is : (n : ℕ) → text_at heap texts.Name n ≡ (name_told heap n).name
   name_is n =
       let bytes : List ℕ = bytes_of (heap.blocks n) in
-      ap (λ (l : List ℕ). take (get_or l 24 0) (drop 25 l)) (same_bytes (heap.blocks n))
-      ∙ (λ i. take (sym (get_or-drop 24 (bytes_of (heap.blocks n)) 0 0) i) (sym (drop-drop 1 24 (bytes_of (heap.blocks n))) i))
+      (λ i. take (sym (get_or-drop 24 (bytes_of (heap.blocks n)) 0 0) i) (sym (drop-drop 1 24 (bytes_of (heap.blocks n))) i))
 
   names_told : (ns : List ℕ) → map (text_at heap texts.Name) ns ≡ map (λ (n : Name). n.name) (map (name_told heap) ns)
   names_told ns = (λ i. map (λ (n : ℕ). name_is n i) ns) ∙ sym (map-map (λ (n : Name). n.name) (name_told heap) ns)

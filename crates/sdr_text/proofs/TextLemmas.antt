@@ -3,13 +3,10 @@ use Rattle.std.proofs.Common.{◌≡◌, ◌/◌, ◌%◌, ℕ, List, [], ◌∷
 use Rattle.std.specs.declared.option.Option.{Option}
 use Rattle.std.specs.Io.KnownBytes.{Appends}
 use Rattle.std.proofs.KnownBytes.{Appends-trans}
-use Rattle.std.proofs.lemmas.Bool.{cond-true, cond-false}
-use Rattle.std.specs.List.{list_all}
 use Rattle.hex.specs.Hex.{encode_with, encode_lower, lower_digits}
 use Rattle.sdr_base.specs.Written.{AppendsPart}
 use Rattle.sdr_base.proofs.WrittenLemmas.{rose_later}
 use Rattle.sdr_text.specs.Refused.{field_on}
-use Rattle.sdr_text.specs.Text.{is_text_byte, literal_text}
 
 -- a part of the front is a part of the whole
 pub part_front : (old new : Option (List ℕ)) (text more : List ℕ) → AppendsPart old new text → AppendsPart old new (text ++ more)

@@ -1,2 +1,3 @@
 pub mod Refused
 pub mod Text
+pub mod JournalText

@@ -68,7 +68,7 @@ fn reply(line: &mut Line, reply: &Reply)
 }
 
 // Adds how a transaction closed.
-fn close(line: &mut Line, close: Close)
+pub fn close(line: &mut Line, close: Close)
     requires { length line.old ≤ 400 }
     ensures text { line.new ≡ close_on line.old close }
     ensures len { length line.new ≤ length line.old + 38 }
@@ -152,7 +152,7 @@ fn write_entry<K: Sink>(
 }
 
 // Writes the rest of a line behind its front: an answer, with the bytes that its call gave.
-fn write_behind<K: Sink>(
+pub fn write_behind<K: Sink>(
     out: &mut K,
     mut text: Line,
     given: &Answer,

@@ -1,21 +1,23 @@
-//! The printed texts: a line for each answer.
+//! The printed texts: a line for each answer, and the journal.
 //!
 //! 1. A line is built in place and goes out in one write, one that shows the bytes of a call too.
 //! 2. Nothing here takes memory.
 //! 3. Where the sink fails, a part of the text from its front was written.
 //!
-//! Proved: `write_answer` writes `line_text` of each answer, whole, or a part from the front if the sink failed
-//! (`ok`, `err`, `cause`). It takes no memory.
+//! Proved: `write_answer` writes `line_text` of each answer and `write_journal` `journal_text` of a journal, whole, or a
+//! part from the front if the sink failed (`ok`, `err`, `cause`). Neither takes memory.
 //!
-//! Only tested: the text of each answer, reason and refusal (`test_text`).
+//! Only tested: that these definitions print what a reader expects of each answer, reason, refusal and entry (`test_text`).
 #![tactic(auto)]
 
 mod answer;
 mod given;
+mod journal;
 mod line;
 mod refused;
 
 pub use answer::{add_grant, write_answer};
 pub use given::{are_text_bytes, write_given, write_literal};
+pub use journal::write_journal;
 pub use line::Line;
 pub use refused::add_space;

@@ -1,5 +1,4 @@
 pub mod ChargeLemmas
 pub mod ExampleLemmas
-pub mod PartLemmas
 pub mod SmallLemmas
 pub mod TiedLemmas

@@ -34,7 +34,8 @@ use Rattle.step_zco.proofs.GoneWorlds.{beside, own_first}
 use Rattle.step_zco.proofs.ObjectLemmas.{object_beside, object_is_at}
 use Rattle.zco_obj.specs.Gone.{NamedSource, sources_entries}
 use Rattle.zco_part.specs.Cloning.{IsToClone, KeepsToClone}
-use Rattle.zco_part.specs.Pieces.{asked, cut, filled, piece_of, pieces}
+use Rattle.zco_obj.specs.Links.{piece_of}
+use Rattle.zco_part.specs.Pieces.{asked, cut, filled, pieces}
 use Rattle.zco_part.specs.Sources.{MayCount}
 use Rattle.step_zco_parts.specs.PartAnswering.{IsCountable}
 use Rattle.step_zco.proofs.SourceLemmas.{source_stands}

@@ -28,7 +28,8 @@ use Rattle.sdr_model.specs.declared.zco.ZcoSource.{ZcoSource}
 use Rattle.step_zco.proofs.ObjectLemmas.{object_kept, short_source}
 use Rattle.step_zco_parts.specs.Giving.{asked_by}
 use Rattle.step_zco.proofs.SourceLemmas.{IsRawOf, counted_in, source_tied}
-use Rattle.zco_wire.specs.Naming.{AreNamed, HasUntil, IsNamed, KeepsWire, head_pieces, range_of}
+use Rattle.zco_obj.specs.Links.{piece_of}
+use Rattle.zco_wire.specs.Naming.{AreNamed, HasUntil, IsNamed, KeepsWire, head_pieces}
 use Rattle.zco_wire.specs.Naming as wire
 
 -- the path of a subject isn't too long
@@ -49,21 +50,21 @@ until_subject w (subjects.Obj raw) bytes all end there has le =
     let l : length bytes ≡ all = subst (λ (o : Option Thing). HasBytes all (as_raw o)) there has in omega (arith, l, le)
 
 -- the piece of a subject is that of its row
-piece_of : (w : World) (subject : Subject) (flagged : Bool) (all : ℕ) (bytes : List ℕ) (offset count : ℕ) → IsRawOf w subject bytes →
+source_piece_is : (w : World) (subject : Subject) (flagged : Bool) (all : ℕ) (bytes : List ℕ) (offset count : ℕ) → IsRawOf w subject bytes →
     subject_piece w offset count subject
     ≡ wire.source_piece (source_row (record { subject = subject; length = all; flagged = flagged })) bytes offset count
-piece_of w (subjects.File path) flagged all bytes offset count raw = refl
-piece_of w (subjects.Bulk item) flagged all bytes offset count raw = refl
-piece_of w (subjects.Heap raw) flagged all bytes offset count there =
+source_piece_is w (subjects.File path) flagged all bytes offset count raw = refl
+source_piece_is w (subjects.Bulk item) flagged all bytes offset count raw = refl
+source_piece_is w (subjects.Heap raw) flagged all bytes offset count there =
     ap (λ (o : Option Thing). raw_piece offset count (as_raw o)) there
-piece_of w (subjects.Obj raw) flagged all bytes offset count there =
+source_piece_is w (subjects.Obj raw) flagged all bytes offset count there =
     ap (λ (o : Option Thing). raw_piece offset count (as_raw o)) there
 
 -- in a heap that stands for a world in which calls are served
 module _ (heap : Heap) (w : World) (s : HeapStandsFor heap w) (served : IsReady w) (small : IsSmall heap) where
   -- what an extent names
   extent_named : (e : Extent) (o : Option ZcoSource) → source_at w e.source ≡ o → LiesInside e o →
-      IsNamed heap.blocks (range_of (extent_row e)) (source_piece w e.offset e.length o)
+      IsNamed heap.blocks (piece_of (extent_row e)) (source_piece w e.offset e.length o)
   extent_named e None is inside = absurd inside
   extent_named e (Some source) is inside =
       let there = source_is (thing_at w e.source) source is in
@@ -77,7 +78,7 @@ module _ (heap : Heap) (w : World) (s : HeapStandsFor heap w) (served : IsReady 
         path = path_short source.subject valid.subject;
         ends = let most = short_source heap w s served small e.source source is in omega (arith, most, inside);
         inside = until_subject w source.subject t.bytes source.length (e.offset + e.length) t.raw has inside;
-        is = piece_of w source.subject source.flagged source.length t.bytes e.offset e.length t.raw;
+        is = source_piece_is w source.subject source.flagged source.length t.bytes e.offset e.length t.raw;
       }
 
   -- and all extents

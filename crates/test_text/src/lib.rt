@@ -15,6 +15,8 @@ mod event_tests;
 #[cfg(test)]
 mod grammar_tests;
 #[cfg(test)]
+mod journal_tests;
+#[cfg(test)]
 mod name_tests;
 #[cfg(test)]
 mod scripts;

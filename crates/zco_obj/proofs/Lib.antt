@@ -2,6 +2,7 @@ pub mod KeptLemmas
 pub mod ChainLemmas
 pub mod PlaceLemmas
 pub mod WalkLemmas
+pub mod LinkLemmas
 pub mod SumLemmas
 pub mod PartsLemmas
 pub mod CauseLemmas

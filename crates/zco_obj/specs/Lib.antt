@@ -1,6 +1,7 @@
 pub mod Kept
 pub mod Amounts
 pub mod Walks
+pub mod Links
 pub mod Reading
 pub mod Charging
 pub mod Making

@@ -25,6 +25,7 @@ mod charging;
 mod destroying;
 mod discarding;
 mod extent;
+mod link;
 mod linking;
 mod object;
 mod seeing;
@@ -37,6 +38,7 @@ pub use charging::{capsule_bytes, charge_object, extent_amounts, heap_amounts};
 pub use destroying::{destroy, give_extents};
 pub use discarding::{discard_first_header, discard_last_trailer};
 pub use extent::{ExtentPiece, link_extent};
+pub use link::{Link, see_link};
 pub use object::{Firsts, OBJECT_BYTES, account, create, first_parts, make_object};
 pub use seeing::{
     SeenCapsule, SeenExtent, SeenSource, TOO_MANY_PARTS, see_capsule, see_extent, see_source,

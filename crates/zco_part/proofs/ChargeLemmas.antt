@@ -24,10 +24,11 @@ use Rattle.zco_obj.proofs.SpotLemmas.{SpotOf, amount_by, find_spot, same_amounts
 use Rattle.zco_obj.proofs.WalkLemmas.{HasFirst, fits_from, none_at_zero}
 use Rattle.zco_ref.specs.Kept.{CountedSource, KeepsSource, SomeSource, counted_block, tied_entries}
 use Rattle.zco_part.specs.Charging.{ChargesChain, ChargesPiece, piece_charge, pieces_amounts}
-use Rattle.zco_part.specs.Pieces.{cut, filled, piece_of}
+use Rattle.zco_obj.specs.Links.{SeesLink, piece_of}
+use Rattle.zco_obj.specs.declared.link.Link.{Link}
+use Rattle.zco_part.specs.Pieces.{cut, filled}
 use Rattle.zco_part.specs.Sources.{ExtentsBeside, MayCount, AreCountable, SomeExtentsBeside}
-use Rattle.zco_part.specs.Walking.{SeesLink, Walked}
-use Rattle.zco_part.specs.declared.span.Link.{Link}
+use Rattle.zco_part.specs.Walking.{Walked}
 use Rattle.zco_part.specs.declared.span.Span.{Span}
 use Rattle.zco_part.proofs.LinkLemmas.{keeps_at}
 use Rattle.zco_part.proofs.WalkLemmas.{walk_at, walk_begun, walk_first, walk_many, walk_on, walk_over, walk_whole}

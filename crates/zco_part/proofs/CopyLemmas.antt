@@ -34,8 +34,9 @@ use Rattle.zco_part.specs.Copying.{CopiesChain, CopyAt, CopyStops, HasCopied, Is
 use Rattle.zco_part.specs.Naming.{NamesPiece, PieceStops, SomeWholePair}
 use Rattle.zco_part.specs.Pieces.{cut, filled, extents_at, whole_row}
 use Rattle.zco_part.specs.Sources.{all_counted, pieces_of}
-use Rattle.zco_part.specs.Walking.{SeesLink, Walked}
-use Rattle.zco_part.specs.declared.span.Link.{Link}
+use Rattle.zco_obj.specs.Links.{SeesLink}
+use Rattle.zco_obj.specs.declared.link.Link.{Link}
+use Rattle.zco_part.specs.Walking.{Walked}
 use Rattle.zco_part.specs.declared.span.Span.{Span}
 use Rattle.zco_part.proofs.ChargeLemmas.{spot_counts, spot_of}
 use Rattle.zco_part.proofs.LinkLemmas.{keeps_at}

@@ -1,4 +1,4 @@
--- What an extent's block says, and how many bytes a chain has.
+-- What the block of an extent in a chain says, and how many bytes the chain has.
 use Rattle.std.proofs.Common.{◌≡◌, ◌+◌, ◌≤◌, ◌<◌, ◌^◌, ℕ, List, [], ◌∷◌, ◌++◌, length, get_or, Option, Some, refl, sym, ◌∙◌, arith, subst, append_assoc}
 use Rattle.std.proofs.lemmas.List.Elements.{All-head, All-tail}
 use Rattle.std.proofs.lemmas.List.Sums.{sum_by-cons}
@@ -9,41 +9,17 @@ use Rattle.sdr_base.specs.ZcoObjects.{ExtentRow, extent_addr, extent_block}
 use Rattle.sdr_base.specs.declared.kind.Kind.{Kind}
 use Rattle.sdr_base.specs.declared.kind.Kind.TheVariants as kinds
 use Rattle.sdr_base.proofs.LayoutLemmas.{number_at-layout}
-use Rattle.sdr_base.proofs.WritingLemmas.{word_is}
 use Rattle.zco_obj.specs.Kept.{ExtentFits, extents_length}
-use Rattle.zco_obj.specs.Walks.{ExtentsAt, KeepsExtent, SeesExtent, SomeExtent, Sums, TellsExtents}
-use Rattle.zco_obj.specs.declared.seeing.SeenExtent.{SeenExtent}
+use Rattle.zco_obj.specs.Walks.{ExtentsAt, KeepsExtent, SeesExtent, Sums, TellsExtents}
 use Rattle.zco_obj.proofs.KeptLemmas.{first_extent}
 use Rattle.zco_obj.proofs.SumLemmas.{extents_all, extents_on, extents_start}
 use Rattle.zco_obj.proofs.WalkLemmas.{fits_left, none_at_zero, one_found, sees_extent}
-use Rattle.zco_part.specs.Walking.{SeesLink}
 
 -- a word of a block is there
 pub word_there : (o : Option Block) (kind : Kind) (ws rest : List ℕ) (n : ℕ) →
     o ≡ Some (record { kind = kind; bytes = layout ws rest }) → n < length ws → get_or ws n 0 < 2 ^ 64 → HasWord o n (get_or ws n 0)
 word_there o kind ws rest n e h fits =
     subst (λ x. HasWord x n (get_or ws n 0)) (sym e) (sym (number_at-layout ws rest n h fits))
-
-offset_is : {found : Option Block} {next value : ℕ} {e : ExtentRow} → KeepsExtent found next e → HasWord found 1 value → value ≡ e.offset
-offset_is {found} {next} {value} {e} k h =
-    word_is found kinds.Extent (e.source ∷ e.offset ∷ e.length ∷ next ∷ []) [] 1 value k.block (omega arith)
-    (let i = k.fits.inside in omega (arith, i)) h
-
--- what was read is what it names, and the next one
-pub sees_link : {found : Option Block} (seen : SeenExtent) (offset : ℕ) → SeesExtent found seen → HasWord found 1 offset →
-    SeesLink found (record { piece = record { of = seen.source; offset = offset; bytes = seen.length }; next = seen.next })
-sees_link seen offset v h = record {
-  piece = λ n e k i. record { of = v.source n e k i; offset = offset_is k h i; bytes = v.length n e k i };
-  next = λ n e k. v.next n e k;
-}
-
--- it ends within the longest source
-pub link_ends : {found : Option Block} (seen : SeenExtent) (offset : ℕ) → SomeExtent found → SeesExtent found seen →
-    HasWord found 1 offset → offset + seen.length ≤ 2 ^ 40
-link_ends seen offset s v h =
-    let a = offset_is s.keeps h in
-    let b = v.length s.next s.extent s.keeps in
-    let i = s.keeps.fits.inside in omega (arith, a, b, i)
 
 -- whichever chain is there where one is has as many bytes as it
 module _ {blocks : Blocks} {first : ℕ} {rows : List ExtentRow} (c : ExtentsAt blocks first rows) where

@@ -5,7 +5,8 @@ use Rattle.sdr_base.specs.Linked.{first_of}
 use Rattle.sdr_base.specs.ZcoObjects.{ExtentRow, extent_addr}
 use Rattle.zco_obj.specs.declared.extent.ExtentPiece.{ExtentPiece}
 use Rattle.zco_obj.proofs.WalkLemmas.{HasFirst, has_first}
-use Rattle.zco_part.specs.Pieces.{cut, filled, piece_of, pieces}
+use Rattle.zco_obj.specs.Links.{piece_of}
+use Rattle.zco_part.specs.Pieces.{cut, filled, pieces}
 use Rattle.zco_part.specs.Walking.{Walked}
 use Rattle.zco_part.specs.declared.span.Span.{Span}
 

@@ -4,11 +4,8 @@ use Rattle.sdr_base.specs.ZcoObjects.{ExtentRow, ObjectRow}
 use Rattle.sdr_base.specs.declared.account.Acct.{Acct}
 use Rattle.zco_obj.specs.Extents.{extent_of}
 use Rattle.zco_obj.specs.Kept.{extents_length}
+use Rattle.zco_obj.specs.Links.{piece_of}
 use Rattle.zco_obj.specs.declared.extent.ExtentPiece.{ExtentPiece}
-
--- what an extent names
-abbrev pub piece_of : ExtentRow → ExtentPiece
-piece_of e = record { of = e.source; offset = e.offset; bytes = e.length }
 
 -- a piece, cut to its bytes from one place on and before another
 abbrev pub cut : ℕ → ℕ → ExtentPiece → ExtentPiece

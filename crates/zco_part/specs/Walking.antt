@@ -1,18 +1,10 @@
 -- A chain of extents that is walked, cut to a part of its bytes.
-use Rattle.std.specs.Prelude.{◌≡◌, ◌≤◌, ℕ, List, ◌++◌, length, Option}
-use Rattle.sdr_base.specs.Blocks.{Block}
+use Rattle.std.specs.Prelude.{◌≡◌, ◌≤◌, ℕ, List, ◌++◌, length}
 use Rattle.sdr_base.specs.Linked.{first_of}
 use Rattle.sdr_base.specs.ZcoObjects.{ExtentRow, extent_addr}
-use Rattle.zco_obj.specs.Walks.{KeepsExtent}
 use Rattle.zco_obj.specs.declared.extent.ExtentPiece.{ExtentPiece}
-use Rattle.zco_part.specs.Pieces.{piece_of, pieces}
-use Rattle.zco_part.specs.declared.span.Link.{Link}
+use Rattle.zco_part.specs.Pieces.{pieces}
 use Rattle.zco_part.specs.declared.span.Span.{Span}
-
--- whichever extent stands there, this is what it names, and the next one
-pub record SeesLink (found : Option Block) (link : Link) : Type 0 where
-  pub piece : (next : ℕ) (e : ExtentRow) → KeepsExtent found next e → link.piece ≡ piece_of e
-  pub next : (next : ℕ) (e : ExtentRow) → KeepsExtent found next e → link.next ≡ next
 
 -- so many first ones of these extents were passed, of which these are the pieces; the cursor is at the first of those that are
 -- left, and the span counts from there

@@ -9,10 +9,10 @@ ghost use Rattle.zco_part.specs.Charging.{ChargesChain, ChargesPiece};
 ghost use Rattle.zco_part.specs.Sources.{SomeExtentsBeside};
 ghost use Rattle.zco_ref.specs.Kept.{SomeSource};
 
-use crate::span::{Span, cut, later, see_link};
+use crate::span::{Span, cut, later};
 use sdr_base::{Addr, Amounts, Objects, Stop, check_failed};
 use sdr_model::amounts::{NOTHING, plus};
-use zco_obj::{ExtentPiece, TOO_MANY_PARTS, extent_amounts, see_source};
+use zco_obj::{ExtentPiece, TOO_MANY_PARTS, extent_amounts, see_link, see_source};
 
 // What extents charge of the bytes of a chain in a span. It is linear in the chain.
 pub fn chain_charge<O: Objects>(o: &mut O, first: Addr, span: Span) -> Result<Amounts, Stop>

@@ -17,11 +17,11 @@ ghost use Rattle.zco_part.specs.Naming.{FollowsLast, NamesPiece, PieceStops, Som
 ghost use Rattle.zco_part.specs.Naming.{extent_bytes, with_end};
 ghost use Rattle.zco_part.specs.Pieces.{filled};
 
-use crate::span::{Span, cut, later, see_link};
+use crate::span::{Span, cut, later};
 use byteorder::{BigEndian, ByteOrder};
 use sdr_base::layout::{extent as extent_words, object as words};
 use sdr_base::{Addr, Kind, Objects, Stop, WORD, check_failed, set_word, take_bytes, word};
-use zco_obj::{ExtentPiece, TOO_MANY_PARTS, account};
+use zco_obj::{ExtentPiece, TOO_MANY_PARTS, account, see_link};
 use zco_ref::attach;
 
 // Fills an empty object with one extent for each extent of the chain that the span meets, cut at the

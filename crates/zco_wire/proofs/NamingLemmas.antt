@@ -13,7 +13,8 @@ use Rattle.sdr_model.specs.Pieces.{piece_length, piece_part}
 use Rattle.sdr_model.specs.declared.piece.Piece.{Piece}
 use Rattle.sdr_model.specs.declared.piece.Piece.TheVariants as pieces
 use Rattle.zco_obj.specs.declared.extent.ExtentPiece.{ExtentPiece as Range}
-use Rattle.zco_wire.specs.Naming.{AreNamed, HasUntil, IsNamed, medium_piece, range_of}
+use Rattle.zco_obj.specs.Links.{piece_of}
+use Rattle.zco_wire.specs.Naming.{AreNamed, HasUntil, IsNamed, medium_piece}
 
 -- bytes within a part of bytes
 pub part_in_part : (skip count offset all : ℕ) (bytes : List ℕ) → skip + count ≤ all →
@@ -73,7 +74,7 @@ pub record NamedFirst (blocks : Blocks) (e : ExtentRow) (es : List ExtentRow) (p
   pub one : Piece
   pub others : List Piece
   pub is : ps ≡ one ∷ others
-  pub named : IsNamed blocks (range_of e) one
+  pub named : IsNamed blocks (piece_of e) one
   pub rest : AreNamed blocks es others
 
 pub named_first : {blocks : Blocks} (e : ExtentRow) (es : List ExtentRow) (ps : List Piece) → AreNamed blocks (e ∷ es) ps →

@@ -4,48 +4,17 @@ use Rattle.std.proofs.lemmas.List.{drop_at, drop-drop, take_all}
 use Rattle.sdr_base.specs.Blocks.{Block, Blocks, HasBytes, Reaches, kind_length}
 use Rattle.sdr_base.specs.Parts.{part}
 use Rattle.sdr_base.specs.Words.{HasWord, layout}
-use Rattle.sdr_base.specs.ZcoObjects.{CapsuleRow, ExtentRow}
+use Rattle.sdr_base.specs.ZcoObjects.{CapsuleRow}
 use Rattle.sdr_base.specs.declared.kind.Kind.{Kind}
 use Rattle.sdr_base.specs.declared.kind.Kind.TheVariants as kinds
 use Rattle.sdr_base.specs.declared.medium.Medium.{Medium}
 use Rattle.sdr_base.proofs.LayoutLemmas.{layout-append, length-layout}
-use Rattle.sdr_base.proofs.WritingLemmas.{word_is}
-use Rattle.zco_obj.specs.Walks.{KeepsCapsule, KeepsExtent, SeesCapsule, SeesExtent, SomeCapsule, SomeExtent}
-use Rattle.zco_obj.specs.declared.extent.ExtentPiece.{ExtentPiece as Range}
+use Rattle.zco_obj.specs.Walks.{KeepsCapsule, SeesCapsule, SomeCapsule}
 use Rattle.zco_obj.specs.declared.seeing.SeenCapsule.{SeenCapsule}
-use Rattle.zco_obj.specs.declared.seeing.SeenExtent.{SeenExtent}
 use Rattle.zco_ref.specs.Kept.{CountedSource, KeepsSource}
 use Rattle.zco_ref.specs.Seeing.{IsMediumOf}
 use Rattle.zco_ref.proofs.KeptLemmas.{medium_is, source_words}
-use Rattle.zco_wire.specs.Seeing.{SeesLink, SeesMedium, SeesRaw, is_raw}
-
--- an extent's second word is where its bytes begin
-offset_is : {found : Option Block} {next value : ℕ} {e : ExtentRow} → KeepsExtent found next e → HasWord found 1 value → value ≡ e.offset
-offset_is {found} {next} {value} {e} k h =
-    word_is found kinds.Extent (e.source ∷ e.offset ∷ e.length ∷ next ∷ []) [] 1 value k.block (omega arith)
-    (let i = k.fits.inside in omega (arith, i)) h
-
--- a range of a source
-abbrev range : ℕ → ℕ → ℕ → Range
-range of offset bytes = record { of = of; offset = offset; bytes = bytes }
-
--- so its block says the range that it names
-pub sees_link : {found : Option Block} (seen : SeenExtent) (offset : ℕ) → SeesExtent found seen → HasWord found 1 offset →
-    SeesLink found (record { range = record { of = seen.source; offset = offset; bytes = seen.length }; next = seen.next })
-sees_link seen offset s h = record {
-  range = λ next e k.
-      ap (λ of. range of offset seen.length) (s.source next e k)
-      ∙ ap (λ n. range e.source n seen.length) (offset_is k h)
-      ∙ ap (range e.source e.offset) (s.length next e k);
-  next = s.next;
-}
-
-pub link_ends : {found : Option Block} (seen : SeenExtent) (offset : ℕ) → SomeExtent found → SeesExtent found seen → HasWord found 1 offset →
-    offset + seen.length ≤ 2 ^ 40
-link_ends seen offset some s h =
-    let o = offset_is some.keeps h in
-    let l = s.length some.next some.extent some.keeps in
-    let i = some.keeps.fits.inside in omega (arith, o, l, i)
+use Rattle.zco_wire.specs.Seeing.{SeesMedium, SeesRaw, is_raw}
 
 -- a source's first word is the number of its medium
 pub sees_medium : {found : Option Block} (number : ℕ) (m : Medium) → HasWord found 0 number → IsMediumOf number m → SeesMedium found m

@@ -22,10 +22,10 @@ use Rattle.zco_obj.specs.declared.extent.ExtentPiece.{ExtentPiece as Range}
 use Rattle.zco_wire.specs.Asking.{AsksAtNamed, AsksAtRange, AsksFor}
 use Rattle.zco_wire.specs.Going.{GoesOverPieces, GoesOverHead, GoesOverHeads, GoesOverNamed, GoesOverRange, WalksHeads, WalksNamed, ahead}
 use Rattle.zco_wire.specs.Naming.{AreNamed, IsNamed, NamesAt, SomeNamed, head_pieces}
-use Rattle.zco_wire.specs.Seeing.{SeesLink}
+use Rattle.zco_obj.specs.Links.{SeesLink}
 use Rattle.zco_wire.specs.Stopping.{KeepsTold, StopsAtNamed, StopsAtRange, StopsPieces}
 use Rattle.zco_wire.specs.declared.cursor.Cursor.{Cursor}
-use Rattle.zco_wire.specs.declared.link.Link.{Link}
+use Rattle.zco_obj.specs.declared.link.Link.{Link}
 use Rattle.zco_wire.proofs.GoingLemmas.{count_more, goes_full, goes_none, goes_trans}
 use Rattle.zco_wire.proofs.NamingLemmas.{NamedFirst, named_first, named_none}
 use Rattle.zco_wire.proofs.StoppingLemmas.{only_fault, stops_later}
@@ -207,20 +207,20 @@ module _ {M : Type 0} {m : Ghosts M} {before : M} {blocks : Blocks} {first : ℕ
 
     -- the range that its block says is named
     here_named : {extents : List ExtentRow} {named : List Piece} (c : NamesAt blocks first extents named) (nz : extent ≢ 0) (link : Link) →
-        SeesLink (blocks extent) link → IsNamed blocks link.range (first_named c nz).one
+        SeesLink (blocks extent) link → IsNamed blocks link.piece (first_named c nz).one
     here_named {extents} {named} c nz link s =
         let v = w.walks extents named c in
         let n = next_extent c.chain v.walk nz in
         subst (λ (r : Range). IsNamed blocks r (first_named c nz).one)
-        (sym (s.range (first_of extent_addr 0 n.behind) n.one (extent_keeps c.chain v.walk nz))) (first_named c nz).named
+        (sym (s.piece (first_of extent_addr 0 n.behind) n.one (extent_keeps c.chain v.walk nz))) (first_named c nz).named
 
     pub some_named : {extents : List ExtentRow} {named : List Piece} → NamesAt blocks first extents named → extent ≢ 0 → (link : Link) →
-        SeesLink (blocks extent) link → SomeNamed blocks link.range
+        SeesLink (blocks extent) link → SomeNamed blocks link.piece
     some_named c nz link s = record { piece = (first_named c nz).one; named = here_named c nz link s }
 
     -- one more of what the chain names was asked of media
     asks_on : {after : M} {extents : List ExtentRow} {named : List Piece} (link : Link) (c : NamesAt blocks first extents named) (nz : extent ≢ 0) →
-        SeesLink (blocks extent) link → length into' ≡ length into → AsksAtRange m blocks link.range now (length into') mid after →
+        SeesLink (blocks extent) link → length into' ≡ length into → AsksAtRange m blocks link.piece now (length into') mid after →
         m.asks after ≤ m.asks before + (count_outside (ahead at (length into) (w.walks extents named c).done)
         + count_outside (ahead now (length into) ((first_named c nz).one ∷ [])))
     asks_on {after} {extents} {named} link c nz s same g =
@@ -230,8 +230,8 @@ module _ {M : Type 0} {m : Ghosts M} {before : M} {blocks : Blocks} {first : ℕ
         omega (arith, one, most)
 
     pub named_on : {after : Cursor} {last : M} {into'' : List ℕ} (link : Link) → extent ≢ 0 → SeesLink (blocks extent) link →
-        GoesOverRange (m.told before) blocks link.range now after into' into'' → length into' ≡ length into →
-        AsksAtRange m blocks link.range now (length into') mid last →
+        GoesOverRange (m.told before) blocks link.piece now after into' into'' → length into' ≡ length into →
+        AsksAtRange m blocks link.piece now (length into') mid last →
         WalksNamed m before last blocks first link.next (i + 1) at after into into''
     named_on {after} {last} {into''} link nz s g same a = record {
       walks = λ extents named c.
@@ -262,7 +262,7 @@ module _ {M : Type 0} {m : Ghosts M} {before : M} {blocks : Blocks} {first : ℕ
     }
 
     pub named_asks_on : {last : M} (link : Link) → extent ≢ 0 → SeesLink (blocks extent) link → length into' ≡ length into →
-        AsksAtRange m blocks link.range now (length into') mid last → AsksAtNamed m blocks first at (length into) before last
+        AsksAtRange m blocks link.piece now (length into') mid last → AsksAtNamed m blocks first at (length into) before last
     named_asks_on {last} link nz s same a = record {
       asks = λ extents named c.
           let v = w.walks extents named c in
@@ -277,7 +277,7 @@ module _ {M : Type 0} {m : Ghosts M} {before : M} {blocks : Blocks} {first : ℕ
     -- where what it names wasn't read, the chain wasn't
     pub named_stops : (link : Link) (new : M) (stop : Stop) → extent ≢ 0 → SeesLink (blocks extent) link →
         KeepsTold m before mid → length into' ≡ length into →
-        StopsAtRange m blocks link.range now (length into') mid new stop → StopsAtNamed m blocks first at (length into) before new stop
+        StopsAtRange m blocks link.piece now (length into') mid new stop → StopsAtNamed m blocks first at (length into) before new stop
     named_stops link new stop nz s k same g = record {
       stops = λ extents named c others.
           let v = w.walks extents named c in

@@ -11,6 +11,7 @@ use Rattle.sdr_model.specs.Limits.{longest_path, longest_source}
 use Rattle.sdr_model.specs.declared.piece.Piece.{Piece}
 use Rattle.sdr_model.specs.declared.piece.Piece.TheVariants as pieces
 use Rattle.zco_obj.specs.Kept.{KeepsObject}
+use Rattle.zco_obj.specs.Links.{piece_of}
 use Rattle.zco_obj.specs.Walks.{ExtentsAt}
 use Rattle.zco_obj.specs.declared.extent.ExtentPiece.{ExtentPiece as Range}
 use Rattle.zco_ref.specs.Kept.{CountedSource, KeepsTied}
@@ -46,14 +47,10 @@ pub record SomeNamed (blocks : Blocks) (range : Range) : Type 0 where
   pub piece : Piece
   pub named : IsNamed blocks range piece
 
--- the range of a source that an extent names
-abbrev pub range_of : ExtentRow → Range
-range_of e = record { of = e.source; offset = e.offset; bytes = e.length }
-
 -- the extents name these pieces, each one
 abbrev pub AreNamed : Blocks → List ExtentRow → List Piece → Type 0
 AreNamed blocks [] [] = ⊤
-AreNamed blocks (e ∷ es) (p ∷ ps) = IsNamed blocks (range_of e) p × AreNamed blocks es ps
+AreNamed blocks (e ∷ es) (p ∷ ps) = IsNamed blocks (piece_of e) p × AreNamed blocks es ps
 AreNamed blocks es ps = ⊥
 
 -- a chain of extents stands there, and they name these pieces

@@ -1,20 +1,12 @@
--- What the blocks of extents and sources say to a reader.
+-- What the blocks of objects and sources say to a reader.
 use Rattle.std.specs.Prelude.{◌≡◌, ℕ, Bool, true, false, Option}
 use Rattle.sdr_base.specs.Blocks.{Block, Blocks}
-use Rattle.sdr_base.specs.ZcoObjects.{ExtentRow, ObjectRow}
+use Rattle.sdr_base.specs.ZcoObjects.{ObjectRow}
 use Rattle.zco_obj.specs.Kept.{KeepsObject}
-use Rattle.zco_obj.specs.Walks.{KeepsExtent}
 use Rattle.sdr_model.specs.declared.zco.Part.{Part}
 use Rattle.zco_ref.specs.Kept.{CountedSource, KeepsSource}
 use Rattle.sdr_base.specs.declared.medium.Medium.{Medium}
 use Rattle.sdr_base.specs.declared.medium.Medium.TheVariants as media
-use Rattle.zco_wire.specs.Naming.{range_of}
-use Rattle.zco_wire.specs.declared.link.Link.{Link}
-
--- whichever extent stands there, this is the range that it names, and the next one
-pub record SeesLink (found : Option Block) (link : Link) : Type 0 where
-  pub range : (next : ℕ) (e : ExtentRow) → KeepsExtent found next e → link.range ≡ range_of e
-  pub next : (next : ℕ) (e : ExtentRow) → KeepsExtent found next e → link.next ≡ next
 
 -- whichever source is kept there, this is its medium
 pub record SeesMedium (found : Option Block) (medium : Medium) : Type 0 where

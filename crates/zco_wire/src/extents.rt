@@ -8,10 +8,9 @@ ghost use Rattle.zco_wire.specs.Naming.{SomeNamed, SomeNames};
 ghost use Rattle.zco_wire.specs.Stopping.{KeepsTold, StopsAtNamed, StopsAtRange, past_media};
 
 use crate::cursor::{Cursor, behind, window};
-use crate::link::see_link;
 use crate::source::read_range;
 use sdr_base::{Addr, Media, Objects, Stop, check_failed};
-use zco_obj::{ExtentPiece, TOO_MANY_PARTS};
+use zco_obj::{ExtentPiece, TOO_MANY_PARTS, see_link};
 
 // Gives of the bytes of a range of a source what the cursor asks, and answers the cursor behind it.
 // Media are asked once, for all of that.
@@ -89,7 +88,7 @@ pub fn read_extents<O: Objects, M: Media>(
             break;
         }
         let link = see_link(o, extent)?;
-        cursor = read_asked(o, media, link.range, cursor, into)?;
+        cursor = read_asked(o, media, link.piece, cursor, into)?;
         extent = link.next;
     }
     Ok(cursor)

@@ -18,7 +18,6 @@
 mod cursor;
 mod extents;
 mod heads;
-mod link;
 mod reader;
 mod receiving;
 mod sending;

@@ -1,7 +1,5 @@
 use Rattle.std.proofs.Common.{◌≡◌, ◌+◌, ◌-◌, ◌∙◌, ℕ, arith, ap, take, drop}
-use Rattle.sdr_base.specs.KeptHeap.{block_in}
 use Rattle.audit_owners.proofs.BlockLemmas.{lies_at}
-use Rattle.audit_world.proofs.FittingLemmas.{same_bytes}
 use Rattle.audit_world.proofs.blocks.bytes_of.Goals as goal
 
 pub overflow_add-result : goal.overflow_add-result
@@ -28,4 +26,3 @@ returns c =
     let l = lies_at c.args.heap.now c.args.addr (λ none. some (c.length_of-count.ensures ∙ none)) in
     let count : c.args.addr + c.length_of-count.result - c.args.addr ≡ c.length_of-count.result = omega arith in
     ap (λ (n : ℕ). take n (drop c.args.addr c.args.heap.now)) (count ∙ c.length_of-count.ensures) ∙ l.is
-    ∙ same_bytes (block_in c.args.heap.now c.args.addr)

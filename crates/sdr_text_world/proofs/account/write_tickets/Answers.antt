@@ -1,6 +1,6 @@
 use Rattle.std.proofs.Common.{arith}
 use Rattle.sdr_text.proofs.TextLemmas.{on_err}
-use Rattle.sdr_text_world.proofs.PartLemmas.{next_part, next_whole}
+use Rattle.sdr_text.proofs.PartLemmas.{next_part, next_whole}
 use Rattle.sdr_text_world.specs.AccountText.{ticket_line}
 use Rattle.sdr_text_world.proofs.account.write_tickets.Goals as goal
 

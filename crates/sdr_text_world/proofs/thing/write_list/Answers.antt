@@ -4,7 +4,7 @@ use Rattle.std.specs.Io.KnownBytes.{Appends}
 use Rattle.std.specs.Prelude.{flat_map}
 use Rattle.sdr_base.specs.Written.{AppendsPart}
 use Rattle.sdr_text.proofs.TextLemmas.{on_err, part_front, part_later}
-use Rattle.sdr_text_world.proofs.PartLemmas.{part_behind, whole_behind}
+use Rattle.sdr_text.proofs.PartLemmas.{part_behind, whole_behind}
 use Rattle.sdr_text_world.specs.ThingText.{element_text, list_front_on}
 use Rattle.sdr_text_world.proofs.thing.write_list.Goals as goal
 

@@ -2,7 +2,7 @@ use Rattle.std.proofs.Common.{◌++◌}
 use Rattle.std.proofs.KnownBytes.{Appends-trans}
 use Rattle.std.specs.FinMap as map
 use Rattle.sdr_text.proofs.TextLemmas.{on_err, part_front, part_later}
-use Rattle.sdr_text_world.proofs.PartLemmas.{part_behind, whole_behind}
+use Rattle.sdr_text.proofs.PartLemmas.{part_behind, whole_behind}
 use Rattle.sdr_text_world.specs.ThingText.{things_text}
 use Rattle.sdr_text_world.specs.WorldText.{blocks_line, front_text, queues_text}
 use Rattle.sdr_text_world.proofs.world.write_counted.Goals as goal

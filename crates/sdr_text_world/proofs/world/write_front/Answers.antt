@@ -2,7 +2,7 @@ use Rattle.std.proofs.Common.{◌++◌}
 use Rattle.std.proofs.KnownBytes.{Appends-trans}
 use Rattle.sdr_base.specs.declared.account.Acct.TheVariants as accts
 use Rattle.sdr_text.proofs.TextLemmas.{on_err, part_front, part_later}
-use Rattle.sdr_text_world.proofs.PartLemmas.{part_behind, whole_behind}
+use Rattle.sdr_text.proofs.PartLemmas.{part_behind, whole_behind}
 use Rattle.sdr_text_world.specs.WorldText.{account_text, heap_line}
 use Rattle.sdr_text_world.proofs.world.write_front.Goals as goal
 

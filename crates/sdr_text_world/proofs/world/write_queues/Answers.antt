@@ -3,7 +3,7 @@ use Rattle.std.proofs.KnownBytes.{Appends-trans}
 use Rattle.sdr_base.specs.Written.{AppendsPart}
 use Rattle.sdr_base.specs.declared.account.Acct.TheVariants as accts
 use Rattle.sdr_model.specs.declared.accounts.Accounts.{Accounts}
-use Rattle.sdr_text_world.proofs.PartLemmas.{part_behind}
+use Rattle.sdr_text.proofs.PartLemmas.{part_behind}
 use Rattle.sdr_text_world.specs.AccountText.{names_text, tickets_text}
 use Rattle.sdr_text_world.specs.WorldText.{queues_text}
 use Rattle.sdr_text_world.proofs.world.write_queues.Goals as goal

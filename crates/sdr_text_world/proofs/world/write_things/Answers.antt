@@ -3,7 +3,7 @@ use Rattle.std.proofs.lemmas.List.Elements.{All-head, All-tail}
 use Rattle.std.specs.FinMap as map
 use Rattle.std.specs.Prelude.{All}
 use Rattle.sdr_text.proofs.TextLemmas.{on_err}
-use Rattle.sdr_text_world.proofs.PartLemmas.{next_part, next_whole}
+use Rattle.sdr_text.proofs.PartLemmas.{next_part, next_whole}
 use Rattle.sdr_text_world.specs.ThingText.{HasSmallWire, thing_line}
 use Rattle.sdr_text_world.proofs.world.write_things.Goals as goal
 

@@ -1,8 +1,8 @@
 -- The words of the block are read.
 use Rattle.std.proofs.Common.{arith}
 use Rattle.zco_obj.proofs.WalkLemmas.{extent_reaches}
-use Rattle.zco_wire.proofs.SeeingLemmas.{link_ends, sees_link}
-use Rattle.zco_wire.proofs.link.see_link.Goals as goal
+use Rattle.zco_obj.proofs.LinkLemmas.{link_ends, sees_link}
+use Rattle.zco_obj.proofs.link.see_link.Goals as goal
 
 pub word-requires-clause-inside : goal.word-requires-clause-inside
 word-requires-clause-inside g c = rw c.see_extent.ensures.looks.same (extent_reaches c.requires.extent.keeps 16 (omega arith))
