@@ -18,7 +18,6 @@ use Rattle.audit_counts.specs.declared.rules.CountRule.TheVariants as counts
 use Rattle.audit_owners.proofs.KeyedLemmas.{distinct_from}
 use Rattle.audit_owners.specs.Entries.{bucket, bucket_count, buckets, entry_count, fits_bucket, keeps_bucket}
 use Rattle.audit_owners.specs.Members.{members}
-use Rattle.audit_owners.specs.Texts as keyed
 use Rattle.audit_owners.specs.Texts.{first_repeated, text_at}
 use Rattle.audit_owners.specs.declared.key_rules.KeyRule.TheVariants as keys
 use Rattle.audit_owners.specs.declared.texts.EntryText.TheVariants as texts

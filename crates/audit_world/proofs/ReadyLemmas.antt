@@ -1,17 +1,15 @@
 -- A world can be made of a heap that passes the audit up to its queues.
-use Rattle.std.proofs.Common.{◌≡◌, ◌/◌, ℕ, List, [], ◌∷◌, true, length, map, arith}
+use Rattle.std.proofs.Common.{◌/◌, ℕ, List, [], ◌∷◌, length, map, arith}
 use Rattle.std.specs.Prelude.{IfSome}
 use Rattle.std.specs.List.{All}
 use Rattle.std.proofs.lemmas.List.Elements.{All-cons, All-head, All-nil, All-tail}
-use Rattle.sdr_base.specs.KeptHeap.{block_in}
 use Rattle.sdr_base.specs.declared.account.Acct.{Acct}
 use Rattle.sdr_base.specs.declared.account.Acct.TheVariants as accts
-use Rattle.sdr_base.specs.declared.kind.Kind.TheVariants as kinds
 use Rattle.audit_counts.specs.Queues.{ticket_in}
 use Rattle.audit_owners.specs.Members.{members}
 use Rattle.sdr_model.specs.Fields.{FitsFields, FitsName, FitsTicket}
 use Rattle.sdr_model.specs.Valid.{IsValidThing}
-use Rattle.audit_owners.specs.View.{is_kind, view_in}
+use Rattle.audit_owners.specs.View.{view_in}
 use Rattle.audit_owners.specs.declared.owner.Owner.TheVariants as owners
 use Rattle.audit_world.proofs.FieldsLemmas.{fields_fit}
 use Rattle.audit_world.proofs.Fitting.{AreFitting}

@@ -1,18 +1,15 @@
 -- What lets a world be made of a heap: numbers that fit their types.
-use Rattle.std.specs.Prelude.{◌≡◌, ◌<◌, ◌^◌, ◌++◌, ℕ, List, All, Option, None, Some}
+use Rattle.std.specs.Prelude.{◌<◌, ◌^◌, ℕ, All, Option, None, Some}
 use Rattle.std.specs.FinMap as finite
 use Rattle.sdr_base.specs.declared.account.Acct.{Acct}
 use Rattle.audit_owners.specs.Keyed.{catalogue}
 use Rattle.audit_owners.specs.Members.{members}
-use Rattle.sdr_model.specs.HashSteps.{bucket_of}
-use Rattle.sdr_model.specs.Hashes.{Hash}
 use Rattle.sdr_model.specs.Things.{Things}
-use Rattle.sdr_model.specs.declared.things.HashEntry.{HashEntry}
 use Rattle.sdr_model.specs.declared.things.Thing.{Thing}
 use Rattle.audit_owners.specs.View.{View}
 use Rattle.audit_owners.specs.declared.owner.Owner.TheVariants as owners
 use Rattle.audit_counts.specs.Queues.{ticket_in}
-use Rattle.audit_world.specs.Told.{bucket_told, hash_told, name_told}
+use Rattle.audit_world.specs.Told.{name_told}
 
 -- the priorities of the ticket at an address are bytes
 pub record IsShort (heap : View) (addr : ℕ) : Type 0 where

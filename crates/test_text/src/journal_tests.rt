@@ -7,6 +7,42 @@ use std::alloc::Global;
 /// An answer in a transaction, and the bytes that its call gave.
 type Inner<'a> = (Answer, &'a [u8]);
 
+/// How a transaction closes.
+#[derive(Clone, Copy)]
+enum Last {
+    End,
+    Cancel,
+    FailedEnd,
+}
+
+/// What an entry is of.
+#[derive(Clone, Copy)]
+enum Of {
+    Work(Last),
+    FailedLook,
+    Waits,
+    Awarded,
+    Stalled,
+    Leaves(Leave),
+}
+
+/// The lock number and the daemon of an entry, and what it is of.
+type Row = (u64, u8, Of);
+
+const ROWS: [Row; 11] = [
+    (1, 1, Of::Work(Last::End)),
+    (2, 2, Of::Work(Last::Cancel)),
+    (3, 1, Of::Waits),
+    (4, 2, Of::Awarded),
+    (5, 1, Of::Stalled),
+    (6, 16, Of::Work(Last::FailedEnd)),
+    (7, 3, Of::FailedLook),
+    (8, 1, Of::Leaves(Leave::Done)),
+    (9, 2, Of::Leaves(Leave::Fault)),
+    (10, 3, Of::Leaves(Leave::Memory)),
+    (11, 16, Of::Leaves(Leave::Spent)),
+];
+
 // The answers of a transaction between its begin and its closing event.
 const INNER: [Inner<'static>; 3] = [
     (Answer::Depth { depth: 2 }, b""),
@@ -32,14 +68,27 @@ fn said(alloc: Global, event: Event, answer: Answer, bytes: &[u8]) -> Result<Sai
     })
 }
 
-// A transaction that begins, has those answers, and ends with this event, which was answered so.
-fn work(alloc: Global, last: Event, answer: Answer, close: Close) -> Result<What, NoMemory> {
+// The answer to the last event of a transaction, and how it closes.
+fn closing(last: Last) -> (Answer, Close) {
+    match last {
+        Last::End => (Answer::Closed(Close::Ended), Close::Ended),
+        Last::Cancel => {
+            let close = Close::Cancelled(Reason::Asked);
+            (Answer::Closed(close), close)
+        }
+        Last::FailedEnd => (Answer::Reply(Reply::DiskFault), Close::Faulted),
+    }
+}
+
+// A transaction that begins, has those answers, and closes so.
+fn work(alloc: Global, last: Last) -> Result<What, NoMemory> {
+    let (answer, close) = closing(last);
     let mut all = Items::new(alloc);
     all.push(said(alloc, Event::Begin, Answer::Lock { number: 1 }, b"")?)?;
     for (inner, bytes) in &INNER {
         all.push(said(alloc, Event::Begin, *inner, bytes)?)?;
     }
-    all.push(said(alloc, last, answer, b"")?)?;
+    all.push(said(alloc, Event::End, answer, b"")?)?;
     Ok(What::Work { said: all, close })
 }
 
@@ -54,50 +103,41 @@ fn failed_look(alloc: Global) -> Result<What, NoMemory> {
     })
 }
 
-// What each entry is of, by rising lock number, and its daemon.
-fn whats(alloc: Global) -> Result<Vec<(u8, What)>, NoMemory> {
-    let fault = Answer::Reply(Reply::DiskFault);
-    let cancelled = Close::Cancelled(Reason::Asked);
-    let ended = work(alloc, Event::End, Answer::Closed(Close::Ended), Close::Ended)?;
-    let back = work(alloc, Event::Cancel, Answer::Closed(cancelled), cancelled)?;
-    let faulted = work(alloc, Event::End, fault, Close::Faulted)?;
-    let all = vec![
-        in alloc;
-        (1, ended),
-        (2, back),
-        (1, What::Waits { ticket: 2 }),
-        (2, What::Awarded { ticket: u64::MAX }),
-        (1, What::Stalled { ticket: 2 }),
-        (16, faulted),
-        (3, failed_look(alloc)?),
-        (1, What::Leaves { leave: Leave::Done }),
-        (2, What::Leaves { leave: Leave::Fault }),
-        (3, What::Leaves { leave: Leave::Memory }),
-        (16, What::Leaves { leave: Leave::Spent })
-    ]?;
-    Ok(all)
+// What an entry is of.
+fn what_of(alloc: Global, of: Of) -> Result<What, NoMemory> {
+    match of {
+        Of::Work(last) => work(alloc, last),
+        Of::FailedLook => failed_look(alloc),
+        Of::Waits => Ok(What::Waits { ticket: 2 }),
+        Of::Awarded => Ok(What::Awarded { ticket: u64::MAX }),
+        Of::Stalled => Ok(What::Stalled { ticket: 2 }),
+        Of::Leaves(leave) => Ok(What::Leaves { leave }),
+    }
 }
 
-// The journal of these entries.
-fn journal(alloc: Global) -> Result<Vec<Entry>, NoMemory> {
+// An entry.
+fn entry_of(alloc: Global, number: u64, daemon: u8, of: Of) -> Result<Entry, NoMemory> {
+    Ok(Entry {
+        number,
+        daemon,
+        begun: 40,
+        done: 42,
+        what: what_of(alloc, of)?,
+    })
+}
+
+// The journal of these entries, by rising lock number.
+fn journal(alloc: Global, rows: &[Row]) -> Result<Vec<Entry>, NoMemory> {
     let mut entries = Vec::new(alloc);
-    let mut number = 0;
-    for (daemon, what) in whats(alloc)? {
-        number += 1;
-        entries.push(Entry {
-            number,
-            daemon,
-            begun: 40,
-            done: 42,
-            what,
-        })?;
+    for (number, daemon, of) in rows {
+        entries.push(entry_of(alloc, *number, *daemon, *of)?)?;
     }
     Ok(entries)
 }
 
 // Whether the journal is printed as that text.
 fn is_printed(alloc: Global) -> Result<bool, NoMemory> {
-    let entries = journal(alloc)?;
+    let entries = journal(alloc, &ROWS)?;
     let mut out = MemorySink::new(alloc, Vec::new(alloc));
     let done = write_journal(&mut out, entries.as_slice());
     Ok(done.is_ok() && out.taken() == PRINTED)

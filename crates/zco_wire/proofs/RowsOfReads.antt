@@ -1,5 +1,5 @@
 -- What is asked of an object, worked out.
-use Rattle.std.proofs.Common.{◌≡◌, ℕ, List, [], ◌∷◌, refl}
+use Rattle.std.proofs.Common.{◌≡◌, List, [], ◌∷◌, refl}
 use Rattle.sdr_base.specs.Media.{no_files}
 use Rattle.sdr_base.specs.ZcoObjects.{ObjectRow}
 use Rattle.sdr_base.specs.declared.account.Acct.TheVariants as accts
@@ -7,7 +7,6 @@ use Rattle.sdr_model.specs.Pieces.{bytes_by}
 use Rattle.sdr_model.specs.declared.piece.Piece.{Piece}
 use Rattle.sdr_model.specs.declared.piece.Piece.TheVariants as pieces
 use Rattle.zco_wire.specs.Reading.{asked_headers, asked_source, asked_trailers, asked_wire, moved_by}
-use Rattle.zco_wire.specs.declared.reader.Reader.{Reader}
 
 -- an object with a header and a trailer, whose one extent has six bytes, of which the middle four are its part
 abbrev one : ObjectRow
