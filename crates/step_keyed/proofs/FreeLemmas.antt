@@ -47,7 +47,7 @@ free_outcome w addr =
     record { moves = Gave addr ∷ []; after = with_taken_marked (without_thing w addr) (Gave addr ∷ []); reply = replies.Done }
 
 -- a thing that may be given back by its address alone: a raw object, or a string
-pub record HasNoSourceable (heap : Heap) (w : World) (addr : ℕ) : Type 0 where
+pub record IsFreeable (heap : Heap) (w : World) (addr : ℕ) : Type 0 where
   pub thing : Thing
   pub there : thing_at w addr ≡ Some thing
   pub untied : IsUntied thing
@@ -70,7 +70,7 @@ unnamed_in heap w addr unmoved s served u =
 
 -- a raw object is
 raw_freeable : (heap : Heap) (w : World) (addr : ℕ) → heap.moves ≡ [] → HeapStandsFor heap w → IsReady w
-    → HasNoSource (heap.blocks addr) → IsKind (heap.blocks addr) kinds.Raw → HasNoSourceable heap w addr
+    → HasNoSource (heap.blocks addr) → IsKind (heap.blocks addr) kinds.Raw → IsFreeable heap w addr
 raw_freeable heap w addr unmoved s served free kind =
     let r = raw_is_at heap w addr s served.whole.valid kind in
     record {
@@ -85,7 +85,7 @@ raw_freeable heap w addr unmoved s served free kind =
 
 -- and a string
 text_freeable : (heap : Heap) (w : World) (addr : ℕ) → HeapStandsFor heap w → IsWhole w → IsKind (heap.blocks addr) kinds.Text
-    → HasNoSourceable heap w addr
+    → IsFreeable heap w addr
 text_freeable heap w addr s whole kind =
     let r = text_is_at heap w addr s whole.valid kind in
     record {
@@ -98,7 +98,7 @@ text_freeable heap w addr s whole kind =
     }
 
 freeable : (heap : Heap) (w : World) (addr : ℕ) → heap.moves ≡ [] → HeapStandsFor heap w → IsReady w
-    → HasNoSource (heap.blocks addr) → IsRawOrText (heap.blocks addr) → HasNoSourceable heap w addr
+    → HasNoSource (heap.blocks addr) → IsRawOrText (heap.blocks addr) → IsFreeable heap w addr
 freeable heap w addr unmoved s served free (inl raw) = raw_freeable heap w addr unmoved s served free raw
 freeable heap w addr unmoved s served free (inr text) = text_freeable heap w addr s served.whole text
 
@@ -162,6 +162,7 @@ free_refused addr old new w was (refusals.WrongKind bad number) unmoved small s 
       λ is. n.2 (subst (λ f. IsKind f kinds.Text) here is),
       λ i. refusals.WrongKind (m.0 i) ((n.0 ∙ ap kind_number (ap kind_in same)) i),
     )
+
 -- a source names the raw object, and it stays
 free_refused addr old new w was (refusals.InUse bad count) unmoved small s served m =
     let r = named_is_at old w addr s served m.1.kind in
