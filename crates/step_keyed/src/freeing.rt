@@ -1,6 +1,6 @@
 // Giving a raw object or a string back, as a step of the machine.
 ghost use Rattle.std.specs.Prelude.{[], true, ◌+◌, ◌/◌, ◌≡◌, ◌≤◌};
-ghost use Rattle.step_things.specs.Answering.{ComesInEach, call_lines, is_free_call};
+ghost use Rattle.step_things.specs.Answering.{ComesInEach, LeavesLines, call_lines, is_free_call};
 ghost use Rattle.sdr_base.specs.Moves.{KeepsSome};
 ghost use Rattle.sdr_base.specs.Works.{Spends};
 ghost use Rattle.sdr_model.specs.Fields.{FitsCall};
@@ -35,6 +35,7 @@ pub fn answer<O: Objects>(o: &mut O, call: &Call, page: &mut Page) -> Result<Rep
     requires one { is_free_call call.now ≡ true }
     ensures comes { ComesInEach call.now (O.heap o.old) (O.heap o.new) page.old page.new result }
     ensures works { Spends O.HasHeap (call_lines (O.heap o.old) call.now) o.old o.new result }
+    ensures lines { LeavesLines O.HasHeap call.now o.old o.new }
     ensures fits { FitsCall call.now }
 {
     match call {
