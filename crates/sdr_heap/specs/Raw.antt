@@ -5,7 +5,6 @@ use Rattle.sdr_base.specs.Blocks.{Block, HasBytes, IsKind, Reaches}
 use Rattle.sdr_base.specs.Kinds.{kind_number}
 use Rattle.sdr_base.specs.Moves.{KeepsSome}
 use Rattle.sdr_base.specs.Objects.{Heap, TakesZeros, OnlyUnmoved, OnlyFault, OnlyShort, with_bytes, with_given}
-use Rattle.sdr_base.specs.Stored.{number_at}
 use Rattle.sdr_base.specs.Transaction.{HasReason, TouchesAtMost}
 use Rattle.sdr_base.specs.Works.{LeadsOn, StaysQuiet}
 use Rattle.sdr_base.specs.declared.has_heap.HasHeap.{Ghosts}
@@ -16,16 +15,16 @@ use Rattle.sdr_base.specs.declared.refusal.Refusal.TheVariants as refusals
 use Rattle.sdr_base.specs.declared.stop.Stop.{Stop}
 use Rattle.sdr_base.specs.declared.stop.Stop.TheVariants.{Refused}
 use Rattle.sdr_base.specs.declared.limits.TheConstants.{LONGEST_RAW, LONGEST_READ}
+use Rattle.zco_ref.specs.Naming.{IsNamed, IsUnnamed}
 
 -- a raw object has its source word
 abbrev pub HasSourceWord : Option Block → Type 0
 HasSourceWord None = ⊤
 HasSourceWord (Some block) = block.kind ≡ kinds.Raw → BYTES ≤ length block.bytes
 
--- no source names a raw object: its source word is 0
-abbrev pub IsUnnamed : Option Block → Type 0
-IsUnnamed None = ⊤
-IsUnnamed (Some block) = block.kind ≡ kinds.Raw → number_at 0 block.bytes ≡ 0
+-- where a raw object is, no source names it
+abbrev pub HasNoSource : Option Block → Type 0
+HasNoSource found = IsKind found kinds.Raw → IsUnnamed found
 
 -- the length that is told of a block: a raw object's without its source word
 abbrev pub told_length : Kind → ℕ → ℕ
@@ -72,13 +71,16 @@ MallocStops bytes old new (Refused refusal) =
     (bytes ≤ LONGEST_RAW) × OnlyShort (BYTES + bytes) old new (Refused refusal)
 MallocStops bytes old new stop = OnlyFault stop
 
--- why `free` stops: for the address, and all is as before; or for want of log room, and no move was made; or a fault
-abbrev pub FreeStops : Option Block → ℕ → Heap → Heap → Stop → Type 0
-FreeStops found addr old new (Refused (refusals.BadAddress bad)) = (bad ≡ addr) × (found ≡ None) × (new ≡ old)
-FreeStops found addr old new (Refused (refusals.WrongKind bad number)) =
-    (bad ≡ addr) × IsNeither found number × (new ≡ old)
-FreeStops found addr old new (Refused refusal) = IsRawOrText found × OnlyUnmoved old new (Refused refusal)
-FreeStops found addr old new stop = OnlyFault stop
+-- why `free` stops: for the address, or since a source names the raw object, with how many extents name that, and all is
+-- as before; or for want of log room, and no move was made; or a fault
+abbrev pub FreeStops : ℕ → Heap → Heap → Stop → Type 0
+FreeStops addr old new (Refused (refusals.BadAddress bad)) = (bad ≡ addr) × (old.blocks addr ≡ None) × (new ≡ old)
+FreeStops addr old new (Refused (refusals.WrongKind bad number)) =
+    (bad ≡ addr) × IsNeither (old.blocks addr) number × (new ≡ old)
+FreeStops addr old new (Refused (refusals.InUse bad count)) = (bad ≡ addr) × IsNamed old.blocks addr count × (new ≡ old)
+FreeStops addr old new (Refused refusal) =
+    IsRawOrText (old.blocks addr) × HasNoSource (old.blocks addr) × OnlyUnmoved old new (Refused refusal)
+FreeStops addr old new stop = OnlyFault stop
 
 -- why the length of a block isn't told: none begins at the address; or a fault
 abbrev pub IsMissing : Option Block → ℕ → Stop → Type 0
@@ -115,9 +117,10 @@ pub record MakesRaw (bytes addr : ℕ) (old new : Heap) : Type 0 where
   pub short : bytes ≤ LONGEST_RAW
   pub taken : TakesZeros kinds.Raw (BYTES + bytes) addr old new
 
--- a raw object or a string was given back
+-- a raw object that no source names, or a string, was given back
 pub record Frees (addr : ℕ) (old new : Heap) : Type 0 where
   pub found : IsRawOrText (old.blocks addr)
+  pub unnamed : HasNoSource (old.blocks addr)
   pub given : new ≡ with_given old addr
 
 -- the raw object's bytes were given, so many from a place on

@@ -15,7 +15,7 @@
 //!
 //! Proved: a take gives a marked block of zero bytes by the rules of both pools, and `NoBlock` exactly where
 //! these give none. A give, a write and a control word change only what they name. After each call the blocks
-//! tile the heap (`works`). Only `new` takes memory.
+//! tile the heap (`works`). `free` of a raw object that a source names is refused (`refused`). Only `new` takes memory.
 //!
 //! Only tested: the addresses of rows of calls on a heap over an `Image`, against literals.
 #![tactic(auto)]

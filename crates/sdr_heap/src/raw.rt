@@ -1,16 +1,19 @@
 // The calls on raw objects, over any `Objects`.
 ghost use Rattle.std.specs.Prelude.{◌≡◌, ◌+◌, ◌/◌, ◌≤◌, ◌<◌, length, IfOk, IfErr, OnErr, OnOk};
+ghost use Rattle.sdr_base.specs.Blocks.{IsKind};
 ghost use Rattle.sdr_base.specs.Moves.{KeepsSome};
 ghost use Rattle.sdr_base.specs.Objects.{with_mark};
 ghost use Rattle.sdr_base.specs.Works.{Looks, Spends};
 ghost use Rattle.sdr_base.specs.declared.layout.raw.TheConstants.{BYTES};
-ghost use Rattle.sdr_heap.specs.Raw.{HasTold, IsMissing, IsUnnamed, HasSourceWord};
+ghost use Rattle.sdr_heap.specs.Raw.{HasTold, IsMissing, HasSourceWord};
 ghost use Rattle.sdr_heap.specs.Raw.{MakesRaw, MallocStops, Frees, FreeStops};
 ghost use Rattle.sdr_heap.specs.Raw.{ReadsRaw, ReadStops, Stages, WritesRaw, WriteStops};
+ghost use Rattle.zco_ref.specs.Kept.{IsRaw};
 
 use sdr_base::layout::raw::BYTES;
 use sdr_base::limits::{LONGEST_RAW, LONGEST_READ};
 use sdr_base::{Addr, Kind, Objects, Refusal, Stop, check_failed, expect_kind};
+use zco_ref::expect_unnamed;
 
 /// Makes a raw object of so many zero bytes, which no source names.
 pub fn malloc<O: Objects>(o: &mut O, bytes: u64) -> Result<Addr, Stop>
@@ -30,24 +33,40 @@ pub fn malloc<O: Objects>(o: &mut O, bytes: u64) -> Result<Addr, Stop>
     o.take(Kind::Raw, BYTES + bytes)
 }
 
-/// Gives a raw object or a string back.
+/// Gives a raw object or a string back. It is refused `InUse` where a source names the raw object,
+/// with how many extents of both accounts name that.
+#[tactic(auto, using(crate::proofs::RawLemmas::freeing))]
 pub fn free<O: Objects>(o: &mut O, addr: Addr) -> Result<(), Stop>
     requires kept { KeepsSome (O.keeps o.old) }
     requires spare { 1 ≤ (O.heap o.old).spare }
-    requires unnamed { IsUnnamed ((O.heap o.old).blocks addr) }
+    requires raw { IsRaw (O.heap o.old).blocks addr }
     ensures given { OnOk result (Frees addr (O.heap o.old) (O.heap o.new)) }
-    ensures refused { IfErr result
-        (FreeStops ((O.heap o.old).blocks addr) addr (O.heap o.old) (O.heap o.new)) }
+    ensures refused { IfErr result (FreeStops addr (O.heap o.old) (O.heap o.new)) }
     ensures works { Spends O.HasHeap 24 o.old o.new result }
 {
     match o.kind(addr)? {
         None => Err(Stop::Refused(Refusal::BadAddress { addr })),
-        Some((Kind::Raw | Kind::Text, _)) => o.give(addr),
+        Some((Kind::Raw, _)) => free_raw(o, addr),
+        Some((Kind::Text, _)) => o.give(addr),
         Some((kind, _)) => Err(Stop::Refused(Refusal::WrongKind {
             addr,
             kind: kind.number(),
         })),
     }
+}
+
+// Gives a raw object back, unless a source names it.
+fn free_raw<O: Objects>(o: &mut O, addr: Addr) -> Result<(), Stop>
+    requires kept { KeepsSome (O.keeps o.old) }
+    requires spare { 1 ≤ (O.heap o.old).spare }
+    requires raw { IsRaw (O.heap o.old).blocks addr }
+    requires kind { IsKind ((O.heap o.old).blocks addr) Kind.Raw }
+    ensures given { OnOk result (Frees addr (O.heap o.old) (O.heap o.new)) }
+    ensures refused { IfErr result (FreeStops addr (O.heap o.old) (O.heap o.new)) }
+    ensures works { Spends O.HasHeap 24 o.old o.new result }
+{
+    expect_unnamed(o, addr)?;
+    o.give(addr)
 }
 
 /// The length of a block in bytes: of a raw object those that it was made with, of any other all

@@ -1,4 +1,4 @@
--- The orders by bytes and by length are total preorders.
+-- Which orders are total preorders of keys: those of all lists of bytes, and so those by bytes and by length.
 use Rattle.std.specs.Prelude.{ℕ, List, length}
 use Rattle.std.specs.Cmp.{IsTotalOrder, nat_cmp_total, on_total}
 use Rattle.std.specs.Cmp.Lexicographic.{nat_list_cmp_total, slice_cmp}
@@ -14,7 +14,7 @@ key_order keys.ByBytes a b = slice_cmp nat_cmp a b
 key_order keys.ByLength a b = nat_cmp (length a) (length b)
 
 -- a total order of all lists of bytes is a total preorder of keys
-on_keys : {order : List ℕ → List ℕ → Ordering} → IsTotalOrder order → IsPreorder order
+pub on_keys : {order : List ℕ → List ℕ → Ordering} → IsTotalOrder order → IsPreorder order
 on_keys o = record {
   turned = λ a b p q. o.antisymm a b;
   trans = λ a b c p q r f s. o.trans a b c f s;

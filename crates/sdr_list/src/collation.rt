@@ -6,7 +6,8 @@ ghost use Rattle.sdr_list.specs.Orders.{IsKey, IsPreorder};
 use std::cmp::Ordering;
 
 /// A comparison of keys of at most 64 bytes, which is a total preorder there: keys that differ may
-/// be equal by it.
+/// be equal by it. Any will do whose implementor proves that; `on_keys` proves it of a total order
+/// of all lists of bytes.
 pub trait Collate {
     /// How two keys compare.
     ghost order: { Self → List ℕ → List ℕ → Ordering };

@@ -181,6 +181,14 @@ module _ {D M : Type 0} (told : D → Option (List ℕ)) (moment faults : D → 
       subst (λ (g : Grounded D M). CameTo told moment faults may_hold_after media call (replies.Refused refusal) old g)
       (λ i. record { heap = sym left_is i; media = files; shown = page; stopped = not (sym reads_is i); idle = false; moment = old.moment; restored = old.restored }) came
 
+-- a call that leaves the lines touched in the heap before it, which is a ground's without moves, leaves those of the ground
+pub lines_left : {D M : Type 0} (old now : Grounded D M) → old ≡ now → (before new : Held (Opened D))
+    → before ≡ record old.heap { moves = []; spare = before.spare } → (call : Call)
+    → (is_reading call ≡ true → new.cells.touched ≡ before.cells.touched)
+    → is_reading call ≡ true → new.cells.touched ≡ now.heap.cells.touched
+lines_left {D} {M} old now is before new from call left reads =
+    left reads ∙ ap (λ (h : Held (Opened D)). h.cells.touched) from ∙ ap (λ (g : Grounded D M). g.heap.cells.touched) is
+
 -- The heap before a call on a ground in which none was stopped, without moves.
 module _ {D M : Type 0} (moment : D → ℕ) (old : Grounded D M) (ground : IsGround moment old) (going : old.stopped ≡ false) (before : Held (Opened D))
     (from : before ≡ record old.heap { moves = []; spare = before.spare }) where

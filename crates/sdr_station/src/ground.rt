@@ -11,6 +11,7 @@ ghost use Rattle.sdr_image.specs.Opened.{IsQuiet};
 ghost use Rattle.sdr_machine.specs.Standing.{GroundState};
 ghost use Rattle.sdr_log.specs.Calls.{KeepsDisk, KeepsRest};
 ghost use Rattle.sdr_log.specs.Logged.{GivesSame};
+ghost use Rattle.sdr_model.specs.Reading.{is_reading};
 ghost use Rattle.step_things.specs.Answering.{dooms};
 ghost use Rattle.sdr_station.specs.Grounded.{IsBefore, StandsForBoth, StandsInMemory, StaysInside};
 ghost use Rattle.sdr_station.specs.Giving.{GivesReply, reads_by};
@@ -197,6 +198,7 @@ impl<D: Disk, M: Media, F: Notify + Drop> HeapGround<D, M, F> {
 
     /// Makes a call, in a transaction in which none was stopped. Where a changing call is refused, the
     /// transaction can only be put back; one that media fail, or that gets too few bytes of them, changes nothing.
+    /// It makes no call of the disk, and a reading call touches no line.
     pub fn serve(&mut self, call: &Call) -> Reply
         requires going { self.old.stopped ≡ false }
         ensures memory { Brings StandsInMemory self.old self.new
@@ -211,6 +213,9 @@ impl<D: Disk, M: Media, F: Notify + Drop> HeapGround<D, M, F> {
             (⟦<HeapGround<D, M, F> as HasGround>⟧.lapses self.old)
             (⟦<HeapGround<D, M, F> as HasGround>⟧.lapses self.new) }
         ensures unread { reads_by call.now result ≡ false → self.new.media ≡ self.old.media }
+        ensures quiet { IsQuiet self.old.heap.cells self.new.heap.cells }
+        ensures lines { is_reading call.now ≡ true
+            → self.new.heap.cells.touched ≡ self.old.heap.cells.touched }
         ensures time { self.old.moment ≤ self.new.moment }
         ensures keeps { KeepsGround ⟦<HeapGround<D, M, F> as HasGround>⟧ true self.old self.new }
         ensures inside { StaysInside D.bytes self.old self.new }
@@ -459,6 +464,9 @@ impl<D: Disk, M: Media, F: Notify + Drop> Backing for HeapGround<D, M, F> {
         ensures dooms { IfOk result (λ reply. self.new.stopped ≡ dooms call.now reply) }
         ensures unread { IfOk result (λ reply.
             reads_by call.now reply ≡ false → self.new.media ≡ self.old.media) }
+        ensures quiet { IsQuiet self.old.heap.cells self.new.heap.cells }
+        ensures lines { is_reading call.now ≡ true
+            → self.new.heap.cells.touched ≡ self.old.heap.cells.touched }
         ensures memory { IsErrOf result Halt.Memory → self.new ≡ self.old }
         ensures stopped { IsErrOf result Halt.Memory ↔ (self.old.stopped ≡ true) }
         ensures fault { IsErrOf result Halt.Fault

@@ -1,10 +1,12 @@
 // A transaction on the world that a disk keeps.
-ghost use Rattle.std.specs.Prelude.{◌≡◌, ◌≤◌, ◌<◌, ◌+◌, ◌/◌, None, false, IfErr, IfOk};
+ghost use Rattle.std.specs.Prelude.{◌≡◌, ◌≤◌, ◌<◌, ◌+◌, ◌/◌, None, false, true, IfErr, IfOk};
 ghost use Rattle.sdr_disk.specs.Moments.{AtEach};
 ghost use Rattle.sdr_disk.specs.Told.{IfTold};
+ghost use Rattle.sdr_image.specs.Opened.{IsQuiet};
 ghost use Rattle.sdr_image.specs.Opening.{MayBeOpened};
 ghost use Rattle.sdr_machine.specs.Crash.{LeavesBefore, LeavesOr, is_kept, commits_in};
 ghost use Rattle.sdr_machine.specs.Nesting.{cancelled, closing, ended, unbegun};
+ghost use Rattle.sdr_model.specs.Reading.{is_reading};
 ghost use Rattle.sdr_log.specs.Calls.{KeepsDisk};
 ghost use Rattle.sdr_log.specs.Logged.{GivesSame};
 ghost use Rattle.sdr_station.specs.Giving.{Fills, GivesReply};
@@ -186,12 +188,16 @@ impl<D: Disk, M: Media, F: Notify + Drop> Station<D, M, F> {
     /// In a doomed transaction it is refused `Doomed`, and after a disk fault it answers `Failed`. Else it is refused as its
     /// row has it, or for want of a block (`NoBlock`) or of log room (`LogFull`), which dooms where it is a change. A fault of
     /// media, or too few bytes of them (`SourceShort`), dooms nothing.
+    /// It makes no call of the disk, and a reading call touches no line.
     pub fn call(&mut self, call: &Call, into: &mut [u8; PAGE]) -> Reply
         requires begun { 0 < self.old.nesting.depth }
         ensures says { SaysOr ⟦<HeapGround<D, M, F> as HasGround>⟧ call.now result
             self.old self.new }
         ensures depth { self.new.nesting.depth ≡ self.old.nesting.depth }
         ensures fills { Fills self.new.ground result into.old into.new }
+        ensures quiet { IsQuiet self.old.ground.heap.cells self.new.ground.heap.cells }
+        ensures lines { is_reading call.now ≡ true
+            → self.new.ground.heap.cells.touched ≡ self.old.ground.heap.cells.touched }
         ensures any_moment { LeavesBefore ⟦<HeapGround<D, M, F> as HasGround>⟧
             self.old.ground self.new.ground }
     {
@@ -218,6 +224,9 @@ impl<D: Disk, M: Media, F: Notify + Drop> Station<D, M, F> {
             self.old self.new }
         ensures depth { self.new.nesting.depth ≡ self.old.nesting.depth }
         ensures gives { GivesReply result self.new.ground }
+        ensures quiet { IsQuiet self.old.ground.heap.cells self.new.ground.heap.cells }
+        ensures lines { is_reading call.now ≡ true
+            → self.new.ground.heap.cells.touched ≡ self.old.ground.heap.cells.touched }
         ensures any_moment { LeavesBefore ⟦<HeapGround<D, M, F> as HasGround>⟧
             self.old.ground self.new.ground }
     {

@@ -1,7 +1,7 @@
 // The answer of each call but those that read media.
 ghost use Rattle.std.specs.Prelude.{◌≡◌, ◌≤◌, ◌+◌, ◌/◌, [], true, false};
 ghost use Rattle.step_things.specs.Answering as answers;
-ghost use Rattle.step_things.specs.Answering.{ComesInEach, IsReady};
+ghost use Rattle.step_things.specs.Answering.{ComesInEach, IsReady, LeavesLines};
 ghost use Rattle.sdr_stands.specs.Standing.{HeapStandsFor};
 ghost use Rattle.sdr_base.specs.Moves.{KeepsSome};
 ghost use Rattle.sdr_base.specs.Works.{Spends};
@@ -46,6 +46,7 @@ fn answer_other<O: Objects>(o: &mut O, call: &Call, page: &mut Page) -> Result<R
     ensures comes { ComesInEach call.now (O.heap o.old) (O.heap o.new) page.old page.new result }
     ensures works { Spends O.HasHeap
         (answers.call_lines (O.heap o.old) call.now) o.old o.new result }
+    ensures lines { LeavesLines O.HasHeap call.now o.old o.new }
     ensures fits { FitsCall call.now }
 {
     if is_raw_call(call) {
@@ -84,6 +85,7 @@ pub fn answer<O: Objects, F: Notify>(
     ensures comes { ComesInEach call.now (O.heap o.old) (O.heap o.new) page.old page.new result }
     ensures works { (w : World) → HeapStandsFor (O.heap o.old) w → IsReady w →
         Spends O.HasHeap (call_lines (O.heap o.old) w call.now) o.old o.new result }
+    ensures lines { LeavesLines O.HasHeap call.now o.old o.new }
     ensures fits { FitsCall call.now }
 {
     if is_source_call(call) {

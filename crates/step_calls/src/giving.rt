@@ -1,6 +1,6 @@
 // The answer of each call, with the media that the heap's sources name.
 ghost use Rattle.std.specs.Prelude.{◌≡◌, ◌≤◌, ◌+◌, ◌/◌, [], false};
-ghost use Rattle.step_things.specs.Answering.{ComesInEach, IsReady};
+ghost use Rattle.step_things.specs.Answering.{ComesInEach, IsReady, LeavesLines};
 ghost use Rattle.sdr_stands.specs.Standing.{HeapStandsFor};
 ghost use Rattle.sdr_base.specs.Moves.{KeepsSome};
 ghost use Rattle.sdr_base.specs.Works.{Spends};
@@ -35,6 +35,7 @@ pub fn answer<O: Objects, M: Media, F: Notify>(
     ensures comes { ComesInEach call.now (O.heap o.old) (O.heap o.new) page.old page.new result }
     ensures works { (w : World) → HeapStandsFor (O.heap o.old) w → IsReady w →
         Spends O.HasHeap (call_lines (O.heap o.old) w call.now) o.old o.new (past_media result) }
+    ensures lines { LeavesLines O.HasHeap call.now o.old o.new }
     ensures fits { FitsCall call.now }
     ensures tells { TellsInEach M.Media call.now (O.heap o.old) (O.heap o.new) page.old page.new
         media.old media.new result }

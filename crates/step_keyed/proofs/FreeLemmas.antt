@@ -16,8 +16,7 @@ use Rattle.sdr_base.specs.declared.moves.Move.TheVariants.{Gave}
 use Rattle.sdr_base.specs.declared.refusal.Refusal.{Refusal}
 use Rattle.sdr_base.specs.declared.refusal.Refusal.TheVariants as refusals
 use Rattle.sdr_base.specs.declared.stop.Stop.TheVariants as stops
-use Rattle.sdr_heap.specs.Raw as heap
-use Rattle.sdr_heap.specs.Raw.{FreeStops, Frees, IsNeither, IsRawOrText}
+use Rattle.sdr_heap.specs.Raw.{FreeStops, Frees, HasNoSource, IsNeither, IsRawOrText}
 use Rattle.sdr_machine.proofs.WorkLemmas.{on_none, on_some}
 use Rattle.sdr_model.specs.RawSteps.{FreesThing}
 use Rattle.sdr_model.specs.Rows.{ByRow}
@@ -36,15 +35,9 @@ use Rattle.step_things.proofs.RawLemmas.{no_raw, raw_is_at}
 use Rattle.step_things.proofs.RowLemmas.{full_refused, gave_back, marks_none, row_refused, thing_went}
 use Rattle.step_things.proofs.TextLemmas.{no_text, text_is_at}
 use Rattle.step_things.specs.Answering.{Answered, IsRefused, IsReady}
-use Rattle.step_keyed.specs.Freeing.{IsFree, NamedStops}
 use Rattle.step_things.proofs.ListLemmas.{IsSmall}
-use Rattle.sdr_base.proofs.LayoutLemmas.{number_at-layout}
-use Rattle.sdr_base.specs.Raws.{raw_block}
-use Rattle.sdr_base.specs.Stored.{number_at}
 use Rattle.sdr_stands.specs.Ties.{or_null}
-use Rattle.sdr_base.specs.declared.stop.Stop.{Stop}
-use Rattle.zco_ref.specs.Kept.{IsRaw}
-use Rattle.zco_ref.specs.Naming.{IsUnnamed, RawStops}
+use Rattle.zco_ref.specs.Naming.{IsUnnamed}
 use Rattle.step_zco.proofs.NamingCalls.{unnamed_at, used_as}
 use Rattle.step_zco.proofs.SourceLemmas.{named_is_at}
 
@@ -77,7 +70,7 @@ unnamed_in heap w addr unmoved s served u =
 
 -- a raw object is
 raw_freeable : (heap : Heap) (w : World) (addr : ℕ) → heap.moves ≡ [] → HeapStandsFor heap w → IsReady w
-    → IsFree (heap.blocks addr) → IsKind (heap.blocks addr) kinds.Raw → IsFreeable heap w addr
+    → HasNoSource (heap.blocks addr) → IsKind (heap.blocks addr) kinds.Raw → IsFreeable heap w addr
 raw_freeable heap w addr unmoved s served free kind =
     let r = raw_is_at heap w addr s served.whole.valid kind in
     record {
@@ -105,15 +98,15 @@ text_freeable heap w addr s whole kind =
     }
 
 freeable : (heap : Heap) (w : World) (addr : ℕ) → heap.moves ≡ [] → HeapStandsFor heap w → IsReady w
-    → IsFree (heap.blocks addr) → IsRawOrText (heap.blocks addr) → IsFreeable heap w addr
+    → HasNoSource (heap.blocks addr) → IsRawOrText (heap.blocks addr) → IsFreeable heap w addr
 freeable heap w addr unmoved s served free (inl raw) = raw_freeable heap w addr unmoved s served free raw
 freeable heap w addr unmoved s served free (inr text) = text_freeable heap w addr s served.whole text
 
 -- what goes is given back
-pub free_answered : (addr : ℕ) (old new : Heap) (w : World) → old.moves ≡ [] → Frees addr old new
-    → IsFree (old.blocks addr) → HeapStandsFor old w → IsReady w → Answered w (calls.Free addr) new [] replies.Done
-free_answered addr old new w unmoved frees free s served =
-    let f = freeable old w addr unmoved s served free frees.found in
+pub free_answered : (addr : ℕ) (old new : Heap) (w : World) → old.moves ≡ [] → Frees addr old new → HeapStandsFor old w → IsReady w
+    → Answered w (calls.Free addr) new [] replies.Done
+free_answered addr old new w unmoved frees s served =
+    let f = freeable old w addr unmoved s served frees.unnamed frees.found in
     thing_went w (calls.Free addr) addr f.thing (Gave addr ∷ []) replies.Done old new f.there f.untied s
     (gave_back w (addr ∷ []) old new unmoved (record { all = ap besides frees.given })) (f.goes new frees.given) f.row refl
 
@@ -134,10 +127,9 @@ neither_row w addr refusal none is =
 
 -- why nothing was given back
 pub free_refused : (addr : ℕ) (old new : Heap) (w : World) (was : List ℕ) (refusal : Refusal) → old.moves ≡ []
-    → IsFree (old.blocks addr) → HeapStandsFor old w → IsReady w
-    → FreeStops (old.blocks addr) addr old new (stops.Refused refusal)
+    → IsSmall old → HeapStandsFor old w → IsReady w → FreeStops addr old new (stops.Refused refusal)
     → IsRefused w (calls.Free addr) old new was was refusal
-free_refused addr old new w was (refusals.BadAddress bad) unmoved free s served m = record {
+free_refused addr old new w was (refusals.BadAddress bad) unmoved small s served m = record {
   step =
       let none = no_block old w addr s served.whole.valid m.1 in
       let no : (kind : Kind) → ¬ IsKind (old.blocks addr) kind = λ kind is. subst (λ f. IsKind f kind) m.1 is in
@@ -147,7 +139,7 @@ free_refused addr old new w was (refusals.BadAddress bad) unmoved free s served 
   left = λ reads. m.2;
   gave = refl;
 }
-free_refused addr old new w was (refusals.WrongKind bad number) unmoved free s served m = record {
+free_refused addr old new w was (refusals.WrongKind bad number) unmoved small s served m = record {
   step =
       let n = other (old.blocks addr) (block_at w addr) refl (block_told old w addr s served.whole.valid) m.1 in
       inl (row_refused w (calls.Free addr) new (refusals.WrongKind bad number) (ap (λ (h : Heap). h.moves) m.2 ∙ unmoved)
@@ -170,64 +162,26 @@ free_refused addr old new w was (refusals.WrongKind bad number) unmoved free s s
       λ is. n.2 (subst (λ f. IsKind f kinds.Text) here is),
       λ i. refusals.WrongKind (m.0 i) ((n.0 ∙ ap kind_number (ap kind_in same)) i),
     )
-free_refused addr old new w was (refusals.LogFull lines room) unmoved free s served m =
-    let f = freeable old w addr unmoved s served free m.0 in
-    full_refused w (calls.Free addr) old new was (refusals.LogFull lines room) refl (record {
-      to =
-          _;
-      row = f.row;
-      answered = refl;
-    }) m.1
-free_refused addr old new w was refusal unmoved free s served m = absurd m.1
-
 -- a source names the raw object, and it stays
-pub free_named : (addr : ℕ) (old new : Heap) (w : World) (was : List ℕ) (refusal : Refusal) → old.moves ≡ [] → new ≡ old
-    → IsSmall old → HeapStandsFor old w → IsReady w → NamedStops old.blocks addr (stops.Refused refusal)
-    → IsRefused w (calls.Free addr) old new was was refusal
-free_named addr old new w was (refusals.InUse bad count) unmoved same small s served m =
+free_refused addr old new w was (refusals.InUse bad count) unmoved small s served m =
     let r = named_is_at old w addr s served m.1.kind in
     let u = used_as old old w unmoved s served addr count small m.1 in
     let o : Outcome = record { moves = []; after = w; reply = replies.Refused (refusals.InUse bad count) } in
     record {
       step =
-          inl (row_refused w (calls.Free addr) new (refusals.InUse bad count) (ap (λ (h : Heap). h.moves) same ∙ unmoved)
+          inl (row_refused w (calls.Free addr) new (refusals.InUse bad count) (ap (λ (h : Heap). h.moves) m.2 ∙ unmoved)
           (subst (λ (t : Option Thing). FreesThing w o addr (as_raw t) (as_text t)) (sym r.there)
           (on_some _ _ (source_naming w addr) u.0 u.1
           (refl, refl, λ i. replies.Refused (refusals.InUse (m.0 i) (u.2 i))))));
-      left = λ reads. same;
+      left = λ reads. m.2;
       gave = refl;
     }
-free_named addr old new w was refusal unmoved same small s served m = absurd m
-
--- a raw object that no source names has 0 for its source word
-pub source_word : (blocks : base.Blocks) (addr : ℕ) → IsRaw blocks addr → IsFree (blocks addr) → heap.IsUnnamed (blocks addr)
-source_word blocks addr raw free =
-    by (blocks addr)
-    (λ kind.
-    let r = raw kind in
-    (r.bytes, r.keeps.block ∙ ap (λ (n : ℕ). Some (raw_block n r.bytes)) ((free kind).none r.named_by r.bytes r.keeps)))
-  where
-    first : (bytes : List ℕ) → number_at 0 (raw_block 0 bytes).bytes ≡ 0
-    first bytes = number_at-layout (0 ∷ []) bytes 0 (omega arith) (omega arith)
-
-    by : (found : Option base.Block) → (IsKind found kinds.Raw → (bytes : List ℕ) × (found ≡ Some (raw_block 0 bytes)))
-        → heap.IsUnnamed found
-    by None raws = tt
-    by (Some block) raws =
-        λ kind.
-        let r = raws kind in
-        let same : raw_block 0 r.0 ≡ block = cc in
-        subst (λ (b : base.Block). number_at 0 b.bytes ≡ 0) same (first r.0)
-
--- why a raw object that is there is refused: a source names it
-pub named_stops : (blocks : base.Blocks) (addr : ℕ) (stop : Stop) → IsKind (blocks addr) kinds.Raw → RawStops blocks addr stop
-    → NamedStops blocks addr stop
-named_stops blocks addr (stops.Refused (refusals.BadAddress bad)) kind m =
-    absurd (subst (λ (f : Option base.Block). IsKind f kinds.Raw) m.1 kind)
-named_stops blocks addr (stops.Refused (refusals.WrongKind bad number)) kind m = absurd (other (blocks addr) kind m.1)
-  where
-    other : (f : Option base.Block) → IsKind f kinds.Raw → IsOther f kinds.Raw number → ⊥
-    other None kind o = kind
-    other (Some block) kind o = o.1 kind
-named_stops blocks addr (stops.Refused refusal) kind m = m
-named_stops blocks addr stop kind m = m
+free_refused addr old new w was (refusals.LogFull lines room) unmoved small s served m =
+    let f = freeable old w addr unmoved s served m.1 m.0 in
+    full_refused w (calls.Free addr) old new was (refusals.LogFull lines room) refl (record {
+      to =
+          _;
+      row = f.row;
+      answered = refl;
+    }) m.2
+free_refused addr old new w was refusal unmoved small s served m = absurd m.2

@@ -1,31 +1,16 @@
 // Giving a raw object or a string back, as a step of the machine.
-ghost use Rattle.std.specs.Prelude.{IfErr, OnOk, [], true, ◌+◌, ◌/◌, ◌≡◌, ◌≤◌};
-ghost use Rattle.step_things.specs.Answering.{ComesInEach, call_lines, is_free_call};
+ghost use Rattle.std.specs.Prelude.{[], true, ◌+◌, ◌/◌, ◌≡◌, ◌≤◌};
+ghost use Rattle.step_things.specs.Answering.{ComesInEach, LeavesLines, call_lines, is_free_call};
 ghost use Rattle.sdr_base.specs.Moves.{KeepsSome};
-ghost use Rattle.sdr_base.specs.Works.{Looks, Spends};
+ghost use Rattle.sdr_base.specs.Works.{Spends};
 ghost use Rattle.sdr_model.specs.Fields.{FitsCall};
 ghost use Rattle.sdr_model.specs.declared.call.Call.TheVariants as calls;
-ghost use Rattle.step_keyed.specs.Freeing.{IsFree, NamedStops};
 ghost use Rattle.zco_ref.specs.Kept.{IsRaw};
 ghost use Rattle.step_zco.specs.SourceAnswering.{IsGood};
 
-use sdr_base::{Addr, Kind, Objects, Stop};
+use sdr_base::{Addr, Objects, Stop};
 use sdr_model::{Call, Reply};
 use step_things::Page;
-
-// Refuses a raw object that a source names.
-fn expect_free<O: Objects>(o: &mut O, addr: Addr) -> Result<(), Stop>
-    requires kept { KeepsSome (O.keeps o.old) }
-    requires raw { IsRaw (O.heap o.old).blocks addr }
-    ensures free { OnOk result (IsFree ((O.heap o.old).blocks addr)) }
-    ensures refused { IfErr result (NamedStops (O.heap o.old).blocks addr) }
-    ensures looks { Looks O.HasHeap o.old o.new result }
-{
-    if let Some((Kind::Raw, _)) = o.kind(addr)? {
-        zco_ref::expect_unnamed(o, addr)?;
-    }
-    Ok(())
-}
 
 // Gives a raw object that no source names, or a string, back.
 fn free<O: Objects>(o: &mut O, addr: Addr, page: &mut Page) -> Result<Reply, Stop>
@@ -36,7 +21,6 @@ fn free<O: Objects>(o: &mut O, addr: Addr, page: &mut Page) -> Result<Reply, Sto
     ensures comes { ComesInEach (calls.Free addr) (O.heap o.old) (O.heap o.new) page.old page.new result }
     ensures works { Spends O.HasHeap 24 o.old o.new result }
 {
-    expect_free(o, addr)?;
     sdr_heap::free(o, addr)?;
     page.clear();
     Ok(Reply::Done)
@@ -51,6 +35,7 @@ pub fn answer<O: Objects>(o: &mut O, call: &Call, page: &mut Page) -> Result<Rep
     requires one { is_free_call call.now ≡ true }
     ensures comes { ComesInEach call.now (O.heap o.old) (O.heap o.new) page.old page.new result }
     ensures works { Spends O.HasHeap (call_lines (O.heap o.old) call.now) o.old o.new result }
+    ensures lines { LeavesLines O.HasHeap call.now o.old o.new }
     ensures fits { FitsCall call.now }
 {
     match call {

@@ -1,6 +1,6 @@
 // The calls on hashes, as steps of the machine.
 ghost use Rattle.std.specs.Prelude.{[], length, true, ◌*◌, ◌+◌, ◌/◌, ◌≡◌, ◌≤◌};
-ghost use Rattle.step_things.specs.Answering.{ComesInEach, IsGood, call_lines, is_hash_call};
+ghost use Rattle.step_things.specs.Answering.{ComesInEach, IsGood, LeavesLines, call_lines, is_hash_call};
 ghost use Rattle.sdr_base.specs.Moves.{KeepsSome};
 ghost use Rattle.sdr_base.specs.Works.{Spends};
 ghost use Rattle.sdr_hash.specs.Destroying.{entries_in};
@@ -62,6 +62,7 @@ fn retrieve<O: Objects>(o: &mut O, hash: Addr, key: &[u8], page: &mut Page) -> R
     ensures comes { ComesInEach (calls.HashRetrieve hash key.now)
         (O.heap o.old) (O.heap o.new) page.old page.new result }
     ensures works { Spends O.HasHeap 0 o.old o.new result }
+    ensures touched { (O.transaction o.new).touched ≡ (O.transaction o.old).touched }
 {
     let value = sdr_hash::retrieve(o, hash, key)?;
     page.clear();
@@ -113,6 +114,7 @@ fn count<O: Objects>(o: &mut O, hash: Addr, page: &mut Page) -> Result<Reply, St
     ensures comes { ComesInEach (calls.HashCount hash)
         (O.heap o.old) (O.heap o.new) page.old page.new result }
     ensures works { Spends O.HasHeap 0 o.old o.new result }
+    ensures touched { (O.transaction o.new).touched ≡ (O.transaction o.old).touched }
 {
     let value = sdr_hash::count(o, hash)?;
     page.clear();
@@ -144,6 +146,7 @@ pub fn answer<O: Objects>(o: &mut O, call: &Call, page: &mut Page) -> Result<Rep
     requires one { is_hash_call call.now ≡ true }
     ensures comes { ComesInEach call.now (O.heap o.old) (O.heap o.new) page.old page.new result }
     ensures works { Spends O.HasHeap (call_lines (O.heap o.old) call.now) o.old o.new result }
+    ensures lines { LeavesLines O.HasHeap call.now o.old o.new }
     ensures fits { FitsCall call.now }
 {
     match call {

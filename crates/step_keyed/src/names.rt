@@ -1,6 +1,6 @@
 // The calls on the catalogue, as steps of the machine.
 ghost use Rattle.std.specs.Prelude.{[], true, ◌+◌, ◌/◌, ◌<◌, ◌^◌, ◌≡◌, ◌≤◌};
-ghost use Rattle.step_things.specs.Answering.{ComesInEach, IsGood, call_lines, is_name_call};
+ghost use Rattle.step_things.specs.Answering.{ComesInEach, IsGood, LeavesLines, call_lines, is_name_call};
 ghost use Rattle.sdr_base.specs.Moves.{KeepsSome};
 ghost use Rattle.sdr_base.specs.Works.{Spends};
 ghost use Rattle.sdr_cat.specs.Kept.{SomeNames};
@@ -43,6 +43,7 @@ fn find<O: Objects>(o: &mut O, name: &[u8], page: &mut Page) -> Result<Reply, St
     ensures comes { ComesInEach (calls.Find name.now) (O.heap o.old) (O.heap o.new) page.old page.new
         result }
     ensures works { Spends O.HasHeap 0 o.old o.new result }
+    ensures touched { (O.transaction o.new).touched ≡ (O.transaction o.old).touched }
 {
     let (kind, second) = sdr_cat::find(o, name)?;
     page.clear();
@@ -75,6 +76,7 @@ fn entry<O: Objects>(o: &mut O, place: u64, page: &mut Page) -> Result<Reply, St
     ensures comes { ComesInEach (calls.Entry place) (O.heap o.old) (O.heap o.new) page.old page.new
         result }
     ensures works { Spends O.HasHeap 0 o.old o.new result }
+    ensures touched { (O.transaction o.new).touched ≡ (O.transaction o.old).touched }
 {
     let mut name = [0; 255];
     let (count, kind, addr) = sdr_cat::entry(o, place, &mut name)?;
@@ -91,6 +93,7 @@ pub fn answer<O: Objects>(o: &mut O, call: &Call, page: &mut Page) -> Result<Rep
     requires one { is_name_call call.now ≡ true }
     ensures comes { ComesInEach call.now (O.heap o.old) (O.heap o.new) page.old page.new result }
     ensures works { Spends O.HasHeap (call_lines (O.heap o.old) call.now) o.old o.new result }
+    ensures lines { LeavesLines O.HasHeap call.now o.old o.new }
     ensures fits { FitsCall call.now }
 {
     match call {

@@ -2,6 +2,7 @@
 use Rattle.std.specs.Prelude.{◌≡◌, ◌+◌, ◌*◌, ◌/◌, ℕ, Bool, true, false, not, List, [], length, ⊤, All, Result, Ok, Err}
 use Rattle.sdr_stands.specs.Standing.{HeapStandsFor}
 use Rattle.sdr_base.specs.Objects.{Heap}
+use Rattle.sdr_base.specs.declared.has_heap.HasHeap.{Ghosts}
 use Rattle.sdr_base.specs.declared.moves.Move.{Move}
 use Rattle.sdr_base.specs.declared.refusal.Refusal.{Refusal}
 use Rattle.sdr_base.specs.declared.refusal.Refusal.TheVariants as refusals
@@ -121,6 +122,10 @@ is_name_call call = false
 abbrev pub dooms : Call → Reply → Bool
 dooms call (replies.Refused refusal) = not (is_reading call)
 dooms call reply = false
+
+-- a reading call leaves the lines touched as they were, however it is answered
+abbrev pub LeavesLines : {S : Type 0} → Ghosts S → Call → S → S → Type 0
+LeavesLines m call old new = is_reading call ≡ true → (m.transaction new).touched ≡ (m.transaction old).touched
 
 -- so many lines one of these calls touches at most on this heap
 abbrev pub call_lines : Heap → Call → ℕ

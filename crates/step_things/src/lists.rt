@@ -1,6 +1,6 @@
 // The calls on lists and on their elements, as steps of the machine.
 ghost use Rattle.std.specs.Prelude.{[], true, ◌*◌, ◌+◌, ◌/◌, ◌≡◌, ◌≤◌};
-ghost use Rattle.step_things.specs.Answering.{ComesInEach, IsGood, call_lines, is_list_call};
+ghost use Rattle.step_things.specs.Answering.{ComesInEach, IsGood, LeavesLines, call_lines, is_list_call};
 ghost use Rattle.step_things.specs.Sorting.{Sorts};
 ghost use Rattle.sdr_base.specs.Moves.{KeepsSome};
 ghost use Rattle.sdr_base.specs.Works.{Spends};
@@ -61,6 +61,7 @@ fn list_length<O: Objects>(o: &mut O, list: Addr, page: &mut Page) -> Result<Rep
     ensures comes { ComesInEach (calls.ListLength list) (O.heap o.old) (O.heap o.new) page.old page.new
         result }
     ensures works { Spends O.HasHeap 0 o.old o.new result }
+    ensures touched { (O.transaction o.new).touched ≡ (O.transaction o.old).touched }
 {
     let value = sdr_list::length(o, list)?;
     page.clear();
@@ -75,6 +76,7 @@ fn list_user<O: Objects>(o: &mut O, list: Addr, page: &mut Page) -> Result<Reply
     ensures comes { ComesInEach (calls.ListUser list) (O.heap o.old) (O.heap o.new) page.old page.new
         result }
     ensures works { Spends O.HasHeap 0 o.old o.new result }
+    ensures touched { (O.transaction o.new).touched ≡ (O.transaction o.old).touched }
 {
     let value = sdr_list::user_data(o, list)?;
     page.clear();
@@ -221,6 +223,7 @@ fn search<O: Objects>(
     ensures comes { ComesInEach (calls.Search list datum keys) (O.heap o.old) (O.heap o.new) page.old
         page.new result }
     ensures works { Spends O.HasHeap 0 o.old o.new result }
+    ensures touched { (O.transaction o.new).touched ≡ (O.transaction o.old).touched }
 {
     let addr = sdr_list::search(o, list, datum, &collation(keys))?;
     page.clear();
@@ -250,6 +253,7 @@ fn first<O: Objects>(o: &mut O, list: Addr, page: &mut Page) -> Result<Reply, St
     ensures comes { ComesInEach (calls.First list) (O.heap o.old) (O.heap o.new) page.old page.new
         result }
     ensures works { Spends O.HasHeap 0 o.old o.new result }
+    ensures touched { (O.transaction o.new).touched ≡ (O.transaction o.old).touched }
 {
     let addr = sdr_list::first(o, list)?;
     page.clear();
@@ -263,6 +267,7 @@ fn last<O: Objects>(o: &mut O, list: Addr, page: &mut Page) -> Result<Reply, Sto
     requires unmoved { (O.heap o.old).moves ≡ [] }
     ensures comes { ComesInEach (calls.Last list) (O.heap o.old) (O.heap o.new) page.old page.new result }
     ensures works { Spends O.HasHeap 0 o.old o.new result }
+    ensures touched { (O.transaction o.new).touched ≡ (O.transaction o.old).touched }
 {
     let addr = sdr_list::last(o, list)?;
     page.clear();
@@ -277,6 +282,7 @@ fn next<O: Objects>(o: &mut O, element: Addr, page: &mut Page) -> Result<Reply, 
     ensures comes { ComesInEach (calls.Next element) (O.heap o.old) (O.heap o.new) page.old page.new
         result }
     ensures works { Spends O.HasHeap 0 o.old o.new result }
+    ensures touched { (O.transaction o.new).touched ≡ (O.transaction o.old).touched }
 {
     let addr = sdr_list::next(o, element)?;
     page.clear();
@@ -291,6 +297,7 @@ fn prev<O: Objects>(o: &mut O, element: Addr, page: &mut Page) -> Result<Reply, 
     ensures comes { ComesInEach (calls.Prev element) (O.heap o.old) (O.heap o.new) page.old page.new
         result }
     ensures works { Spends O.HasHeap 0 o.old o.new result }
+    ensures touched { (O.transaction o.new).touched ≡ (O.transaction o.old).touched }
 {
     let addr = sdr_list::prev(o, element)?;
     page.clear();
@@ -305,6 +312,7 @@ fn datum<O: Objects>(o: &mut O, element: Addr, page: &mut Page) -> Result<Reply,
     ensures comes { ComesInEach (calls.Datum element) (O.heap o.old) (O.heap o.new) page.old page.new
         result }
     ensures works { Spends O.HasHeap 0 o.old o.new result }
+    ensures touched { (O.transaction o.new).touched ≡ (O.transaction o.old).touched }
 {
     let value = sdr_list::datum(o, element)?;
     page.clear();
@@ -340,6 +348,7 @@ pub fn answer<O: Objects>(o: &mut O, call: &Call, page: &mut Page) -> Result<Rep
     requires one { is_list_call call.now ≡ true }
     ensures comes { ComesInEach call.now (O.heap o.old) (O.heap o.new) page.old page.new result }
     ensures works { Spends O.HasHeap (call_lines (O.heap o.old) call.now) o.old o.new result }
+    ensures lines { LeavesLines O.HasHeap call.now o.old o.new }
     ensures fits { FitsCall call.now }
 {
     match call {

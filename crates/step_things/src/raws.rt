@@ -5,7 +5,7 @@ ghost use Rattle.sdr_base.specs.Works.{Looks, Spends};
 ghost use Rattle.sdr_heap.specs.Raw.{HasSourceWord, ReadStops};
 ghost use Rattle.sdr_model.specs.Fields.{AreBytes, FitsCall};
 ghost use Rattle.sdr_model.specs.declared.call.Call.TheVariants as calls;
-ghost use Rattle.step_things.specs.Answering.{ComesInEach, IsGood, call_lines, is_raw_call};
+ghost use Rattle.step_things.specs.Answering.{ComesInEach, IsGood, LeavesLines, call_lines, is_raw_call};
 
 use crate::page::{PAGE, Page};
 use sdr_base::limits::LONGEST_READ;
@@ -33,6 +33,7 @@ fn length<O: Objects>(o: &mut O, addr: Addr, page: &mut Page) -> Result<Reply, S
     ensures comes { ComesInEach (calls.Length addr) (O.heap o.old) (O.heap o.new) page.old page.new
         result }
     ensures works { Spends O.HasHeap 0 o.old o.new result }
+    ensures touched { (O.transaction o.new).touched ≡ (O.transaction o.old).touched }
 {
     let value = sdr_heap::length(o, addr)?;
     page.clear();
@@ -72,6 +73,7 @@ fn read_into<O: Objects>(
     ensures comes { ComesInEach (calls.Read addr place count) (O.heap o.old) (O.heap o.new) page.old
         page.new result }
     ensures works { Spends O.HasHeap 0 o.old o.new result }
+    ensures touched { (O.transaction o.new).touched ≡ (O.transaction o.old).touched }
 {
     sdr_heap::read(o, addr, place, into)?;
     page.show(into);
@@ -92,6 +94,7 @@ fn read<O: Objects>(
     ensures comes { ComesInEach (calls.Read addr place count) (O.heap o.old) (O.heap o.new) page.old
         page.new result }
     ensures works { Spends O.HasHeap 0 o.old o.new result }
+    ensures touched { (O.transaction o.new).touched ≡ (O.transaction o.old).touched }
 {
     if count > LONGEST_READ {
         return refuse_count(o, addr, count);
@@ -116,6 +119,7 @@ fn stage_into<O: Objects>(
     ensures comes { ComesInEach (calls.Stage addr count) (O.heap o.old) (O.heap o.new) page.old page.new
         result }
     ensures works { Spends O.HasHeap 0 o.old o.new result }
+    ensures touched { (O.transaction o.new).touched ≡ (O.transaction o.old).touched }
 {
     sdr_heap::stage(o, addr, into)?;
     page.show(into);
@@ -130,6 +134,7 @@ fn stage<O: Objects>(o: &mut O, addr: Addr, count: u64, page: &mut Page) -> Resu
     ensures comes { ComesInEach (calls.Stage addr count) (O.heap o.old) (O.heap o.new) page.old page.new
         result }
     ensures works { Spends O.HasHeap 0 o.old o.new result }
+    ensures touched { (O.transaction o.new).touched ≡ (O.transaction o.old).touched }
 {
     if count > LONGEST_READ {
         return refuse_count(o, addr, count);
@@ -168,6 +173,7 @@ pub fn answer<O: Objects>(o: &mut O, call: &Call, page: &mut Page) -> Result<Rep
     requires one { is_raw_call call.now ≡ true }
     ensures comes { ComesInEach call.now (O.heap o.old) (O.heap o.new) page.old page.new result }
     ensures works { Spends O.HasHeap (call_lines (O.heap o.old) call.now) o.old o.new result }
+    ensures lines { LeavesLines O.HasHeap call.now o.old o.new }
     ensures fits { FitsCall call.now }
 {
     match call {

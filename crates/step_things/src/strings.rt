@@ -1,6 +1,6 @@
 // The calls on strings, as steps of the machine.
 ghost use Rattle.std.specs.Prelude.{[], length, true, ◌+◌, ◌/◌, ◌≡◌, ◌≤◌};
-ghost use Rattle.step_things.specs.Answering.{ComesInEach, IsGood, call_lines, is_string_call};
+ghost use Rattle.step_things.specs.Answering.{ComesInEach, IsGood, LeavesLines, call_lines, is_string_call};
 ghost use Rattle.sdr_base.specs.Moves.{KeepsSome};
 ghost use Rattle.sdr_base.specs.Works.{Spends};
 ghost use Rattle.sdr_model.specs.Fields.{AreBytes, FitsCall};
@@ -35,6 +35,7 @@ fn string_length<O: Objects>(o: &mut O, addr: Addr, page: &mut Page) -> Result<R
     ensures comes { ComesInEach (calls.StringLength addr) (O.heap o.old) (O.heap o.new) page.old page.new
         result }
     ensures works { Spends O.HasHeap 0 o.old o.new result }
+    ensures touched { (O.transaction o.new).touched ≡ (O.transaction o.old).touched }
 {
     let value = sdr_string::length(o, addr)?;
     page.clear();
@@ -49,6 +50,7 @@ fn string_read<O: Objects>(o: &mut O, addr: Addr, page: &mut Page) -> Result<Rep
     ensures comes { ComesInEach (calls.StringRead addr) (O.heap o.old) (O.heap o.new) page.old page.new
         result }
     ensures works { Spends O.HasHeap 0 o.old o.new result }
+    ensures touched { (O.transaction o.new).touched ≡ (O.transaction o.old).touched }
 {
     let mut text = [0; LONGEST_STRING as usize];
     let count = sdr_string::read(o, addr, &mut text)?;
@@ -80,6 +82,7 @@ pub fn answer<O: Objects>(o: &mut O, call: &Call, page: &mut Page) -> Result<Rep
     requires one { is_string_call call.now ≡ true }
     ensures comes { ComesInEach call.now (O.heap o.old) (O.heap o.new) page.old page.new result }
     ensures works { Spends O.HasHeap (call_lines (O.heap o.old) call.now) o.old o.new result }
+    ensures lines { LeavesLines O.HasHeap call.now o.old o.new }
     ensures fits { FitsCall call.now }
 {
     match call {

@@ -1,6 +1,6 @@
 // The calls on tables, as steps of the machine.
 ghost use Rattle.std.specs.Prelude.{[], length, true, ◌*◌, ◌+◌, ◌/◌, ◌≡◌, ◌≤◌};
-ghost use Rattle.step_things.specs.Answering.{ComesInEach, IsGood, call_lines, is_table_call};
+ghost use Rattle.step_things.specs.Answering.{ComesInEach, IsGood, LeavesLines, call_lines, is_table_call};
 ghost use Rattle.sdr_base.specs.Moves.{KeepsSome};
 ghost use Rattle.sdr_base.specs.Works.{Spends};
 ghost use Rattle.sdr_model.specs.Fields.{AreBytes, FitsCall, IsWord};
@@ -40,6 +40,7 @@ fn row<O: Objects>(o: &mut O, table: Addr, row: u64, page: &mut Page) -> Result<
     ensures comes { ComesInEach (calls.Row table row) (O.heap o.old) (O.heap o.new) page.old page.new
         result }
     ensures works { Spends O.HasHeap 0 o.old o.new result }
+    ensures touched { (O.transaction o.new).touched ≡ (O.transaction o.old).touched }
 {
     let mut bytes = [0; PAGE];
     let count = sdr_table::row(o, table, row, &mut bytes)?;
@@ -76,6 +77,7 @@ fn dimensions<O: Objects>(o: &mut O, table: Addr, page: &mut Page) -> Result<Rep
     ensures comes { ComesInEach (calls.Dimensions table) (O.heap o.old) (O.heap o.new) page.old page.new
         result }
     ensures works { Spends O.HasHeap 0 o.old o.new result }
+    ensures touched { (O.transaction o.new).touched ≡ (O.transaction o.old).touched }
 {
     let (first, second) = sdr_table::dimensions(o, table)?;
     page.clear();
@@ -90,6 +92,7 @@ fn table_user<O: Objects>(o: &mut O, table: Addr, page: &mut Page) -> Result<Rep
     ensures comes { ComesInEach (calls.TableUser table) (O.heap o.old) (O.heap o.new) page.old page.new
         result }
     ensures works { Spends O.HasHeap 0 o.old o.new result }
+    ensures touched { (O.transaction o.new).touched ≡ (O.transaction o.old).touched }
 {
     let value = sdr_table::user_data(o, table)?;
     page.clear();
@@ -120,6 +123,7 @@ pub fn answer<O: Objects>(o: &mut O, call: &Call, page: &mut Page) -> Result<Rep
     requires one { is_table_call call.now ≡ true }
     ensures comes { ComesInEach call.now (O.heap o.old) (O.heap o.new) page.old page.new result }
     ensures works { Spends O.HasHeap (call_lines (O.heap o.old) call.now) o.old o.new result }
+    ensures lines { LeavesLines O.HasHeap call.now o.old o.new }
     ensures fits { FitsCall call.now }
 {
     match call {

@@ -18,7 +18,7 @@ use Rattle.sdr_model.specs.Accounts.{is_same_account, tickets_of}
 use Rattle.sdr_model.specs.Gone.{names_source}
 use Rattle.sdr_model.specs.Valid.{FitTogether}
 use Rattle.sdr_model.specs.World.{World, thing_at}
-use Rattle.sdr_model.specs.Zco.{as_object, count_of, naming}
+use Rattle.sdr_model.specs.Zco.{as_object, as_source, count_of, naming}
 use Rattle.sdr_model.specs.declared.things.Thing.TheVariants as things
 use Rattle.sdr_model.specs.declared.zco.Extent.{Extent}
 use Rattle.sdr_model.specs.declared.zco.ZcoObject.{ZcoObject}
@@ -27,7 +27,7 @@ use Rattle.step_zco.proofs.GoneMoves.{naming_rows}
 use Rattle.step_zco.proofs.GoneTies.{counts_less, leaves_none, lost_world}
 use Rattle.step_zco.proofs.GoneUses.{IsFound, UsedBy, UsedSource, itself, named_later, named_of, used_by}
 use Rattle.step_zco.proofs.GoneWorlds.{beside, own_first}
-use Rattle.step_zco.proofs.ObjectLemmas.{object_beside, object_fits}
+use Rattle.step_zco.proofs.ObjectLemmas.{object_beside, object_fits, short_source}
 use Rattle.step_zco.specs.Destroying.{SomeWithAll}
 use Rattle.zco_obj.specs.Destroying.{KeepsSources}
 use Rattle.zco_obj.specs.Gone as rows
@@ -85,6 +85,7 @@ module _ (heap : Heap) (w : World) (s : HeapStandsFor heap w) (served : IsReady 
       All-cons (CountsUses z.account extents) (named_of w z.extents u) (map (named_of w z.extents) us)
       (record {
         fits = (source_stands heap w u.addr u.source s served small u.there).fits;
+        short = short_source heap w s served small u.addr u.source (ap as_source u.there);
         enough = enough u;
       })
       (all_counted us)

@@ -43,6 +43,7 @@ pub fn occupancy<O: Objects>(
     ensures comes { ComesInEach (calls.Occupancy acct space)
         (O.heap o.old) (O.heap o.new) page.old page.new result }
     ensures works { Spends O.HasHeap 0 o.old o.new result }
+    ensures touched { (O.transaction o.new).touched ≡ (O.transaction o.old).touched }
 {
     let value = zco_acct::occupancy(o, acct, space)?;
     page.clear();
@@ -61,6 +62,7 @@ pub fn maximum<O: Objects>(
     ensures comes { ComesInEach (calls.Maximum acct space)
         (O.heap o.old) (O.heap o.new) page.old page.new result }
     ensures works { Spends O.HasHeap 0 o.old o.new result }
+    ensures touched { (O.transaction o.new).touched ≡ (O.transaction o.old).touched }
 {
     let value = zco_acct::maximum(o, acct, space)?;
     page.clear();

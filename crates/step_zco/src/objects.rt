@@ -39,6 +39,7 @@ pub fn length<O: Objects>(o: &mut O, object: Addr, page: &mut Page) -> Result<Re
     ensures comes { ComesInEach (calls.ZcoLength object)
         (O.heap o.old) (O.heap o.new) page.old page.new result }
     ensures works { Spends O.HasHeap 0 o.old o.new result }
+    ensures touched { (O.transaction o.new).touched ≡ (O.transaction o.old).touched }
 {
     let value = zco_obj::length(o, object)?;
     page.clear();
@@ -53,6 +54,7 @@ pub fn source_length<O: Objects>(o: &mut O, object: Addr, page: &mut Page) -> Re
     ensures comes { ComesInEach (calls.SourceLength object)
         (O.heap o.old) (O.heap o.new) page.old page.new result }
     ensures works { Spends O.HasHeap 0 o.old o.new result }
+    ensures touched { (O.transaction o.new).touched ≡ (O.transaction o.old).touched }
 {
     let value = zco_obj::source_length(o, object)?;
     page.clear();

@@ -1,6 +1,6 @@
 // The calls on sources, as steps of the machine.
 ghost use Rattle.std.specs.Prelude.{[], length, true, ◌+◌, ◌/◌, ◌≡◌, ◌≤◌};
-ghost use Rattle.step_things.specs.Answering.{ComesInEach};
+ghost use Rattle.step_things.specs.Answering.{ComesInEach, LeavesLines};
 ghost use Rattle.sdr_base.specs.Moves.{KeepsSome};
 ghost use Rattle.sdr_base.specs.Works.{Spends};
 ghost use Rattle.sdr_model.specs.Fields.{AreBytes, FitsCall, IsWord};
@@ -80,6 +80,7 @@ fn count<O: Objects>(o: &mut O, source: Addr, page: &mut Page) -> Result<Reply, 
     ensures comes { ComesInEach (calls.Count source)
         (O.heap o.old) (O.heap o.new) page.old page.new result }
     ensures works { Spends O.HasHeap 0 o.old o.new result }
+    ensures touched { (O.transaction o.new).touched ≡ (O.transaction o.old).touched }
 {
     let value = zco_ref::count(o, source)?;
     page.clear();
@@ -109,6 +110,7 @@ pub fn answer<O: Objects>(o: &mut O, call: &Call, page: &mut Page) -> Result<Rep
     requires one { is_source_call call.now ≡ true }
     ensures comes { ComesInEach call.now (O.heap o.old) (O.heap o.new) page.old page.new result }
     ensures works { Spends O.HasHeap (call_lines call.now) o.old o.new result }
+    ensures lines { LeavesLines O.HasHeap call.now o.old o.new }
     ensures fits { FitsCall call.now }
 {
     match call {

@@ -63,6 +63,7 @@ pub fn awarded<O: Objects>(o: &mut O, ticket: u64, page: &mut Page) -> Result<Re
     ensures comes { ComesInEach (calls.Awarded ticket)
         (O.heap o.old) (O.heap o.new) page.old page.new result }
     ensures works { Spends O.HasHeap 0 o.old o.new result }
+    ensures touched { (O.transaction o.new).touched ≡ (O.transaction o.old).touched }
 {
     zco_space::awarded(o, ticket)?;
     page.clear();

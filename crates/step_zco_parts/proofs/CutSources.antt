@@ -20,7 +20,7 @@ use Rattle.sdr_model.specs.Gone.{names_source}
 use Rattle.sdr_model.specs.PartSteps.{outside_part, part_end}
 use Rattle.sdr_model.specs.Valid.{FitTogether, LiesInside}
 use Rattle.sdr_model.specs.World.{World, thing_at}
-use Rattle.sdr_model.specs.Zco.{count_of, naming, source_at}
+use Rattle.sdr_model.specs.Zco.{as_source, count_of, naming, source_at}
 use Rattle.sdr_model.specs.declared.things.Thing.TheVariants as things
 use Rattle.sdr_model.specs.declared.zco.Extent.{Extent}
 use Rattle.sdr_model.specs.declared.zco.ZcoObject.{ZcoObject}
@@ -34,6 +34,7 @@ use Rattle.zco_obj.specs.Gone as rows
 use Rattle.zco_obj.specs.Gone.{NamedSource}
 use Rattle.zco_obj.specs.Uses.{AreNamed, CountsUses, IsThere}
 use Rattle.zco_ref.specs.Kept.{count_in}
+use Rattle.step_zco.proofs.ObjectLemmas.{short_source}
 use Rattle.step_zco.proofs.SourceLemmas.{counted_in, source_stands}
 
 -- a source of a world is found among these rows
@@ -158,7 +159,11 @@ module _ (w : World) (addr : ℕ) (z : ZcoObject) (fits : FitTogether w) (there 
     counted_all es [] = All-nil (CountsUses z.account extents)
     counted_all es (u ∷ us) =
         All-cons (CountsUses z.account extents) (named_of w es u) (map (named_of w es) us)
-        (record { fits = (source_stands heap w u.addr u.source s served small u.there).fits; enough = enough u.addr u.source })
+        (record {
+          fits = (source_stands heap w u.addr u.source s served small u.there).fits;
+          short = short_source heap w s served small u.addr u.source (ap as_source u.there);
+          enough = enough u.addr u.source;
+        })
         (counted_all es us)
 
     there_all : (es : List Extent) → ((q : ℕ) → names_source q es ≡ true → IsRowOf w both q) →

@@ -1,6 +1,6 @@
 // The calls on parts of zero-copy objects, each handed to its function.
 ghost use Rattle.std.specs.Prelude.{[], true, ◌+◌, ◌/◌, ◌≡◌, ◌≤◌};
-ghost use Rattle.step_things.specs.Answering.{ComesInEach, IsReady};
+ghost use Rattle.step_things.specs.Answering.{ComesInEach, IsReady, LeavesLines};
 ghost use Rattle.sdr_stands.specs.Standing.{HeapStandsFor};
 ghost use Rattle.sdr_base.specs.Moves.{KeepsSome};
 ghost use Rattle.sdr_base.specs.Works.{Spends};
@@ -33,6 +33,7 @@ pub fn answer<O: Objects>(o: &mut O, call: &Call, page: &mut Page) -> Result<Rep
     ensures comes { ComesInEach call.now (O.heap o.old) (O.heap o.new) page.old page.new result }
     ensures works { (w : World) → HeapStandsFor (O.heap o.old) w → IsReady w →
         Spends O.HasHeap (call_lines w call.now) o.old o.new result }
+    ensures lines { LeavesLines O.HasHeap call.now o.old o.new }
     ensures fits { FitsCall call.now }
 {
     match call {

@@ -1,5 +1,5 @@
 // How keys compare by each order, by what is kept and by a function that is stored.
-ghost use Rattle.std.specs.Prelude.{◌≡◌, length};
+ghost use Rattle.std.specs.Prelude.{◌≡◌, length, slice_index};
 ghost use Rattle.std.specs.Ordering.{nat_cmp};
 
 use sdr_base::limits::LONGEST_SORT_KEY;
@@ -37,6 +37,16 @@ const BY_LENGTH: [Ordering; 7] = [
     Ordering::Equal,
 ];
 
+const BY_FIRST_BYTE: [Ordering; 7] = [
+    Ordering::Equal,
+    Ordering::Equal,
+    Ordering::Less,
+    Ordering::Greater,
+    Ordering::Equal,
+    Ordering::Greater,
+    Ordering::Less,
+];
+
 // The first pair that compares otherwise.
 fn wrong_pair<F: Collate>(by: &Collation<F>, wanted: &[Ordering; 7]) -> Option<usize> {
     for (place, (a, b)) in PAIRS.iter().enumerate() {
@@ -48,6 +58,34 @@ fn wrong_pair<F: Collate>(by: &Collation<F>, wanted: &[Ordering; 7]) -> Option<u
         }
     }
     None
+}
+
+// The first byte of a key, 0 where it has none.
+fn first_byte(key: &[u8]) -> u8
+    ensures { result ≡ slice_index key.now 0 }
+{
+    match key {
+        [] => 0,
+        [first, ..] => *first,
+    }
+}
+
+/// An order of this crate's own: by the first byte.
+#[derive(Drop)]
+struct ByFirstByte;
+
+impl Collate for ByFirstByte {
+    ghost use Rattle.std.specs.Cmp.{nat_cmp_total, on_total};
+    ghost use Rattle.std.specs.Prelude.{List, ℕ};
+    ghost use Rattle.sdr_list.specs.Preorders.{on_keys};
+
+    ghost order = { λ _ a b. nat_cmp (slice_index a 0) (slice_index b 0) };
+
+    fn compare(&self, a: &[u8], b: &[u8]) -> Ordering {
+        first_byte(a).cmp(&first_byte(b))
+    }
+
+    ghost total = { λ _. on_keys (on_total (λ (xs : List ℕ). slice_index xs 0) nat_cmp_total) };
 }
 
 fn compare_lengths(a: &[u8], b: &[u8]) -> Ordering
@@ -72,4 +110,10 @@ fn keys_compare_by_their_length(rt: HostRuntime) {
 fn keys_compare_by_a_function(rt: HostRuntime) {
     let by = Collation::new(Stored::new(compare_lengths, ListKeys::ByLength));
     assert_eq!(rt; wrong_pair(&by, &BY_LENGTH), None);
+}
+
+#[test]
+fn keys_compare_by_an_order_of_its_own(rt: HostRuntime) {
+    let by = Collation::new(ByFirstByte);
+    assert_eq!(rt; wrong_pair(&by, &BY_FIRST_BYTE), None);
 }

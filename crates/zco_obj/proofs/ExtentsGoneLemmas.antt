@@ -21,6 +21,7 @@ use Rattle.sdr_base.proofs.GaveLemmas.{length-gave}
 use Rattle.sdr_base.proofs.StandingLemmas.{moved_back, rotated, times-append}
 use Rattle.sdr_model.specs.Amounts.{amount, amounts_by, plus}
 use Rattle.sdr_model.specs.Charges.{bytes_charge}
+use Rattle.sdr_model.specs.Limits.{longest_source}
 use Rattle.zco_obj.specs.Amounts.{extent_amounts, medium_space, source_space}
 use Rattle.zco_obj.specs.Uses.{CountsUses, ExtentGiveStops, ExtentsGiveStops, GivesExtent, GivesExtents, GivesSomeOfExtent, IsThere, SomeUse, SomeUses, UseAt, UsesAt, going_with, left_next}
 use Rattle.zco_obj.specs.Gone.{NamedSource, extent_row_charge, extents_amounts, going_before, gone_blocks, left_of, less_uses, naming, source_at, sources_entries, sources_left, space_in}
@@ -168,6 +169,7 @@ module _ {acct : Acct} {first : ℕ} {old now : Heap} {cursor i : ℕ} {charged 
         extent_fits = All-head ExtentFits h.one h.behind fits;
         next_fits = first_extent h.behind (All-tail ExtentFits h.one h.behind fits);
         source_fits = less_fits acct before_it spot.here.source counts.fits;
+        short = subst (λ (r : SourceRow). r.length ≤ longest_source) (sym (less_row acct before_it spot.here.source)) counts.short;
         some = still_counted acct spot.here before_it behind_it enough;
       }
 

@@ -23,6 +23,7 @@ pub mod SpotLemmas
 pub mod ExtentsGoneLemmas
 pub mod PartsGoneLemmas
 pub mod EndLemmas
+pub mod LeavingLemmas
 pub mod RawLemmas
 pub mod RawStopLemmas
 pub mod OccupancyLaws

@@ -16,4 +16,5 @@ pub mod AppendStops
 pub mod Gone
 pub mod Giving
 pub mod Uses
+pub mod Leaving
 pub mod Destroying

@@ -12,6 +12,7 @@ use Rattle.sdr_base.specs.declared.layout.extent.TheConstants.{SOURCE}
 use Rattle.sdr_base.specs.declared.refusal.Refusal.TheVariants as refusals
 use Rattle.sdr_base.specs.declared.stop.Stop.{Stop}
 use Rattle.sdr_base.specs.declared.stop.Stop.TheVariants.{Refused}
+use Rattle.sdr_model.specs.Limits.{longest_source}
 use Rattle.zco_obj.specs.Amounts.{extent_amounts, source_space}
 use Rattle.zco_obj.specs.Gone.{NamedSource, extents_amounts, gone_blocks, naming, source_at, sources_entries, sources_left}
 use Rattle.zco_obj.specs.Kept.{ExtentFits}
@@ -28,6 +29,7 @@ pub record UseAt (acct : Acct) (blocks : Blocks) (extent next : ℕ) (e : Extent
   pub extent_fits : ExtentFits e
   pub next_fits : next < 2 ^ 64
   pub source_fits : SourceFits source
+  pub short : source.row.length ≤ longest_source
   pub some : 1 ≤ count_in acct source
 
 -- so some extent and its source stand there
@@ -76,9 +78,11 @@ abbrev pub IsThere : Option NamedSource → Type 0
 IsThere None = ⊥
 IsThere (Some s) = Unit {0}
 
--- the numbers of a source fit, and it counts at least as many extents of the account as these that name it
+-- the numbers of a source fit, it has no more bytes than a source may have, and it counts at least as many extents of the
+-- account as these that name it
 pub record CountsUses (acct : Acct) (extents : List ExtentRow) (s : NamedSource) : Type 0 where
   pub fits : SourceFits s.source
+  pub short : s.source.row.length ≤ longest_source
   pub enough : naming s.addr extents ≤ count_in acct s.source
 
 -- these are the sources that these extents of an account name, and each counts them

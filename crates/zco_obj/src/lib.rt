@@ -13,7 +13,8 @@
 //!
 //! Proved: objects are made, filled, measured and destroyed as their rows say (`made`, `added`, `appended`,
 //! `discarded`, `told`, `destroyed`). All else stays, with the row's moves and bounded lines (`works`). What is
-//! occupied stays the sum of charges and grants (`OccupancyLaws`, lemmas).
+//! occupied stays the sum of charges and grants (`OccupancyLaws`, lemmas). What a destroyed object leaves of the sources that it
+//! named is a lemma (`destroy_leaves`).
 //!
 //! Only tested: each call's answers (`tests/cases`).
 #![tactic(auto)]

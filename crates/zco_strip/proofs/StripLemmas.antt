@@ -61,6 +61,7 @@ outside_named row ss n = record {
   counted = All-weaker (CountsUses row.account row.extents) (CountsUses row.account (outside row)) (λ s counts.
       record {
         fits = counts.fits;
+        short = counts.short;
         enough =
             let fewer = sum_out (names s.addr) row.part_offset (part_end row) row.extents in
             let enough = counts.enough in omega (arith, fewer, enough);

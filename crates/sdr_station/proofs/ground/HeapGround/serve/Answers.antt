@@ -1,6 +1,8 @@
 use Rattle.std.proofs.Common.{◌∙◌, ap, inl, inr, not, subst, false}
+use Rattle.sdr_heap.specs.Noted.{Held}
+use Rattle.sdr_image.specs.Opened.{Opened}
 use Rattle.sdr_model.specs.declared.answer.Reply.TheVariants as replies
-use Rattle.sdr_station.proofs.CameLemmas.{CameTo, came_answered, came_missed, came_refused, faults_never, good_before, keeps_before}
+use Rattle.sdr_station.proofs.CameLemmas.{CameTo, came_answered, came_missed, came_refused, faults_never, good_before, keeps_before, lines_left}
 use Rattle.sdr_station.proofs.InsideLemmas.{inside_quiet}
 use Rattle.sdr_station.specs.Grounded.{Grounded}
 use Rattle.sdr_station.proofs.ground.HeapGround.serve.Goals as goal
@@ -60,6 +62,8 @@ returns-in-Ok g c =
       restored = ap (λ (o : Grounded D M). o.restored) c.self.view_is;
       gap = at.gap;
       unread = at.unread;
+      quiet = at.quiet;
+      lines = lines_left _ c.args.self.now c.self.view_is c.clear_moves.new.self c.answer.new.o c.clear_moves.ensures.none c.args.call.now c.in-Ok.ensures.lines;
       time = at.time;
       keeps = at.keeps;
       inside = inside_quiet b c.args.self.now new at.quiet;
@@ -102,6 +106,9 @@ returns-in-Err-Refused g c =
       restored = ap (λ (o : Grounded D M). o.restored) c.self.view_is;
       gap = at.gap;
       unread = at.unread;
+      quiet = at.quiet;
+      lines = λ reads. ap (λ (h : Held (Opened D)). h.cells.touched) c.forget_moves.ensures
+          ∙ lines_left _ c.args.self.now c.self.view_is c.clear_moves.new.self c.answer.new.o c.clear_moves.ensures.none c.args.call.now e.ensures.lines reads;
       time = at.time;
       keeps = at.keeps;
       inside = inside_quiet b c.args.self.now new at.quiet;
@@ -141,6 +148,8 @@ returns-in-Err-MediaFault g c =
       restored = ap (λ (o : Grounded D M). o.restored) c.self.view_is;
       gap = at.gap;
       unread = at.unread;
+      quiet = at.quiet;
+      lines = lines_left _ c.args.self.now c.self.view_is c.clear_moves.new.self c.answer.new.o c.clear_moves.ensures.none c.args.call.now e.ensures.lines;
       time = at.time;
       keeps = at.keeps;
       inside = inside_quiet b c.args.self.now new at.quiet;

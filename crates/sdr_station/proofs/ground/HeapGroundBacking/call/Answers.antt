@@ -10,3 +10,6 @@ returns-then-self-clause-any_moment g c =
 
 pub returns-then-self-clause-inside : goal.returns-then-self-clause-inside
 returns-then-self-clause-inside g c = inside_refl g.D.Disk.bytes c.args.self.now c.args.self.now refl
+
+pub returns-then-self-clause-quiet : goal.returns-then-self-clause-quiet
+returns-then-self-clause-quiet g c = record { disk = refl; frame = refl; begun = refl; failed = refl; restored = refl; still_open = λ is. is }

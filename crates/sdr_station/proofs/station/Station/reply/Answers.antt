@@ -1,8 +1,10 @@
-use Rattle.std.proofs.Common.{◌≡◌, ◌∙◌, ap, arith, sym, subst}
+use Rattle.std.proofs.Common.{◌≡◌, ◌∙◌, ap, arith, refl, sym, subst, true}
+use Rattle.sdr_image.specs.Opened.{IsQuiet}
 use Rattle.sdr_machine.proofs.GroundLemmas.{leaves_same}
 use Rattle.sdr_machine.proofs.WorkLemmas.{on_none}
 use Rattle.sdr_machine.specs.Crash.{LeavesBefore}
 use Rattle.sdr_machine.specs.declared.nesting.Nesting.{Nesting}
+use Rattle.sdr_model.specs.Reading.{is_reading}
 use Rattle.sdr_station.proofs.GroundLemmas.{heap_ground}
 use Rattle.sdr_station.proofs.StationLemmas.{noted_depth, undoomed_noted}
 use Rattle.sdr_station.specs.Stationed.{SaysOr, Stationed}
@@ -60,3 +62,19 @@ pub returns-clause-any_moment : goal.returns-clause-any_moment
 returns-clause-any_moment g c =
     let h = heap_ground g.D.Disk.bytes g.D.Disk.moment g.D.Disk.faults g.D.Disk.may_hold_after g.M.Media in
     subst (λ (s : Stationed g.row.D.Denot g.row.M.Denot). LeavesBefore h s.ground c.serve-reply.new.self) c.self.view_is c.serve-reply.ensures.any_moment
+
+pub returns-in-Some-clause-quiet : goal.returns-in-Some-clause-quiet
+returns-in-Some-clause-quiet g c = record { disk = refl; frame = refl; begun = refl; failed = refl; restored = refl; still_open = λ is. is }
+
+pub returns-in-Some-doom-clause-quiet : goal.returns-in-Some-doom-clause-quiet
+returns-in-Some-doom-clause-quiet g c = record { disk = refl; frame = refl; begun = refl; failed = refl; restored = refl; still_open = λ is. is }
+
+pub returns-clause-quiet : goal.returns-clause-quiet
+returns-clause-quiet g c =
+    subst (λ (s : Stationed g.row.D.Denot g.row.M.Denot). IsQuiet s.ground.heap.cells c.serve-reply.new.self.heap.cells) c.self.view_is
+    c.serve-reply.ensures.quiet
+
+pub returns-clause-lines : goal.returns-clause-lines
+returns-clause-lines g c =
+    subst (λ (s : Stationed g.row.D.Denot g.row.M.Denot). is_reading c.args.call.now ≡ true
+    → c.serve-reply.new.self.heap.cells.touched ≡ s.ground.heap.cells.touched) c.self.view_is c.serve-reply.ensures.lines
