@@ -48,7 +48,7 @@ returns-in-Ok g c =
     let came = came_answered b m f l n _ c.self.invariant going c.args.call.now c.in-Ok.ensures.fits
     c.clear_moves.new.self
     c.clear_moves.ensures.none c.answer.new.o c.answer.new.media c.in-Ok.ensures.media c.answer.new.page reply c.in-Ok.ensures.comes c.in-Ok.ensures.works
-    c.in-Ok.ensures.tells c.in-Ok.ensures.unread in
+    c.in-Ok.ensures.tells c.in-Ok.ensures.unread c.in-Ok.ensures.asks in
     let at : CameTo b m f l n c.args.call.now reply c.args.self.now new =
     subst (λ (o : Grounded D M). CameTo b m f l n c.args.call.now reply o new) c.self.view_is came in
     record {
@@ -60,6 +60,7 @@ returns-in-Ok g c =
       restored = ap (λ (o : Grounded D M). o.restored) c.self.view_is;
       gap = at.gap;
       unread = at.unread;
+      asks = at.asks;
       time = at.time;
       keeps = at.keeps;
       inside = inside_quiet b c.args.self.now new at.quiet;
@@ -90,7 +91,7 @@ returns-in-Err-Refused g c =
     let came = came_refused b m f l n _ c.self.invariant going c.args.call.now e.ensures.fits c.clear_moves.new.self
     c.clear_moves.ensures.none c.answer.new.o c.answer.new.media e.ensures.media c.answer.new.page e.refusal e.field-0 e.field-0-is c.forget_moves.new.heap
     c.forget_moves.ensures c.is_reading.result c.is_reading.ensures e.ensures.comes e.ensures.works
-    e.ensures.tells e.ensures.unread in
+    e.ensures.tells e.ensures.unread e.ensures.asks in
     let at : CameTo b m f l n c.args.call.now reply c.args.self.now new =
     subst (λ (o : Grounded D M). CameTo b m f l n c.args.call.now reply o new) c.self.view_is came in
     record {
@@ -102,6 +103,7 @@ returns-in-Err-Refused g c =
       restored = ap (λ (o : Grounded D M). o.restored) c.self.view_is;
       gap = at.gap;
       unread = at.unread;
+      asks = at.asks;
       time = at.time;
       keeps = at.keeps;
       inside = inside_quiet b c.args.self.now new at.quiet;
@@ -129,7 +131,7 @@ returns-in-Err-MediaFault g c =
       restored = c.self.inside.restored;
     } in
     let came = came_missed b m f l n _ c.self.invariant going c.args.call.now e.ensures.fits c.clear_moves.new.self c.clear_moves.ensures.none c.answer.new.o
-    c.answer.new.media e.ensures.media c.answer.new.page e.field-0 e.field-0-is e.ensures.works e.ensures.tells e.ensures.unread in
+    c.answer.new.media e.ensures.media c.answer.new.page e.field-0 e.field-0-is e.ensures.works e.ensures.tells e.ensures.unread e.ensures.asks in
     let at : CameTo b m f l n c.args.call.now replies.MediaFault c.args.self.now new =
     subst (λ (o : Grounded D M). CameTo b m f l n c.args.call.now replies.MediaFault o new) c.self.view_is came in
     record {
@@ -141,6 +143,7 @@ returns-in-Err-MediaFault g c =
       restored = ap (λ (o : Grounded D M). o.restored) c.self.view_is;
       gap = at.gap;
       unread = at.unread;
+      asks = at.asks;
       time = at.time;
       keeps = at.keeps;
       inside = inside_quiet b c.args.self.now new at.quiet;
@@ -160,7 +163,7 @@ invariant_of-self g c =
     let came = came_answered b m f l n _ c.self.invariant going c.args.call.now c.in-Ok.ensures.fits
     c.clear_moves.new.self
     c.clear_moves.ensures.none c.answer.new.o c.answer.new.media c.in-Ok.ensures.media c.answer.new.page c.in-Ok.reply c.in-Ok.ensures.comes
-    c.in-Ok.ensures.works c.in-Ok.ensures.tells c.in-Ok.ensures.unread in
+    c.in-Ok.ensures.works c.in-Ok.ensures.tells c.in-Ok.ensures.unread c.in-Ok.ensures.asks in
     came.is_ground
 
 pub invariant_of-self-in-Err-Refused : goal.invariant_of-self-in-Err-Refused
@@ -177,7 +180,7 @@ invariant_of-self-in-Err-Refused g c =
     let came = came_refused b m f l n _ c.self.invariant going c.args.call.now e.ensures.fits c.clear_moves.new.self
     c.clear_moves.ensures.none c.answer.new.o c.answer.new.media e.ensures.media c.answer.new.page e.refusal e.field-0 e.field-0-is c.forget_moves.new.heap
     c.forget_moves.ensures c.is_reading.result c.is_reading.ensures e.ensures.comes e.ensures.works
-    e.ensures.tells e.ensures.unread in
+    e.ensures.tells e.ensures.unread e.ensures.asks in
     came.is_ground
 
 pub invariant_of-self-in-Err-MediaFault : goal.invariant_of-self-in-Err-MediaFault
@@ -186,5 +189,5 @@ invariant_of-self-in-Err-MediaFault g c =
     let e = c.in-Err-MediaFault in
     let came = came_missed g.D.Disk.bytes g.D.Disk.moment g.D.Disk.faults g.D.Disk.may_hold_after g.M.Media _ c.self.invariant going c.args.call.now
     e.ensures.fits c.clear_moves.new.self c.clear_moves.ensures.none c.answer.new.o c.answer.new.media e.ensures.media c.answer.new.page e.field-0 e.field-0-is
-    e.ensures.works e.ensures.tells e.ensures.unread in
+    e.ensures.works e.ensures.tells e.ensures.unread e.ensures.asks in
     came.is_ground

@@ -4,7 +4,9 @@ use Rattle.sdr_machine.proofs.WorkLemmas.{on_none}
 use Rattle.sdr_machine.specs.Crash.{LeavesBefore}
 use Rattle.sdr_machine.specs.declared.nesting.Nesting.{Nesting}
 use Rattle.sdr_station.proofs.GroundLemmas.{heap_ground}
+use Rattle.sdr_station.proofs.MediaLemmas.{asks_none}
 use Rattle.sdr_station.proofs.StationLemmas.{noted_depth, undoomed_noted}
+use Rattle.sdr_station.specs.Giving.{AsksMedia}
 use Rattle.sdr_station.specs.Stationed.{SaysOr, Stationed}
 use Rattle.sdr_station.proofs.station.Station.reply.Goals as goal
 
@@ -60,3 +62,14 @@ pub returns-clause-any_moment : goal.returns-clause-any_moment
 returns-clause-any_moment g c =
     let h = heap_ground g.D.Disk.bytes g.D.Disk.moment g.D.Disk.faults g.D.Disk.may_hold_after g.M.Media in
     subst (λ (s : Stationed g.row.D.Denot g.row.M.Denot). LeavesBefore h s.ground c.serve-reply.new.self) c.self.view_is c.serve-reply.ensures.any_moment
+
+pub returns-in-Some-clause-asks : goal.returns-in-Some-clause-asks
+returns-in-Some-clause-asks g c = asks_none g.M.Media c.args.call.now c.args.self.now.ground
+
+pub returns-in-Some-doom-clause-asks : goal.returns-in-Some-doom-clause-asks
+returns-in-Some-doom-clause-asks g c = asks_none g.M.Media c.args.call.now c.args.self.now.ground
+
+pub returns-clause-asks : goal.returns-clause-asks
+returns-clause-asks g c =
+    subst (λ (s : Stationed g.row.D.Denot g.row.M.Denot). AsksMedia g.M.Media c.args.call.now s.ground c.serve-reply.new.self) c.self.view_is
+    c.serve-reply.ensures.asks
