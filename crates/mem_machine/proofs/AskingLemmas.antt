@@ -25,7 +25,7 @@ use Rattle.sdr_machine.specs.declared.nesting.Nesting.{Nesting}
 use Rattle.sdr_model.proofs.PiecesLemmas.{Spells-filled, asked-row, length-asked}
 use Rattle.sdr_model.specs.Dry.{StepsDry, StopsReading}
 use Rattle.sdr_model.specs.Limits.{longest_read}
-use Rattle.sdr_model.specs.Pieces.{AsksBytes, AsksPage, filled, pieces_asked, pieces_told}
+use Rattle.sdr_model.specs.Pieces.{AsksBytes, AsksPage, asked_addr, asked_count, filled, pieces_asked, pieces_told}
 use Rattle.sdr_model.specs.Reading.{is_reading, reads_media}
 use Rattle.sdr_model.specs.Rows.{ByRow}
 use Rattle.sdr_model.specs.Step.{StopsWith, is_answer}
@@ -191,8 +191,14 @@ noted_reading : (call : Call) (reply : Reply) (n : Nesting) → is_reading call 
 noted_reading call (replies.Refused refusal) n reads = ap (λ b. if b then n else doomed_for (reasons.Refused (refusal_number refusal)) n) reads
 noted_reading call reply n reads = ap (λ b. if b then n else record n { modified = true }) reads
 
+-- where a page of an object is asked, at most a page is
+page_few : (z : Option ZcoObject) (count : ℕ) → AsksPage z count → count ≤ longest_read
+page_few None count asks = absurd asks
+page_few (Some z) count asks = asks
+
 -- what is asked of media before the call of a served daemon is answered
-module _ (r : Roll) (w : Worlds) (daemon : ℕ) (call : Call) (pieces : List Piece) (s : IsServed r daemon) (sound : r.failed ≡ None) (has : HasPieces w.now call pieces) where
+module _ (r : Roll) (w : Worlds) (daemon : ℕ) (call : Call) (pieces : List Piece) (s : IsServed r daemon) (makes : makes_calls r daemon ≡ true) (sound : r.failed ≡ None)
+    (has : HasPieces w.now call pieces) where
   abbrev m : Machine
   m = machine_on r w
 
@@ -248,6 +254,8 @@ module _ (r : Roll) (w : Worlds) (daemon : ℕ) (call : Call) (pieces : List Pie
     call = call;
     said = refl;
     reads = has.reads;
+    made = makes;
+    few = page_few (object_at w.now (asked_addr call)) (asked_count call) has.asks.there;
     asked = has.asked;
     page = subst (λ told. length told ≤ longest_read) (sym told_same) (length-asked w.now call has.asks);
     gives = gives_here;

@@ -7,11 +7,11 @@ use Rattle.sdr_base.specs.declared.refusal.Refusal.TheVariants as refusals
 use Rattle.sdr_machine.specs.Agreeing.{AgreesWith}
 use Rattle.sdr_machine.specs.Ground.{lies_with_media}
 use Rattle.sdr_machine.specs.Machine.{Machine, Made, MachineStep}
-use Rattle.sdr_machine.specs.Serving.{made_with, roll_settled, with_given}
+use Rattle.sdr_machine.specs.Serving.{made_with, makes_calls, roll_settled, with_given}
 use Rattle.sdr_machine.specs.Transaction.{bytes_given}
 use Rattle.sdr_machine.specs.declared.came.Came.{Came}
 use Rattle.sdr_model.specs.Limits.{longest_read}
-use Rattle.sdr_model.specs.Pieces.{AsksBytes, pieces_asked, pieces_told}
+use Rattle.sdr_model.specs.Pieces.{AsksBytes, asked_count, pieces_asked, pieces_told}
 use Rattle.sdr_model.specs.Reading.{reads_media}
 use Rattle.sdr_model.specs.Wire.{Spells}
 use Rattle.sdr_model.specs.World.{World}
@@ -58,12 +58,14 @@ pub record StepsAt (m : Machine) (daemon line : ℕ) (event : Event) (a : Came) 
 abbrev pub called : Reply → Came
 called reply = record { answer = answers.Reply reply; called = true }
 
--- The event is a call that is answered by bytes of which these pieces are asked. Whatever bytes the pieces are, they are
+-- The event is a call that is made, and is answered by bytes of which these pieces are asked, at most a page. Whatever bytes the pieces are, they are
 -- given; and where any of them lie in files or items, the call may stop.
 pub record Asks (m : Machine) (daemon : ℕ) (event : Event) (pieces : List Piece) : Type 0 where
   pub call : Call
   pub said : event ≡ events.Say call
   pub reads : reads_media call ≡ true
+  pub made : makes_calls m.roll daemon ≡ true
+  pub few : asked_count call ≤ longest_read
   pub asked : pieces ≡ pieces_asked m.now.world call
   pub page : length (pieces_told pieces) ≤ longest_read
   pub gives : (line : ℕ) (bytes : List ℕ) → Spells (pieces_told pieces) bytes

@@ -1,4 +1,5 @@
 pub mod Schedule
+pub mod Asking
 pub mod Handed
 pub mod Playing
 pub mod Replaying

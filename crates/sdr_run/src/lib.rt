@@ -12,7 +12,8 @@
 //!    handed in. All else holds for every disk. The media come back with the disk.
 //!
 //! Proved: `run` prints the text of a run of the machine on the script's steps, behind which all make their leaves, whole, or a part from the front
-//! if the sink failed, or that of some first steps if it ran out of memory (`ok`, `output`, `memory`). `replay`: the printed
+//! if the sink failed, or that of some first steps if it ran out of memory (`ok`, `output`, `memory`). In it media are asked at most once
+//! for each extent that lies with them and of which a call that is made needs bytes, whatever it comes to (`asks`). `replay`: the printed
 //! answers and the journal are those of one run of the script on the heap that was opened (`ReplaysOn`), for every disk. If the disk was
 //! settled (`IsSettled`), a crash at any moment of the call leaves a disk that opens to the state after some first entries, all done ones
 //! among them (`any_moment`, `LeavesJournal`). Each entry is begun and done between the begin of the call and its return (`in_time`).

@@ -6,10 +6,13 @@ ghost use Rattle.sdr_base.specs.Causes.{Rose};
 ghost use Rattle.sdr_base.specs.Written.{AppendsPart};
 ghost use Rattle.mem_machine.specs.Asking.{Asks};
 ghost use Rattle.mem_machine.specs.Plain.{first_plain, machine_of};
+ghost use Rattle.sdr_gather.specs.Gathering.{count_outside};
 ghost use Rattle.sdr_model.specs.Pieces.{pieces_told};
 ghost use Rattle.sdr_model.specs.declared.event.Event.{Event};
 ghost use Rattle.sdr_core.specs.Caused.{HaveFailed, IsCaused, media_change};
+ghost use Rattle.sdr_run.specs.Asking.{AsksAlong, outside_asked};
 ghost use Rattle.sdr_run.specs.Schedule.{StepAnswered, Responds, RunsTo, RunsWhole, SomeAnswer, SomeLine, SomeRun, SomeStep, all_daemons, answer_line, daemons_of};
+ghost use Rattle.sdr_words.specs.Bindings.{event_of};
 
 use mem_machine::Plain;
 use sdr_base::{Media, NoMemory, Refusal, Sink, SinkFault};
@@ -69,6 +72,7 @@ fn answer_reading<M: Media>(
     ensures events { OnOk result (plain.new.events ≡ plain.old.events + 1) }
     ensures daemons { OnOk result (length plain.new.roll.daemons ≡ length plain.old.roll.daemons) }
     ensures later { HaveFailed 0 0 (media_change M.told M.faults M.short media.old media.new) }
+    ensures asks { M.asks media.new ≤ M.asks media.old + count_outside pieces.now }
 {
     let (reply, given) = match gather(alloc, media, pieces) {
         Ok(bytes) => {
@@ -105,6 +109,8 @@ fn respond<M: Media>(
     ensures events { OnOk result (plain.new.events ≡ plain.old.events + 1) }
     ensures daemons { OnOk result (length plain.new.roll.daemons ≡ length plain.old.roll.daemons) }
     ensures later { HaveFailed 0 0 (media_change M.told M.faults M.short media.old media.new) }
+    ensures asks { M.asks media.new ≤ M.asks media.old
+        + outside_asked (machine_of plain.old) step.now.daemon event.now }
 {
     match plain.pieces(step.daemon, event)? {
         Some(pieces) => answer_reading(alloc, plain, media, step.daemon, pieces.as_slice()),
@@ -138,6 +144,8 @@ fn answer<M: Media, K: Sink>(
         (machine_of plain.old) step.now event.now (machine_of plain.new)
         (AppendsPart (K.taken out.old) (K.taken out.new)) }
     ensures media { HaveFailed 0 0 (media_change M.told M.faults M.short media.old media.new) }
+    ensures asks { M.asks media.new ≤ M.asks media.old
+        + outside_asked (machine_of plain.old) step.now.daemon event.now }
     ensures later { K.faults out.old ≤ K.faults out.new }
     ensures cause { result ≡ Err RunError.Output → Rose (K.faults out.old) (K.faults out.new) }
 {
@@ -172,6 +180,8 @@ fn make<M: Media, K: Sink>(
         SomeAnswer (media_change M.told M.faults M.short media.old media.new)
         (machine_of plain.old) bindings.old step.now (machine_of plain.new)
         (AppendsPart (K.taken out.old) (K.taken out.new)) }
+    ensures asks { M.asks media.new ≤ M.asks media.old
+        + outside_asked (machine_of plain.old) step.now.daemon (event_of bindings.old step.now) }
     ensures later { K.faults out.old ≤ K.faults out.new }
     ensures cause { result ≡ Err RunError.Output → Rose (K.faults out.old) (K.faults out.new) }
 {
@@ -219,6 +229,8 @@ fn run_on<M: Media, K: Sink>(
     ensures output { result ≡ Err RunError.Output →
         SomeRun (media_change M.told M.faults M.short media.old media.new) script.now (λ rest text.
         AppendsPart (K.taken out.old) (K.taken out.new) text) }
+    ensures asks { AsksAlong (M.told media.old) script.now (M.asks media.old) (M.asks media.new)
+        (K.taken out.old) (K.taken out.new) result }
     ensures few { OnOk result (plain.new.events ≤ 1_048_577) }
     ensures daemons { OnOk result (length plain.new.roll.daemons ≡ length plain.old.roll.daemons) }
     ensures later { K.faults out.old ≤ K.faults out.new }
@@ -253,6 +265,8 @@ fn run_through<M: Media, K: Sink>(
     ensures output { result ≡ Err RunError.Output →
         SomeRun (media_change M.told M.faults M.short media.old media.new) script.now (λ rest text.
         AppendsPart (K.taken out.old) (K.taken out.new) text) }
+    ensures asks { AsksAlong (M.told media.old) script.now (M.asks media.old) (M.asks media.new)
+        (K.taken out.old) (K.taken out.new) result }
     ensures later { K.faults out.old ≤ K.faults out.new }
     ensures cause { result ≡ Err RunError.Output → Rose (K.faults out.old) (K.faults out.new) }
 {
@@ -263,8 +277,8 @@ fn run_through<M: Media, K: Sink>(
 }
 
 /// Makes the steps of a script in order, on a plain machine of the daemons that it names, and prints
-/// the line of each answer. Media are asked for the bytes that lie with them. Behind the last step all daemons make their
-/// leaves, which print nothing.
+/// the line of each answer. Media are asked for the bytes that lie with them: at most once for each extent of which a call that
+/// is made needs bytes. Behind the last step all daemons make their leaves, which print nothing.
 pub fn run<M: Media, K: Sink>(
     alloc: Global,
     script: &[ScriptStep],
@@ -281,6 +295,8 @@ pub fn run<M: Media, K: Sink>(
     ensures output { result ≡ Err RunError.Output →
         SomeRun (media_change M.told M.faults M.short media.old media.new) script.now (λ rest text.
         AppendsPart (K.taken out.old) (K.taken out.new) text) }
+    ensures asks { AsksAlong (M.told media.old) script.now (M.asks media.old) (M.asks media.new)
+        (K.taken out.old) (K.taken out.new) result }
     ensures later { K.faults out.old ≤ K.faults out.new }
     ensures cause { result ≡ Err RunError.Output → Rose (K.faults out.old) (K.faults out.new) }
 {

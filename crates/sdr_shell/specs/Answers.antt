@@ -1,14 +1,19 @@
 -- What each form answers: by status, what was read, written and changed.
-use Rattle.std.specs.Prelude.{◌≡◌, ◌≢◌, ◌≤◌, ◌<◌, ◌↔◌, ◌⊎◌, ℕ, List, Option, Some, IsOk, IsErr, codes}
+use Rattle.std.specs.Prelude.{◌≡◌, ◌≢◌, ◌≤◌, ◌<◌, ◌↔◌, ◌⊎◌, ℕ, List, Option, Some, Result, Ok, Err, IsOk, IsErr, codes, ⊤}
 use Rattle.std.specs.Io.KnownBytes.{Appends}
 use Rattle.sdr_base.specs.Causes.{Rose}
+use Rattle.sdr_base.specs.Media.{Told}
 use Rattle.sdr_base.specs.Written.{AppendsPart}
 use Rattle.sdr_base.specs.declared.media.Media.{Ghosts as MediaGhosts}
 use Rattle.sdr_log.specs.Frame.{disk_bytes}
 use Rattle.sdr_log.specs.declared.frame.Frame.{Frame}
 use Rattle.sdr_shell.specs.Formatting.{line_formatted, line_too_small, IsFormatted, HasFormatted, IsFormatStatus}
 use Rattle.sdr_core.specs.Caused.{MediaChange, media_change}
-use Rattle.sdr_shell.specs.Still.{WritesOut, HadRun, IsDone, IsDryStatus, IsRefused, IsStarved}
+use Rattle.sdr_model.specs.declared.script.ScriptStep.{ScriptStep}
+use Rattle.sdr_run.specs.Asking.{AsksAlong}
+use Rattle.sdr_run.specs.declared.running.RunError.{RunError}
+use Rattle.sdr_run.specs.declared.running.RunError.TheVariants as errors
+use Rattle.sdr_shell.specs.Still.{WritesOut, HadRun, HadScript, IsDone, IsDryStatus, IsRefused, IsStarved}
 use Rattle.sdr_words.specs.Script.{input_script}
 use Rattle.sdr_shell.specs.declared.status.TheConstants.{DONE, INPUT_FAULT, OUTPUT_FAULT, DISK_FAULT, REFUSED_LINE, NO_MEMORY, TOO_SMALL}
 
@@ -29,11 +34,35 @@ change_of m files files' = media_change m.told m.faults m.short files files'
 abbrev pub Wrote : Seen → Seen → List ℕ → Type 0
 Wrote sink sink' text = WritesOut sink.bytes sink'.bytes sink.faults sink'.faults text
 
+-- what is told behind the text of a dry run that came to this
+abbrev pub TellsBehind : Result ⊤ RunError → Seen → Seen → Type 0
+TellsBehind (Err errors.NoMemory) mid now = Wrote mid now (codes "no memory\n")
+TellsBehind result mid now = now ≡ mid
+
+-- The script was run, and in the run media were asked at most once for each extent that lies with them and of which its events
+-- need bytes.
+pub record RanAsking (told : Option Told) (script : List ScriptStep) (asked asked' : ℕ) (sink sink' : Seen) : Type 0 where
+  pub result : Result ⊤ RunError
+  pub mid : Seen
+  pub asks : AsksAlong told script asked asked' sink.bytes mid.bytes result
+  pub tells : TellsBehind result mid sink'
+
+-- the source's input spelled the script
+pub record HadAsking (left : Option (List ℕ)) (told : Option Told) (asked asked' : ℕ) (sink sink' : Seen) : Type 0 where
+  pub script : List ScriptStep
+  pub input : HadScript left script
+  pub ran : RanAsking told script asked asked' sink sink'
+
+-- no script was run, and media weren't asked; or one was run so
+abbrev pub AsksDry : Option (List ℕ) → Option Told → ℕ → ℕ → Seen → Seen → Type 0
+AsksDry left told asked asked' sink sink' = (asked' ≡ asked) ⊎ HadAsking left told asked asked' sink sink'
+
 -- What a dry run answers. A script that is refused is not run, and media stay as they are; one that is accepted is run to its end, unless
 -- there is a fault or no memory.
 pub record AnswersDry {M : Type 0} (m : MediaGhosts M) (status : ℕ) (source source' : Seen) (files files' : M) (sink sink' : Seen) : Type 0 where
   pub known : IsDryStatus status
   pub done : status ≡ DONE → IsDone source.bytes source'.bytes (change_of m files files') sink.bytes sink'.bytes
+  pub asks : AsksDry source.bytes (m.told files) (m.asks files) (m.asks files') sink sink'
   pub unread : (status ≡ INPUT_FAULT) ⊎ (status ≡ REFUSED_LINE) → files' ≡ files
   pub input : status ≡ INPUT_FAULT → Rose source.faults source'.faults
   pub input_text : status ≡ INPUT_FAULT → Wrote sink sink' (codes "input fault\n")

@@ -3,6 +3,7 @@ ghost use Rattle.std.specs.Prelude.{◌≡◌, ◌≤◌, ◌<◌, ◌+◌, ◌�
 ghost use Rattle.std.specs.Prelude.{None, Some, [], length, IfSome};
 ghost use Rattle.std.specs.Io.KnownBytes.{Appends};
 ghost use Rattle.sdr_base.specs.Causes.{Rose};
+ghost use Rattle.sdr_shell.specs.Answers.{AsksDry, RanAsking, seen};
 ghost use Rattle.sdr_shell.specs.Form.{form_of};
 ghost use Rattle.sdr_core.specs.Caused.{HaveFailed, media_change};
 ghost use Rattle.sdr_run.specs.Schedule.{RunsWhole, SomeRun};
@@ -55,6 +56,8 @@ fn run_script<M: Media, K: Sink>(
     ensures known { (result ≡ DONE) ⊎ (result ≡ OUTPUT_FAULT) ⊎ (result ≡ NO_MEMORY) }
     ensures media { HaveFailed 0 0 (media_change M.told M.faults M.short media.old media.new) }
     ensures later { K.faults output.old ≤ K.faults output.new }
+    ensures asks { RanAsking (M.told media.old) script.now (M.asks media.old) (M.asks media.new)
+        (seen K.taken K.faults output.old) (seen K.taken K.faults output.new) }
     ensures done { result ≡ DONE →
         RunsWhole (media_change M.told M.faults M.short media.old media.new) script.now
         (Appends (K.taken output.old) (K.taken output.new)) }
@@ -111,6 +114,9 @@ fn dry<M: Media, S: Source, K: Sink>(
     ensures later { (S.faults input.old ≤ S.faults input.new)
         × (K.faults output.old ≤ K.faults output.new) }
     ensures media { HaveFailed 0 0 (media_change M.told M.faults M.short media.old media.new) }
+    ensures asks { AsksDry (S.left input.old) (M.told media.old)
+        (M.asks media.old) (M.asks media.new)
+        (seen K.taken K.faults output.old) (seen K.taken K.faults output.new) }
     ensures reads { S.reads input.new ≤ S.reads input.old + 1048577 }
     ensures each { IfSome (S.left input.old)
         (λ bytes. S.reads input.new ≤ S.reads input.old + length bytes + 1) }

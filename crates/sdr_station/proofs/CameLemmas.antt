@@ -15,6 +15,7 @@ use Rattle.sdr_machine.specs.Crash.{LeavesBefore}
 use Rattle.sdr_machine.specs.Lapses.{LapsesLast, HasLapseCause}
 use Rattle.sdr_machine.specs.Serving.{Brings, Calls, KeepsGround}
 use Rattle.sdr_model.specs.Fields.{FitsCall}
+use Rattle.sdr_model.specs.Pieces.{pieces_asked}
 use Rattle.sdr_model.specs.Reading.{is_reading}
 use Rattle.sdr_model.specs.Steps.{Outcome}
 use Rattle.sdr_model.specs.World.{World}
@@ -29,10 +30,11 @@ use Rattle.sdr_station.proofs.ServingLemmas.{AsksIn, WorksIn, answers_no_doom, b
 use Rattle.step_things.specs.Answering.{ComesInEach, IsReady, dooms}
 use Rattle.step_calls.specs.Giving.{TellsInEach}
 use Rattle.step_calls.specs.Serving.{IsGood, call_lines}
+use Rattle.zco_wire.specs.Asking.{AsksFor}
 use Rattle.zco_wire.specs.Stopping.{KeepsTold, past_media, past_stop}
 use Rattle.sdr_station.specs.Closing.{moves_left}
-use Rattle.sdr_station.specs.Giving.{GivesReply, reads_by}
-use Rattle.step_zco_parts.specs.Giving.{may_read}
+use Rattle.sdr_station.specs.Giving.{AsksMedia, GivesReply, reads_by}
+use Rattle.step_zco_parts.specs.Giving.{AsksInEach, may_read}
 use Rattle.sdr_station.specs.Grounded.{Grounded, IsGround, StandsForBoth, StandsInMemory, StandsSome, StandsWithin, heap_in}
 
 -- what a call came to on a ground
@@ -44,6 +46,7 @@ pub record CameTo {D M : Type 0} (told : D → Option (List ℕ)) (moment faults
   pub gives : GivesReply reply new
   pub gap : HasLapseCause (answers.Reply reply) (lapses_of media old.media) (lapses_of media new.media)
   pub unread : reads_by call reply ≡ false → new.media ≡ old.media
+  pub asks : AsksMedia media call old new
   pub sound : new.heap.cells.failed ≡ false
   pub quiet : IsQuiet old.heap.cells new.heap.cells
   pub time : old.moment ≤ new.moment
@@ -86,6 +89,21 @@ module _ {D M : Type 0} (told : D → Option (List ℕ)) (moment faults : D → 
       → ComesInEach call (heap_in fresh) (heap_in heap) old.shown page result
   comes_from result comes = subst (λ (h : Held (Opened D)). ComesInEach call (heap_in h) (heap_in heap) old.shown page result) from comes
 
+  -- how often media were asked, in each world that the heap before it stood for
+  abbrev pub AsksBefore : Type 0
+  AsksBefore = AsksInEach media call (heap_in before) old.media files
+
+  -- so it is in whatever world the ground stood for
+  asks_media : AsksBefore → (new : Grounded D M) → new.media ≡ files → AsksMedia media call old new
+  asks_media asked new read =
+      let here = subst (λ (h : Held (Opened D)). AsksInEach media call (heap_in h) old.media files) from asked in
+      record {
+        each = λ v at.
+            let w = at.now going in
+            subst (λ (f : M). AsksFor media (pieces_asked v.now.world call) old.media f) (sym read)
+            (here.each v.now.world (record { blocks = w.heap.blocks; roots = w.heap.roots; marks = w.heap.marks }) (served_in w));
+      }
+
   -- the ground stands for a world, in which calls are served
   some : StandsSome old
   some = ground.stands sound
@@ -109,14 +127,16 @@ module _ {D M : Type 0} (told : D → Option (List ℕ)) (moment faults : D → 
   comes_to : (reply : Reply) (new : Grounded D M) → IsQuiet old.heap.cells new.heap.cells → new.moment ≡ old.moment → new.media ≡ files
       → faults old.heap.cells.disk ≤ faults new.heap.cells.disk → new.stopped ≡ dooms call reply → new.idle ≡ false → GivesReply reply new
       → HasLapseCause (answers.Reply reply) (lapses_of media old.media) (lapses_of media files) → (reads_by call reply ≡ false → files ≡ old.media)
+      → AsksBefore
       → Brings StandsInMemory old new (Calls (media.told old.media) call reply) → CameTo told moment faults may_hold_after media call reply old new
-  comes_to reply new quiet same read later stopped made gives gap unread memory = record {
+  comes_to reply new quiet same read later stopped made gives gap unread asked memory = record {
     memory = memory;
     answered = brings_quiet told moment may_hold_after old new quiet same memory;
     stopped = stopped;
     gives = gives;
     gap = subst (λ (f : M). HasLapseCause (answers.Reply reply) (lapses_of media old.media) (lapses_of media f)) (sym read) gap;
     unread = λ none. read ∙ unread none;
+    asks = asks_media asked new read;
     sound = quiet.failed ∙ sound;
     quiet = quiet;
     time = omega (arith, same);
@@ -135,9 +155,9 @@ module _ {D M : Type 0} (told : D → Option (List ℕ)) (moment faults : D → 
 
   -- an answered call
   pub came_answered : (reply : Reply) → ComesInEach call (heap_in before) (heap_in heap) old.shown page (Ok reply)
-      → WorksFrom (Ok reply) → AsksFrom (Ok reply) → (may_read call (Ok reply) ≡ false → files ≡ old.media)
+      → WorksFrom (Ok reply) → AsksFrom (Ok reply) → (may_read call (Ok reply) ≡ false → files ≡ old.media) → AsksBefore
       → CameTo told moment faults may_hold_after media call reply old going_on
-  came_answered reply comes' works asks unread =
+  came_answered reply comes' works asks unread asked =
       let comes = comes_from (Ok reply) comes' in
       let ans = comes.each some.for.now.world stands (served_in within) in
       let outcome : Outcome = record { moves = heap.moves; after = ans.after; reply = reply } in
@@ -145,28 +165,29 @@ module _ {D M : Type 0} (told : D → Option (List ℕ)) (moment faults : D → 
       (going ∙ sym (answers_no_doom call reply ans.answered)) refl
       (gives_shown going_on some.for.now.world call outcome within.whole ans.row ans.gave (λ _. going) reply refl)
       (answered_gap (lapses_of media old.media) (lapses_of media files) reply ans.answered)
-      (λ none. unread (answered_reads call reply ans.answered none))
+      (λ none. unread (answered_reads call reply ans.answered none)) asked
       (brings_answered faults media old going call fit before.spare heap files page reply comes (works_from (Ok reply) works) (asks_from (Ok reply) asks))
 
   -- a call that media failed
   pub came_missed : (stop : Stop) → stop ≡ stops.MediaFault → WorksFrom (Err stop) → AsksFrom (Err stop)
-      → (may_read call (Err stop) ≡ false → files ≡ old.media) → CameTo told moment faults may_hold_after media call replies.MediaFault old going_on
-  came_missed stop is works' asks' unread =
+      → (may_read call (Err stop) ≡ false → files ≡ old.media) → AsksBefore
+      → CameTo told moment faults may_hold_after media call replies.MediaFault old going_on
+  came_missed stop is works' asks' unread asked =
       let works = subst (λ (s : Stop). WorksFrom (Err s)) is works' in
       let asks = asks_from (Err stops.MediaFault) (subst (λ (s : Stop). AsksFrom (Err s)) is asks') in
       comes_to replies.MediaFault going_on (quiet_from (Err stops.MediaFault) works) refl refl (later_from (Err stops.MediaFault) works) going refl tt
       (asks.each some.for.now.world stands (served_in within)).misses.2
-      (subst (λ (s : Stop). may_read call (Err s) ≡ false → files ≡ old.media) is unread)
+      (subst (λ (s : Stop). may_read call (Err s) ≡ false → files ≡ old.media) is unread) asked
       (brings_missed faults media old going call fit before.spare heap files page (works_from (Err stops.MediaFault) works) asks)
 
   -- a refused call, which tells these moves, and dooms where it doesn't read
   pub came_refused : (refusal : Refusal) (stop : Stop) → stop ≡ stops.Refused refusal → (left : Held (Opened D))
       → left ≡ record heap { moves = moves_left refusal heap.moves; spare = left.spare } → (reads : Bool) → reads ≡ is_reading call
       → ComesInEach call (heap_in before) (heap_in heap) old.shown page (Err stop) → WorksFrom (Err stop) → AsksFrom (Err stop)
-      → (may_read call (Err stop) ≡ false → files ≡ old.media)
+      → (may_read call (Err stop) ≡ false → files ≡ old.media) → AsksBefore
       → CameTo told moment faults may_hold_after media call (replies.Refused refusal) old
       (record { heap = left; media = files; shown = page; stopped = not reads; idle = false; moment = old.moment; restored = old.restored })
-  came_refused refusal stop is left left_is reads reads_is comes' works' asks' unread =
+  came_refused refusal stop is left left_is reads reads_is comes' works' asks' unread asked =
       let comes = comes_from (Err (stops.Refused refusal))
       (subst (λ (s : Stop). ComesInEach call (heap_in before) (heap_in heap) old.shown page (Err s)) is comes') in
       let works = subst (λ (s : Stop). WorksFrom (Err s)) is works' in
@@ -175,7 +196,7 @@ module _ {D M : Type 0} (told : D → Option (List ℕ)) (moment faults : D → 
       let came : CameTo told moment faults may_hold_after media call (replies.Refused refusal) old new =
       comes_to (replies.Refused refusal) new (quiet_from (Err (stops.Refused refusal)) works) refl refl (later_from (Err (stops.Refused refusal)) works) refl refl tt
       (refused_gap media some.for.now.world call old.media files refusal (asks.each some.for.now.world stands (served_in within)).misses)
-      (λ none. subst (λ (s : Stop). may_read call (Err s) ≡ false → files ≡ old.media) is unread (refused_reads call refusal none))
+      (λ none. subst (λ (s : Stop). may_read call (Err s) ≡ false → files ≡ old.media) is unread (refused_reads call refusal none)) asked
       (brings_refused faults media old going call fit before.spare heap files page refusal left.spare comes
       (works_from (Err (stops.Refused refusal)) works) asks) in
       subst (λ (g : Grounded D M). CameTo told moment faults may_hold_after media call (replies.Refused refusal) old g)

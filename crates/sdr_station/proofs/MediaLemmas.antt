@@ -1,5 +1,5 @@
 -- What the answer to a call tells of media.
-use Rattle.std.proofs.Common.{◌≡◌, true, false, true≢false, Err, refl, sym}
+use Rattle.std.proofs.Common.{◌≡◌, true, false, true≢false, Err, refl, sym, arith}
 use Rattle.sdr_base.specs.declared.media.Media.{Ghosts as MediaGhosts}
 use Rattle.sdr_base.specs.declared.refusal.Refusal.{Refusal}
 use Rattle.sdr_base.specs.declared.refusal.Refusal.TheVariants as refusals
@@ -14,7 +14,8 @@ use Rattle.sdr_model.specs.declared.answer.Reply.{Reply}
 use Rattle.sdr_model.specs.declared.answer.Reply.TheVariants as replies
 use Rattle.sdr_model.specs.declared.call.Call.{Call}
 use Rattle.sdr_station.proofs.GroundLemmas.{lapses_of}
-use Rattle.sdr_station.specs.Giving.{reads_by}
+use Rattle.sdr_station.specs.Giving.{AsksMedia, reads_by}
+use Rattle.sdr_station.specs.Grounded.{Grounded}
 use Rattle.step_zco_parts.specs.Giving.{MissesMedia, may_read}
 
 -- a reply that answers tells of no gap
@@ -50,3 +51,7 @@ module _ {M : Type 0} (m : MediaGhosts M) (w : World) (call : Call) (before now 
       → HasLapseCause (answers.Reply (replies.Refused refusal)) (lapses_of m before) (lapses_of m now)
   refused_gap (refusals.SourceShort have want) is = is.2
   refused_gap refusal is = tt
+
+-- a ground that stays has not asked its media
+pub asks_none : {D M : Type 0} (m : MediaGhosts M) (call : Call) (g : Grounded D M) → AsksMedia m call g g
+asks_none m call g = record { each = λ v at. omega arith }

@@ -14,7 +14,7 @@ ghost use Rattle.sdr_log.specs.Logged.{GivesSame};
 ghost use Rattle.sdr_model.specs.Reading.{is_reading};
 ghost use Rattle.step_things.specs.Answering.{dooms};
 ghost use Rattle.sdr_station.specs.Grounded.{IsBefore, StandsForBoth, StandsInMemory, StaysInside};
-ghost use Rattle.sdr_station.specs.Giving.{GivesReply, reads_by};
+ghost use Rattle.sdr_station.specs.Giving.{AsksMedia, GivesReply, reads_by};
 ghost use Rattle.sdr_station.specs.Opening.{ExplainsOpen, IsOfAudit, IsOfImage, IsOpen, LeavesBytes, MayBeAgain, disk_of};
 ghost use Rattle.sdr_station.specs.Opening.{media_of};
 
@@ -199,6 +199,7 @@ impl<D: Disk, M: Media, F: Notify + Drop> HeapGround<D, M, F> {
     /// Makes a call, in a transaction in which none was stopped. Where a changing call is refused, the
     /// transaction can only be put back; one that media fail, or that gets too few bytes of them, changes nothing.
     /// It makes no call of the disk, and a reading call touches no line.
+    /// Media are asked at most once for each extent that lies with them and of which the call needs bytes.
     pub fn serve(&mut self, call: &Call) -> Reply
         requires going { self.old.stopped ≡ false }
         ensures memory { Brings StandsInMemory self.old self.new
@@ -216,6 +217,7 @@ impl<D: Disk, M: Media, F: Notify + Drop> HeapGround<D, M, F> {
         ensures quiet { IsQuiet self.old.heap.cells self.new.heap.cells }
         ensures lines { is_reading call.now ≡ true
             → self.new.heap.cells.touched ≡ self.old.heap.cells.touched }
+        ensures asks { AsksMedia M.Media call.now self.old self.new }
         ensures time { self.old.moment ≤ self.new.moment }
         ensures keeps { KeepsGround ⟦<HeapGround<D, M, F> as HasGround>⟧ true self.old self.new }
         ensures inside { StaysInside D.bytes self.old self.new }
@@ -379,6 +381,7 @@ impl<D: Disk, M: Media, F: Notify + Drop> HeapGround<D, M, F> {
             (Shows ticket granted)) }
         ensures idle { self.old.idle ≡ true → (self.new ≡ record self.old { heap = self.new.heap })
             × IsQuiet self.old.heap.cells self.new.heap.cells × IsOk result }
+        ensures media { self.new.media ≡ self.old.media }
         ensures fault { OnErr result
             (MeetsFault ⟦<HeapGround<D, M, F> as HasGround>⟧ self.old self.new) }
         ensures time { self.old.moment ≤ self.new.moment }
@@ -467,6 +470,7 @@ impl<D: Disk, M: Media, F: Notify + Drop> Backing for HeapGround<D, M, F> {
         ensures quiet { IsQuiet self.old.heap.cells self.new.heap.cells }
         ensures lines { is_reading call.now ≡ true
             → self.new.heap.cells.touched ≡ self.old.heap.cells.touched }
+        ensures asks { AsksMedia M.Media call.now self.old self.new }
         ensures memory { IsErrOf result Halt.Memory → self.new ≡ self.old }
         ensures stopped { IsErrOf result Halt.Memory ↔ (self.old.stopped ≡ true) }
         ensures fault { IsErrOf result Halt.Fault
@@ -487,6 +491,7 @@ impl<D: Disk, M: Media, F: Notify + Drop> Backing for HeapGround<D, M, F> {
         ensures brings { OnOk result (Brings StandsInMemory self.old self.new Commits) }
         ensures kept { OnOk result
             (Brings ⟦<HeapGround<D, M, F> as HasGround>⟧.stands self.old self.new Commits) }
+        ensures media { self.new.media ≡ self.old.media }
         ensures memory { IsErrOf result Halt.Memory → self.new ≡ self.old }
         ensures stopped { IsErrOf result Halt.Memory ↔ (self.old.stopped ≡ true) }
         ensures fault { IsErrOf result Halt.Fault

@@ -13,6 +13,8 @@
 //! machine, and a crash at any moment leaves the world before the transaction or, in its end, that or the new
 //! one. Opening takes exactly the heaps that stand for a world (`opened`, `why`). `Station` nests transactions.
 //! A call makes no call of the disk, and a reading call touches no line (`quiet`, `lines`).
+//! On every outcome a call asks media at most once for each extent that lies with them and of which it needs bytes, in the world for
+//! which the heap stands (`asks`); ends, cancels, exits and looks leave them (`media`).
 //! No byte outside the disk's regions changes (`inside`), and unless it failed a disk that wasn't opened may be
 //! handed in again (`again`).
 //! That the lock never asks to keep a transaction with a stopped call is not proved.

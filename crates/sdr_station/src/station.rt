@@ -9,7 +9,7 @@ ghost use Rattle.sdr_machine.specs.Nesting.{cancelled, closing, ended, unbegun};
 ghost use Rattle.sdr_model.specs.Reading.{is_reading};
 ghost use Rattle.sdr_log.specs.Calls.{KeepsDisk};
 ghost use Rattle.sdr_log.specs.Logged.{GivesSame};
-ghost use Rattle.sdr_station.specs.Giving.{Fills, GivesReply};
+ghost use Rattle.sdr_station.specs.Giving.{AsksMedia, Fills, GivesReply};
 ghost use Rattle.sdr_station.specs.Opening.{ExplainsOpen, IsOpen, LeavesBytes};
 ghost use Rattle.sdr_station.specs.Rooming.{MovesAtMost, TellsRoom};
 ghost use Rattle.sdr_station.specs.Stationed.{Begins, Closes, ClosesBy, HasRisen, IsTicketTold, LooksAt, SaysOr, StaysLooked};
@@ -187,12 +187,13 @@ impl<D: Disk, M: Media, F: Notify + Drop> Station<D, M, F> {
     ///
     /// In a doomed transaction it is refused `Doomed`, and after a disk fault it answers `Failed`. Else it is refused as its
     /// row has it, or for want of a block (`NoBlock`) or of log room (`LogFull`), which dooms where it is a change. A fault of
-    /// media, or too few bytes of them (`SourceShort`), dooms nothing.
-    /// It makes no call of the disk, and a reading call touches no line.
+    /// media, or too few bytes of them (`SourceShort`), dooms nothing. Media are asked at most once for each extent that
+    /// lies with them and of which the call needs bytes. It makes no call of the disk, and a reading call touches no line.
     pub fn call(&mut self, call: &Call, into: &mut [u8; PAGE]) -> Reply
         requires begun { 0 < self.old.nesting.depth }
         ensures says { SaysOr ⟦<HeapGround<D, M, F> as HasGround>⟧ call.now result
             self.old self.new }
+        ensures asks { AsksMedia M.Media call.now self.old.ground self.new.ground }
         ensures depth { self.new.nesting.depth ≡ self.old.nesting.depth }
         ensures fills { Fills self.new.ground result into.old into.new }
         ensures quiet { IsQuiet self.old.ground.heap.cells self.new.ground.heap.cells }
@@ -222,6 +223,7 @@ impl<D: Disk, M: Media, F: Notify + Drop> Station<D, M, F> {
         requires begun { 0 < self.old.nesting.depth }
         ensures says { SaysOr ⟦<HeapGround<D, M, F> as HasGround>⟧ call.now result
             self.old self.new }
+        ensures asks { AsksMedia M.Media call.now self.old.ground self.new.ground }
         ensures depth { self.new.nesting.depth ≡ self.old.nesting.depth }
         ensures gives { GivesReply result self.new.ground }
         ensures quiet { IsQuiet self.old.ground.heap.cells self.new.ground.heap.cells }

@@ -8,7 +8,7 @@ ghost use Rattle.sdr_model.specs.Fields.{FitsCall};
 ghost use Rattle.sdr_model.specs.World.{World};
 ghost use Rattle.step_calls.specs.Giving.{TellsInEach};
 ghost use Rattle.step_calls.specs.Serving.{IsGood, call_lines};
-ghost use Rattle.step_zco_parts.specs.Giving.{may_read};
+ghost use Rattle.step_zco_parts.specs.Giving.{AsksInEach, may_read};
 ghost use Rattle.zco_wire.specs.Stopping.{KeepsTold, past_media};
 
 use crate::answering;
@@ -41,6 +41,7 @@ pub fn answer<O: Objects, M: Media, F: Notify>(
         media.old media.new result }
     ensures media { KeepsTold M.Media media.old media.new }
     ensures unread { may_read call.now result ≡ false → media.new ≡ media.old }
+    ensures asks { AsksInEach M.Media call.now (O.heap o.old) media.old media.new }
 {
     if call.reads_media() {
         return step_zco_parts::wire_calls::answer(o, media, call, page);

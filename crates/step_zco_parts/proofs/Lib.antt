@@ -19,6 +19,7 @@ pub mod StripGoodLemmas
 pub mod StrippedFew
 pub mod WireKeptLemmas
 pub mod GivenCalls
+pub mod AskedLemmas
 pub mod WireGoodLemmas
 mod DelimitCalls
 pub mod PieceLemmas

@@ -17,6 +17,7 @@ use Rattle.sdr_machine.specs.Agreeing.{AgreesWith}
 use Rattle.sdr_machine.specs.Ground.{asks_media}
 use Rattle.sdr_machine.specs.Transaction.{bytes_given}
 use Rattle.sdr_model.specs.Limits.{longest_read}
+use Rattle.sdr_model.specs.Pieces.{pieces_asked}
 use Rattle.sdr_model.specs.Reading.{reads_media}
 use Rattle.sdr_model.specs.World.{World}
 use Rattle.sdr_model.specs.declared.answer.Answer.TheVariants as answers
@@ -26,6 +27,7 @@ use Rattle.sdr_model.specs.declared.call.Call.{Call}
 use Rattle.sdr_model.specs.declared.call.Call.TheVariants as calls
 use Rattle.sdr_model.specs.declared.event.Event.TheVariants as events
 use Rattle.sdr_model.specs.declared.piece.Piece.{Piece}
+use Rattle.zco_wire.specs.Asking.{AsksFor}
 use Rattle.zco_wire.specs.Naming.{IsWire, KeepsWire}
 use Rattle.zco_wire.specs.Reading.{asked_headers, asked_source, asked_trailers, asked_wire}
 
@@ -91,3 +93,7 @@ MissesMedia m w call old new result = ⊤
 -- so it is in each world
 pub record HasMediaCause {M : Type 0} (m : Ghosts M) (call : Call) (heap : Heap) (old new : M) (result : Result Reply Stop) : Type 0 where
   pub each : (w : World) → HeapStandsFor heap w → IsReady w → MissesMedia m w call old new result
+
+-- In each world media were asked at most once for each extent that lies with them and of which the call needs bytes.
+pub record AsksInEach {M : Type 0} (m : Ghosts M) (call : Call) (heap : Heap) (old new : M) : Type 0 where
+  pub each : (w : World) → HeapStandsFor heap w → IsReady w → AsksFor m (pieces_asked w call) old new

@@ -12,7 +12,8 @@
 //! for each block that goes and 32 for each ticket granted; `bond` within 8 and those of each header and trailer (`works`).
 //! `transmit` and the `receive_` calls are steps of the machine (`comes`). What they show agrees with what media tell
 //! (`agrees`). A fault or a short answer of media has its cause, and then heap and shown bytes stay (`cause`, `looks`,
-//! `shown`). Media stay where the call is refused for another reason (`unread`).
+//! `shown`). Media stay where the call is refused for another reason (`unread`), and on every outcome are asked at most once for each
+//! extent that lies with them and of which the call needs bytes (`asks`).
 //!
 //! Only tested: each call's answers (`tests/cases`).
 #![tactic(auto)]

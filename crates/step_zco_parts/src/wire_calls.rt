@@ -6,7 +6,8 @@ ghost use Rattle.sdr_base.specs.Works.{Looks};
 ghost use Rattle.sdr_model.specs.Limits.{longest_read};
 ghost use Rattle.sdr_model.specs.Pieces.{asked_addr, asked_count};
 ghost use Rattle.sdr_model.specs.Reading.{reads_media};
-ghost use Rattle.step_zco_parts.specs.Giving.{AgreesIn, CountStops, HasMediaCause, IsGood, ReadsCall, asked_by, may_read, place_of};
+ghost use Rattle.step_zco_parts.specs.Giving.{AgreesIn, AsksInEach, CountStops, HasMediaCause, IsGood, ReadsCall, asked_by, may_read, place_of};
+ghost use Rattle.zco_wire.specs.Asking.{AsksOnce};
 ghost use Rattle.zco_wire.specs.Naming.{IsWire};
 ghost use Rattle.zco_wire.specs.Stopping.{KeepsTold, ReadStops, past_media};
 
@@ -59,6 +60,8 @@ fn read<O: Objects, M: Media>(
         (asked_count call.now) (asked_by call.now) media.old media.new) }
     ensures same { length into.new ≡ length into.old }
     ensures media { KeepsTold M.Media media.old media.new }
+    ensures asks { AsksOnce M.Media (O.heap o.old).blocks (asked_addr call.now)
+        (asked_by call.now) media.old media.new }
     ensures looks { Looks O.HasHeap o.old o.new (past_media result) }
 {
     match call {
@@ -93,6 +96,7 @@ fn give<O: Objects, M: Media>(
     ensures shown { OnErr result (page.new ≡ page.old) }
     ensures media { KeepsTold M.Media media.old media.new }
     ensures unread { may_read call.now result ≡ false → media.new ≡ media.old }
+    ensures asks { AsksInEach M.Media call.now (O.heap o.old) media.old media.new }
     ensures looks { Looks O.HasHeap o.old o.new (past_media result) }
 {
     let mut at = reader;
@@ -116,8 +120,8 @@ fn refuse_count<O: Objects>(o: &mut O, object: Addr, count: u64) -> Result<Reply
     }))
 }
 
-/// Answers a call that reads an object's bytes, at most 4,096 of them. Media are asked for those that lie
-/// with them.
+/// Answers a call that reads an object's bytes, at most 4,096 of them. Media are asked at most once for each extent
+/// that lies with them and of which it needs bytes.
 ///
 /// It is refused `BadAddress` or `WrongKind` where its object isn't there, and `BadLength` where it asks more bytes;
 /// for these media aren't asked. It is refused `SourceShort` where media have fewer bytes of an extent than they are asked
@@ -138,6 +142,7 @@ pub fn answer<O: Objects, M: Media>(
     ensures shown { OnErr result (page.new ≡ page.old) }
     ensures media { KeepsTold M.Media media.old media.new }
     ensures unread { may_read call.now result ≡ false → media.new ≡ media.old }
+    ensures asks { AsksInEach M.Media call.now (O.heap o.old) media.old media.new }
     ensures looks { Looks O.HasHeap o.old o.new (past_media result) }
 {
     let (reader, count) = reader_of(call);

@@ -7,7 +7,8 @@ use Rattle.sdr_run.proofs.running.run_on.Given as goal
 abbrev pub invariant-loop-step : goal.invariant-loop-step
 invariant-loop-step g l = record {
   running : Running (media_change g.M.Media.told g.M.Media.faults g.M.Media.short l.fn.media l.media)
-      l.fn.script l.rest l.bindings (machine_of l.plain) (g.K.Sink.taken l.fn.out) (g.K.Sink.taken l.out);
+      l.fn.script l.rest l.bindings (machine_of l.plain) (g.K.Sink.taken l.fn.out) (g.K.Sink.taken l.out)
+      (g.M.Media.asks l.fn.media) (g.M.Media.asks l.media);
   later : g.K.Sink.faults l.fn.out ≤ g.K.Sink.faults l.out;
   daemons : length l.plain.roll.daemons ≡ length l.fn.plain.roll.daemons;
   few : l.plain.events + length l.rest ≤ 1_048_577;

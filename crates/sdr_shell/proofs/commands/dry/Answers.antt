@@ -7,6 +7,7 @@ use Rattle.sdr_shell.proofs.StillLemmas.{had_run, ran_reads, tells_refused, tell
 use Rattle.sdr_model.specs.declared.script.ScriptStep.{ScriptStep}
 use Rattle.sdr_core.specs.Caused.{media_change}
 use Rattle.sdr_run.specs.Schedule.{RunsWhole}
+use Rattle.sdr_shell.specs.Answers.{RanAsking, seen}
 use Rattle.sdr_shell.specs.Still.{WritesOut}
 use Rattle.sdr_shell.proofs.commands.dry.Goals as goal
 
@@ -40,3 +41,15 @@ returns-in-Ok-clause-starved g c is =
 pub returns-in-Err-clause-refused : goal.returns-in-Err-clause-refused
 returns-in-Err-clause-refused g c is =
     tells_refused c.in-Err.error _ _ _ _ _ _ c.tell.ensures.told is (bad_line_of _ _ _ c.in-Err.ensures.line)
+
+pub returns-in-Ok-clause-asks : goal.returns-in-Ok-clause-asks
+returns-in-Ok-clause-asks g c = inr (record {
+  script = c.in-Ok.script;
+  input = had_script _ _ _ c.in-Ok.ensures.script;
+  ran = subst (λ (steps : List ScriptStep). RanAsking (g.M.Media.told c.args.media.now) steps (g.M.Media.asks c.args.media.now)
+      (g.M.Media.asks c.run_script.new.media) (seen g.K.Sink.taken g.K.Sink.faults c.args.output.now)
+      (seen g.K.Sink.taken g.K.Sink.faults c.run_script.new.output)) c.as_slice.ensures c.run_script.ensures.asks;
+})
+
+pub returns-in-Err-clause-asks : goal.returns-in-Err-clause-asks
+returns-in-Err-clause-asks g c = inl refl

@@ -22,6 +22,7 @@ returns-in-Some-Dry g c =
     let answers : AnswersDry g.M.Media c.dry-status.result source source' c.args.media c.dry-status.new.media sink sink' = record {
       known = e.known;
       done = e.done;
+      asks = e.asks;
       unread = e.unread;
       input = e.input;
       input_text = e.input_text;

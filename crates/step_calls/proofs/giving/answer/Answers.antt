@@ -3,6 +3,7 @@ use Rattle.std.proofs.Common.{◌∙◌, sym}
 use Rattle.sdr_model.specs.World.{World}
 use Rattle.step_calls.proofs.GivingLemmas.{tells_unread}
 use Rattle.step_calls.specs.Serving.{call_lines}
+use Rattle.step_zco_parts.proofs.AskedLemmas.{unasked_in}
 use Rattle.step_calls.proofs.giving.answer.Goals as goal
 
 pub returns-clause-tells : goal.returns-clause-tells
@@ -12,3 +13,6 @@ returns-clause-tells g c =
     tells_unread g.M.Media g.O.HasHeap (λ (w : World). call_lines (heap c.args.o.now) w call) c.args.o.now c.answer-2.new.o call c.args.page.now
     c.answer-2.new.page c.args.media.now c.answer-2.result (sym c.reads_media.ensures ∙ c.if-reads_media.false) c.answer-2.ensures.comes
     c.answer-2.ensures.works
+
+pub returns-clause-asks : goal.returns-clause-asks
+returns-clause-asks g c = unasked_in g.M.Media c.args.call.now (g.O.HasHeap.heap c.args.o.now) c.args.media.now

@@ -4,6 +4,7 @@ use Rattle.step_things.proofs.CallLemmas.{comes_never}
 use Rattle.step_things.proofs.ListLemmas.{IsSmall}
 use Rattle.sdr_model.specs.Pieces.{asked_addr, asked_count}
 use Rattle.step_zco_parts.specs.Giving.{CountStops}
+use Rattle.step_zco_parts.proofs.AskedLemmas.{unasked_in}
 use Rattle.step_zco_parts.proofs.GivenCalls.{count_refused}
 use Rattle.step_zco_parts.proofs.wire_calls.answer.Goals as goal
 
@@ -24,3 +25,7 @@ returns-then-count-gt-LONGEST_READ-clause-comes g c =
     c.refuse_count.ensures.only stops
     (λ w refusal stands served m.
     count_refused old new w c.requires.unmoved stands served small c.refuse_count.ensures.looks.same call c.requires.reads c.args.page.now refusal m)
+
+pub returns-then-count-gt-LONGEST_READ-clause-asks : goal.returns-then-count-gt-LONGEST_READ-clause-asks
+returns-then-count-gt-LONGEST_READ-clause-asks g c =
+    unasked_in g.M.Media c.args.call.now (g.O.HasHeap.heap c.args.o.now) c.args.media.now

@@ -11,6 +11,7 @@ use Rattle.sdr_model.specs.declared.answer.Reply.TheVariants as replies
 use Rattle.sdr_model.specs.declared.event.Event.TheVariants as events
 use Rattle.step_zco.proofs.ObjectLemmas.{object_is_at}
 use Rattle.step_zco_parts.specs.Giving.{asked_by}
+use Rattle.step_zco_parts.proofs.AskedLemmas.{asked_in}
 use Rattle.step_zco_parts.proofs.GivenCalls.{gathered_of, given_agrees, given_answered, read_refused, read_unasked, refused_agrees, refused_misses}
 use Rattle.zco_wire.specs.Stopping.{ReadStops}
 use Rattle.step_zco_parts.proofs.wire_calls.give.Goals as goal
@@ -74,6 +75,18 @@ returns-in_err-given-clause-unread g c =
     c.in_err-given.ensures.stops in
     rw (p.1, p.2) unread
 
+pub returns-in_err-given-clause-asks : goal.returns-in_err-given-clause-asks
+returns-in_err-given-clause-asks g c =
+    let heap = g.O.HasHeap.heap c.args.o.now in
+    let small : IsSmall heap = record {
+      few = g.met.O.Objects.few c.args.o.now c.requires.kept;
+      small = g.met.O.Objects.small c.args.o.now c.requires.kept;
+    } in
+    record {
+      each = λ w stands served.
+          asked_in g.M.Media heap w stands served small c.args.call.now c.args.media.now c.read.new.media c.in_err-given.ensures.asks;
+    }
+
 pub returns-clause-comes : goal.returns-clause-comes
 returns-clause-comes g c =
     let old = g.O.HasHeap.heap c.args.o.now in
@@ -115,4 +128,16 @@ returns-clause-agrees g c =
           subst (λ (shown : List ℕ). AgreesWith told w (events.Say call) (answers.Reply (replies.Bytes given)) shown) (sym c.show.ensures)
           (given_agrees old new w c.requires.unmoved stands served small same call c.requires.reads at told bytes given
           (gathered_of old new w c.requires.unmoved stands served small same call c.requires.reads at told c.read.new.into given r));
+    }
+
+pub returns-clause-asks : goal.returns-clause-asks
+returns-clause-asks g c =
+    let heap = g.O.HasHeap.heap c.args.o.now in
+    let small : IsSmall heap = record {
+      few = g.met.O.Objects.few c.args.o.now c.requires.kept;
+      small = g.met.O.Objects.small c.args.o.now c.requires.kept;
+    } in
+    record {
+      each = λ w stands served.
+          asked_in g.M.Media heap w stands served small c.args.call.now c.args.media.now c.read.new.media c.in_ok-given.ensures.asks;
     }

@@ -28,7 +28,7 @@ returns-clause-some c =
     let makes = sym c.makes_calls.ensures ∙ c.if-not-makes_calls.false in
     subst (λ (p : Plain). IfOk c.pieces.result (λ asked. IfSome asked (Asks (machine_of p) c.args.daemon (events.Say call)))) c.self.view_is
     (IfOk-weaker c.pieces.result _ _ (λ asked h. IfSome_then asked h
-    (λ pieces has. asks_here lock.roll lock.base c.args.daemon call pieces (is_served_by lock.roll c.args.daemon makes) c.self.invariant.sound
+    (λ pieces has. asks_here lock.roll lock.base c.args.daemon call pieces (is_served_by lock.roll c.args.daemon makes) makes c.self.invariant.sound
     (subst (λ (w : Worlds). HasPieces w.now call pieces) c.base.ensures has))) c.pieces.ensures.some)
 
 pub returns-clause-none : goal.returns-clause-none

@@ -1,5 +1,5 @@
 -- A ticket is seen in the world before the transaction, once changes that were made in it are dropped.
-use Rattle.std.proofs.Common.{None, ap, arith, subst}
+use Rattle.std.proofs.Common.{None, ◌∙◌, ap, arith, subst}
 use Rattle.sdr_machine.specs.Serving.{Shows}
 use Rattle.sdr_station.proofs.ClosingLemmas.{brings_failed}
 use Rattle.sdr_station.proofs.InsideLemmas.{inside_quiet, inside_then}
@@ -65,3 +65,10 @@ returns-then-branch-clause-inside g c =
     inside_then g.D.Disk.bytes c.args.self.now c.roll_back_for_look.new.self c.see-then-branch.new.self
     c.roll_back_for_look.ensures.inside
     (inside_quiet g.D.Disk.bytes c.roll_back_for_look.new.self c.see-then-branch.new.self c.see-then-branch.ensures.quiet)
+
+pub returns-then-self-clause-media : goal.returns-then-self-clause-media
+returns-then-self-clause-media g c = ap (λ (o : Grounded g.row.D.Denot g.row.M.Denot). o.media) c.see.ensures.same
+
+pub returns-then-branch-clause-media : goal.returns-then-branch-clause-media
+returns-then-branch-clause-media g c =
+    ap (λ (o : Grounded g.row.D.Denot g.row.M.Denot). o.media) c.see-then-branch.ensures.same ∙ c.roll_back_for_look.ensures.media

@@ -50,7 +50,7 @@ returns-in-Ok g c =
     let came = came_answered b m f l n _ c.self.invariant going c.args.call.now c.in-Ok.ensures.fits
     c.clear_moves.new.self
     c.clear_moves.ensures.none c.answer.new.o c.answer.new.media c.in-Ok.ensures.media c.answer.new.page reply c.in-Ok.ensures.comes c.in-Ok.ensures.works
-    c.in-Ok.ensures.tells c.in-Ok.ensures.unread in
+    c.in-Ok.ensures.tells c.in-Ok.ensures.unread c.in-Ok.ensures.asks in
     let at : CameTo b m f l n c.args.call.now reply c.args.self.now new =
     subst (λ (o : Grounded D M). CameTo b m f l n c.args.call.now reply o new) c.self.view_is came in
     record {
@@ -64,6 +64,7 @@ returns-in-Ok g c =
       unread = at.unread;
       quiet = at.quiet;
       lines = lines_left _ c.args.self.now c.self.view_is c.clear_moves.new.self c.answer.new.o c.clear_moves.ensures.none c.args.call.now c.in-Ok.ensures.lines;
+      asks = at.asks;
       time = at.time;
       keeps = at.keeps;
       inside = inside_quiet b c.args.self.now new at.quiet;
@@ -94,7 +95,7 @@ returns-in-Err-Refused g c =
     let came = came_refused b m f l n _ c.self.invariant going c.args.call.now e.ensures.fits c.clear_moves.new.self
     c.clear_moves.ensures.none c.answer.new.o c.answer.new.media e.ensures.media c.answer.new.page e.refusal e.field-0 e.field-0-is c.forget_moves.new.heap
     c.forget_moves.ensures c.is_reading.result c.is_reading.ensures e.ensures.comes e.ensures.works
-    e.ensures.tells e.ensures.unread in
+    e.ensures.tells e.ensures.unread e.ensures.asks in
     let at : CameTo b m f l n c.args.call.now reply c.args.self.now new =
     subst (λ (o : Grounded D M). CameTo b m f l n c.args.call.now reply o new) c.self.view_is came in
     record {
@@ -109,6 +110,7 @@ returns-in-Err-Refused g c =
       quiet = at.quiet;
       lines = λ reads. ap (λ (h : Held (Opened D)). h.cells.touched) c.forget_moves.ensures
           ∙ lines_left _ c.args.self.now c.self.view_is c.clear_moves.new.self c.answer.new.o c.clear_moves.ensures.none c.args.call.now e.ensures.lines reads;
+      asks = at.asks;
       time = at.time;
       keeps = at.keeps;
       inside = inside_quiet b c.args.self.now new at.quiet;
@@ -136,7 +138,7 @@ returns-in-Err-MediaFault g c =
       restored = c.self.inside.restored;
     } in
     let came = came_missed b m f l n _ c.self.invariant going c.args.call.now e.ensures.fits c.clear_moves.new.self c.clear_moves.ensures.none c.answer.new.o
-    c.answer.new.media e.ensures.media c.answer.new.page e.field-0 e.field-0-is e.ensures.works e.ensures.tells e.ensures.unread in
+    c.answer.new.media e.ensures.media c.answer.new.page e.field-0 e.field-0-is e.ensures.works e.ensures.tells e.ensures.unread e.ensures.asks in
     let at : CameTo b m f l n c.args.call.now replies.MediaFault c.args.self.now new =
     subst (λ (o : Grounded D M). CameTo b m f l n c.args.call.now replies.MediaFault o new) c.self.view_is came in
     record {
@@ -150,6 +152,7 @@ returns-in-Err-MediaFault g c =
       unread = at.unread;
       quiet = at.quiet;
       lines = lines_left _ c.args.self.now c.self.view_is c.clear_moves.new.self c.answer.new.o c.clear_moves.ensures.none c.args.call.now e.ensures.lines;
+      asks = at.asks;
       time = at.time;
       keeps = at.keeps;
       inside = inside_quiet b c.args.self.now new at.quiet;
@@ -169,7 +172,7 @@ invariant_of-self g c =
     let came = came_answered b m f l n _ c.self.invariant going c.args.call.now c.in-Ok.ensures.fits
     c.clear_moves.new.self
     c.clear_moves.ensures.none c.answer.new.o c.answer.new.media c.in-Ok.ensures.media c.answer.new.page c.in-Ok.reply c.in-Ok.ensures.comes
-    c.in-Ok.ensures.works c.in-Ok.ensures.tells c.in-Ok.ensures.unread in
+    c.in-Ok.ensures.works c.in-Ok.ensures.tells c.in-Ok.ensures.unread c.in-Ok.ensures.asks in
     came.is_ground
 
 pub invariant_of-self-in-Err-Refused : goal.invariant_of-self-in-Err-Refused
@@ -186,7 +189,7 @@ invariant_of-self-in-Err-Refused g c =
     let came = came_refused b m f l n _ c.self.invariant going c.args.call.now e.ensures.fits c.clear_moves.new.self
     c.clear_moves.ensures.none c.answer.new.o c.answer.new.media e.ensures.media c.answer.new.page e.refusal e.field-0 e.field-0-is c.forget_moves.new.heap
     c.forget_moves.ensures c.is_reading.result c.is_reading.ensures e.ensures.comes e.ensures.works
-    e.ensures.tells e.ensures.unread in
+    e.ensures.tells e.ensures.unread e.ensures.asks in
     came.is_ground
 
 pub invariant_of-self-in-Err-MediaFault : goal.invariant_of-self-in-Err-MediaFault
@@ -195,5 +198,5 @@ invariant_of-self-in-Err-MediaFault g c =
     let e = c.in-Err-MediaFault in
     let came = came_missed g.D.Disk.bytes g.D.Disk.moment g.D.Disk.faults g.D.Disk.may_hold_after g.M.Media _ c.self.invariant going c.args.call.now
     e.ensures.fits c.clear_moves.new.self c.clear_moves.ensures.none c.answer.new.o c.answer.new.media e.ensures.media c.answer.new.page e.field-0 e.field-0-is
-    e.ensures.works e.ensures.tells e.ensures.unread in
+    e.ensures.works e.ensures.tells e.ensures.unread e.ensures.asks in
     came.is_ground

@@ -6,7 +6,9 @@ use Rattle.sdr_machine.specs.Crash.{LeavesBefore}
 use Rattle.sdr_machine.specs.declared.nesting.Nesting.{Nesting}
 use Rattle.sdr_model.specs.Reading.{is_reading}
 use Rattle.sdr_station.proofs.GroundLemmas.{heap_ground}
+use Rattle.sdr_station.proofs.MediaLemmas.{asks_none}
 use Rattle.sdr_station.proofs.StationLemmas.{noted_depth, undoomed_noted}
+use Rattle.sdr_station.specs.Giving.{AsksMedia}
 use Rattle.sdr_station.specs.Stationed.{SaysOr, Stationed}
 use Rattle.sdr_station.proofs.station.Station.reply.Goals as goal
 
@@ -78,3 +80,14 @@ pub returns-clause-lines : goal.returns-clause-lines
 returns-clause-lines g c =
     subst (λ (s : Stationed g.row.D.Denot g.row.M.Denot). is_reading c.args.call.now ≡ true
     → c.serve-reply.new.self.heap.cells.touched ≡ s.ground.heap.cells.touched) c.self.view_is c.serve-reply.ensures.lines
+
+pub returns-in-Some-clause-asks : goal.returns-in-Some-clause-asks
+returns-in-Some-clause-asks g c = asks_none g.M.Media c.args.call.now c.args.self.now.ground
+
+pub returns-in-Some-doom-clause-asks : goal.returns-in-Some-doom-clause-asks
+returns-in-Some-doom-clause-asks g c = asks_none g.M.Media c.args.call.now c.args.self.now.ground
+
+pub returns-clause-asks : goal.returns-clause-asks
+returns-clause-asks g c =
+    subst (λ (s : Stationed g.row.D.Denot g.row.M.Denot). AsksMedia g.M.Media c.args.call.now s.ground c.serve-reply.new.self) c.self.view_is
+    c.serve-reply.ensures.asks
