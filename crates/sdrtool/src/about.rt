@@ -26,24 +26,26 @@ puts it back after a power loss.
     sdrtool --version
 
 DISK    PATH      a file
-        PATH=N    a file that is made, or lengthened with zero bytes, to N bytes
+        PATH=N    a file that is made, or lengthened with zero bytes, to N bytes,
+                  but for inspect and dry
         -         an empty disk in memory
 
 A line has 64 bytes, and the head of a disk is one line more.
 
 Status    When                                           Last line printed
-0         all was done
+0         all was done: of a script, each line was
+          answered, with a refusal too
 1         the disk can't be opened                       sdrtool: cannot open, on
                                                          standard error
 2         the words are none of these forms              usage
 3         the input failed                               input fault
 4         the output failed
-5         the disk failed                                disk fault; none
-                                                         behind answers
+5         the disk failed                                disk fault, or behind
+                                                         answers no last line
 6         the disk has no heap                           not formatted
 7         the heap of the disk isn't taken               damaged PLACE WHY
 8         line N of the script is refused                line N
-9         want of memory                                 no memory
+9         out of memory                                  no memory
 10        the disk has HAVE bytes and NEED are needed    too small NEED HAVE
 
 Standard error says more: why a disk can't be opened, the forms where the words
