@@ -14,8 +14,9 @@ use Rattle.sdr_machine.specs.Transaction.{IsAnswered, Transacts, is_closing, ref
 use Rattle.sdr_machine.specs.declared.daemon.Daemon.{Daemon}
 use Rattle.sdr_machine.specs.declared.daemon.Holding.{Holding}
 use Rattle.sdr_machine.proofs.LockLemmas.{agrees_untold}
-use Rattle.law_runs.proofs.KeepLemmas.{Held, KeepsRoll}
-use Rattle.law_runs.proofs.RollLemmas.{among, contrary, found_put, least_found, number_same, other_put, same_number}
+use Rattle.sdr_machine.specs.Served.{Held}
+use Rattle.law_runs.proofs.KeepLemmas.{KeepsRoll}
+use Rattle.sdr_machine.proofs.RollLemmas.{among, contrary, found_put, least_found, number_same, other_put, same_number}
 use Rattle.law_runs.proofs.WorkLemmas.{AreApart, SoFar, Untouched, said_more, said_other, so_far_more}
 
 -- the daemons have said nothing, or have only begun, but this one
@@ -96,7 +97,7 @@ module _ (told : Option Told) (daemons : List ℕ) (journal : List Entry) (m : M
       → IsWorking told m works other y k → (other ≡ id) × (y ≡ d) × (k ≡ h)
   works_alone id d h other y k held served is =
       let number : k.number ≡ h.number = sym (same_number (served_number m.roll) k.number is.served) ∙ same_number (served_number m.roll) h.number served in
-      let at : other ≡ id = keeps.apart other id y d k h is.held held number in
+      let at : other ≡ id = keeps.held.apart other id y d k h is.held held number in
       let s : y ≡ d = same_daemon m.roll other id y d (number_same other id at) is.held.found held.found in
       let t : Some k ≡ Some h = sym is.held.holds ∙ ap (λ (z : Daemon). z.holds) s ∙ held.holds in
       (at, s, (let u : k ≡ h = cc in u))
@@ -142,7 +143,7 @@ module _ (told : Option Told) (daemons : List ℕ) (journal : List Entry) (m : M
       (record {
         held = record { found = other_put m.roll.daemons d id apart ∙ is.held.found; holds = is.held.holds };
         inside = is.inside;
-        served = ap (λ n. n == h.number) (least (least_found m.roll.daemons m.roll.drawn id y h keeps.within is.held.found is.held.holds).0) ∙ is.served;
+        served = ap (λ n. n == h.number) (least (least_found m.roll.daemons m.roll.drawn id y h keeps.held.within is.held.found is.held.holds).0) ∙ is.served;
         far = subst (λ said. SoFar told m.before h.number said (transaction_of h m.now)) (sym (same id apart)) is.far;
       })
       (λ other z away there. by other z away there (d.id == other) refl)

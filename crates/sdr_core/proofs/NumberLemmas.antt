@@ -13,7 +13,8 @@ use Rattle.sdr_machine.specs.Leaving.{holds_number}
 use Rattle.sdr_machine.specs.Machine.{Made, MachineStep}
 use Rattle.sdr_machine.specs.declared.daemon.Daemon.{Daemon}
 use Rattle.sdr_machine.specs.declared.daemon.Holding.{Holding}
-use Rattle.law_runs.proofs.RollLemmas.{HoldsWithin, IsWithin, among}
+use Rattle.sdr_machine.proofs.RollLemmas.{among}
+use Rattle.sdr_machine.specs.Served.{HoldsWithin, IsWithin}
 use Rattle.law_runs.proofs.RunLemmas.{run_keeps}
 use Rattle.sdr_core.proofs.CoreLemmas.{first_new}
 use Rattle.sdr_core.proofs.HoldingLemmas.{first_after}
@@ -157,10 +158,10 @@ module _ (told : Option Told) (daemons : List ℕ) (first : State) (made : List 
   run_apart =
       let keeps = run_keeps told daemons first made core runs in
       apart_from core.machine.roll.daemons
-      (λ id other d d' h h' is holds also held same. keeps.roll.apart id other d d' h h' (record { found = is; holds = holds }) (record { found = also; holds = held }) same)
+      (λ id other d d' h h' is holds also held same. keeps.roll.held.apart id other d d' h h' (record { found = is; holds = holds }) (record { found = also; holds = held }) same)
       [] core.machine.roll.daemons (run_first told made (first_core daemons first) core (first_new [] daemons) runs) (λ id out. refl)
 
   -- and the others that were drawn are done
   pub run_counted : numbers_done core.machine.roll + holders core.machine.roll.daemons ≡ core.machine.roll.drawn
   run_counted =
-      counted core.machine.roll.drawn core.machine.roll.daemons run_apart (run_keeps told daemons first made core runs).roll.within
+      counted core.machine.roll.drawn core.machine.roll.daemons run_apart (run_keeps told daemons first made core runs).roll.held.within

@@ -1,10 +1,11 @@
 -- The daemons of a roll, where one is put in its place.
 use Rattle.std.proofs.Common.{◌||◌, ◌≡◌, ◌≤◌, ◌<◌, ◌∙◌, ◌==◌, ◌+◌, ℕ, suc, List, [], ◌∷◌, Bool, true, false, not, Option, None, Some, arith, refl, sym, ap, subst, cond, map, min, nat_lt, length, find, true≢false}
 use Rattle.std.specs.List.{AllByRecursion, list_any, prefix_len}
-use Rattle.std.specs.Prelude.{if◌then◌else◌, slice_set, ⊤}
+use Rattle.std.specs.Prelude.{if◌then◌else◌, slice_set}
 use Rattle.std.specs.Option.{option_map_or}
 use Rattle.std.proofs.lemmas.Bool.Decides.{nat_tests}
 use Rattle.sdr_machine.specs.Roll.{least_held, lesser_of, newcomer, put_daemon}
+use Rattle.sdr_machine.specs.Served.{HoldsWithin, IsWithin}
 use Rattle.sdr_machine.specs.declared.daemon.Daemon.{Daemon}
 use Rattle.sdr_machine.specs.declared.daemon.Holding.{Holding}
 
@@ -124,14 +125,6 @@ numbers_put (y ∷ ds) d = by (y.id == d.id) refl (numbers_put ds d)
     by true e rest = ap (λ xs. map (λ (x : Daemon). x.id) xs) (put_here y ds d e) ∙ ap (λ n. n ∷ map (λ (x : Daemon). x.id) ds) (sym (same_number y.id d.id e))
     by false e rest = ap (λ xs. map (λ (x : Daemon). x.id) xs) (put_later y ds d e) ∙ ap (λ xs. y.id ∷ xs) rest
 
--- a number that is held is within 1 and the last that was drawn
-abbrev pub HoldsWithin : ℕ → Option Holding → Type 0
-HoldsWithin drawn None = ⊤
-HoldsWithin drawn (Some h) = (1 ≤ h.number) × (h.number ≤ drawn)
-
-abbrev pub IsWithin : ℕ → Daemon → Type 0
-IsWithin drawn d = HoldsWithin drawn d.holds
-
 -- the least of two numbers, of which one may be none
 lesser_least : (n most : ℕ) → (if n == 0 then most else min most n) ≤ most
 lesser_least n most = by (n == 0)
@@ -207,7 +200,7 @@ least_put (y ∷ ds) d x found same = by (y.id == d.id) refl found (least_put ds
     by false e found rest = ap least_held (put_later y ds d e) ∙ ap (lesser_of y.holds) (rest found same)
 
 -- the least of these numbers is one that may be held
-least_within : (ds : List Daemon) (drawn : ℕ) → AllByRecursion (IsWithin drawn) ds → least_held ds ≤ drawn
+pub least_within : (ds : List Daemon) (drawn : ℕ) → AllByRecursion (IsWithin drawn) ds → least_held ds ≤ drawn
 least_within [] drawn all = omega arith
 least_within (x ∷ ds) drawn all = by x.holds all.0 (least_within ds drawn all.1)
   where
