@@ -29,7 +29,7 @@ use Rattle.sdr_machine.specs.declared.nesting.Nesting.{Nesting}
 use Rattle.law_runs.specs.LastEntries.{AgreesWithLast}
 use Rattle.law_runs.proofs.CoreLemmas.{IsNext, KeepsWorks, StepKeeps, adds_none, adds_some, and_not, found_there, next_inside, next_outside, number_is, what_unclosed}
 use Rattle.law_runs.proofs.CurrentLemmas.{AllUntouched, Current, IsWorking, at_rest, current_drawn, current_looked, none_works, own_untouched, rests_put}
-use Rattle.sdr_machine.specs.Served.{Held}
+use Rattle.sdr_machine.specs.Served.{HoldsNumber}
 use Rattle.law_runs.proofs.KeepLemmas.{none_held}
 use Rattle.sdr_machine.proofs.RollLemmas.{contrary, found_put, least_stays}
 use Rattle.law_runs.proofs.TransactLemmas.{passes}
@@ -230,7 +230,7 @@ module _ {told : Option Told} {daemons : List ℕ} {first : State} {c : Core} {e
       (λ sound. done_works left waits drawn (idle sound) (p.keeps.works sound))
 
   module _ {h : Holding} (holds : d.holds ≡ Some h) where
-    pub mine : Held c.machine.roll d.id d h
+    pub mine : HoldsNumber c.machine.roll d.id d h
     mine = record { found = found_there p found; holds = holds }
 
     -- a look in its transaction is refused

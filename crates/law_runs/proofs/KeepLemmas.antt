@@ -9,7 +9,7 @@ use Rattle.sdr_model.specs.declared.journal.Entry.{Entry}
 use Rattle.sdr_machine.specs.Ground.{State}
 use Rattle.sdr_machine.specs.Legal.{EndsWithLeaves, Lead, MayFollow, is_fault, is_leave, last_entry}
 use Rattle.sdr_machine.specs.Roll.{Roll, daemon_of, least_held, put_daemon, served_number}
-use Rattle.sdr_machine.specs.Served.{Held, HoldsDrawn, HoldsWithin}
+use Rattle.sdr_machine.specs.Served.{HoldsNumber, HoldsDrawn, HoldsWithin}
 use Rattle.sdr_machine.specs.declared.daemon.Daemon.{Daemon}
 use Rattle.sdr_machine.specs.declared.daemon.Holding.{Holding}
 use Rattle.law_runs.specs.Rising.{NumbersRise}
@@ -24,7 +24,7 @@ pub record KeepsRoll (daemons : List ℕ) (journal : List Entry) (r : Roll) : Ty
   pub numbers : map (λ (d : Daemon). d.id) r.daemons ≡ daemons
   pub held : HoldsDrawn r
   pub last : last_number 0 journal ≤ r.drawn
-  pub above : (id : ℕ) (d : Daemon) (h : Holding) → Held r id d h → last_number 0 journal < h.number
+  pub above : (id : ℕ) (d : Daemon) (h : Holding) → HoldsNumber r id d h → last_number 0 journal < h.number
   pub agree : AgreesWithJournal journal r
 
 -- The journal leads to the state before the open transaction, its numbers rise, its entries are these daemons', and it ends with leaves
@@ -41,8 +41,8 @@ pub roll_moves : (daemons : List ℕ) (journal journal' : List Entry) (r : Roll)
     → KeepsRoll daemons journal r → daemon_of r d.id ≡ Some x
     → r.drawn ≤ drawn → HoldsWithin drawn d.holds → last_number 0 journal' ≤ drawn
     → ((h : Holding) → d.holds ≡ Some h → last_number 0 journal' < h.number)
-    → ((other : ℕ) (y : Daemon) (h : Holding) → (d.id == other) ≡ false → Held r other y h → last_number 0 journal' < h.number)
-    → ((other : ℕ) (y : Daemon) (h h' : Holding) → (d.id == other) ≡ false → d.holds ≡ Some h → Held r other y h' → h.number ≡ h'.number → ⊥)
+    → ((other : ℕ) (y : Daemon) (h : Holding) → (d.id == other) ≡ false → HoldsNumber r other y h → last_number 0 journal' < h.number)
+    → ((other : ℕ) (y : Daemon) (h h' : Holding) → (d.id == other) ≡ false → d.holds ≡ Some h → HoldsNumber r other y h' → h.number ≡ h'.number → ⊥)
     → AgreesWithLast (last_entry journal' d.id) d
     → ((other : ℕ) → (d.id == other) ≡ false → last_entry journal' other ≡ last_entry journal other)
     → KeepsRoll daemons journal' (record { daemons = put_daemon r.daemons d; drawn = drawn; failed = failed })
@@ -60,7 +60,7 @@ roll_moves daemons journal journal' r x d drawn failed keeps found more within l
 
 -- where a number is served, the others that are held are higher
 pub others_higher : (daemons : List ℕ) (journal : List Entry) (r : Roll) (id other : ℕ) (d d' : Daemon) (h h' : Holding) → KeepsRoll daemons journal r
-    → Held r id d h → (served_number r == h.number) ≡ true → (id == other) ≡ false → Held r other d' h' → h.number < h'.number
+    → HoldsNumber r id d h → (served_number r == h.number) ≡ true → (id == other) ≡ false → HoldsNumber r other d' h' → h.number < h'.number
 others_higher daemons journal r id other d d' h h' keeps mine served apart theirs =
     let least : least_held r.daemons ≤ h'.number = (least_found r.daemons r.drawn other d' h' keeps.held.within theirs.found theirs.holds).1 in
     let is : least_held r.daemons ≡ h.number = same_number (served_number r) h.number served in
@@ -72,7 +72,7 @@ others_higher daemons journal r id other d d' h h' keeps mine served apart their
 
 -- where no number is served, none is held
 pub none_held : {R : Type 0} (daemons : List ℕ) (journal : List Entry) (r : Roll) (id : ℕ) (d : Daemon) (h : Holding) → KeepsRoll daemons journal r
-    → (served_number r == 0) ≡ true → Held r id d h → R
+    → (served_number r == 0) ≡ true → HoldsNumber r id d h → R
 none_held daemons journal r id d h keeps none held =
     let least : 1 ≤ least_held r.daemons = (least_found r.daemons r.drawn id d h keeps.held.within held.found held.holds).0 in
     let is : least_held r.daemons ≡ 0 = same_number (served_number r) 0 none in

@@ -22,7 +22,7 @@ use Rattle.law_runs.specs.LastEntries.{AgreesWithJournal}
 use Rattle.law_runs.proofs.CoreLemmas.{KeepsCore}
 use Rattle.law_runs.proofs.CurrentLemmas.{Current}
 use Rattle.law_runs.proofs.JournalLemmas.{all_above, all_below, both_rise, last_done, last_done-more, moments_more, take_all}
-use Rattle.sdr_machine.specs.Served.{Held}
+use Rattle.sdr_machine.specs.Served.{HoldsNumber}
 use Rattle.sdr_machine.proofs.RollLemmas.{among, each_found, each_newcomer, numbers_of_newcomers}
 use Rattle.sdr_machine.proofs.ServedLemmas.{first_drawn, held_within}
 use Rattle.law_runs.proofs.StalledLemmas.{stalled_same}
@@ -115,7 +115,7 @@ pub run_held : (told : Option Told) (daemons : List ℕ) (first : State) (made :
     → (h.number ≤ core.machine.roll.drawn) × All (λ (x : Entry). x.number < h.number) core.log.journal
 run_held told daemons first made core runs id d h found holds =
     let keeps = run_keeps told daemons first made core runs in
-    let held : Held core.machine.roll id d h = record { found = found; holds = holds } in (
+    let held : HoldsNumber core.machine.roll id d h = record { found = found; holds = holds } in (
       (held_within keeps.roll.held held).1,
       all_above 0 h.number core.log.journal keeps.journal.rise (keeps.roll.above id d h held),
     )

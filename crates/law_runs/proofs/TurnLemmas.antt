@@ -12,7 +12,7 @@ use Rattle.law_runs.specs.LastEntries.{AgreesWithLast}
 use Rattle.law_runs.proofs.JournalLemmas.{last_entry-other, last_entry-own, last_number, last_number-more}
 use Rattle.sdr_machine.proofs.RollLemmas.{contrary, number_same}
 use Rattle.sdr_machine.proofs.ServedLemmas.{held_within}
-use Rattle.sdr_machine.specs.Served.{Held}
+use Rattle.sdr_machine.specs.Served.{HoldsNumber}
 use Rattle.law_runs.proofs.KeepLemmas.{KeepsRoll, none_held, others_higher, roll_moves}
 
 -- The number under which an event is made is above that of the last entry, and below all that others hold; so many are drawn
@@ -21,7 +21,7 @@ pub record IsTurn (journal : List Entry) (r : Roll) (d : Daemon) (drawn : ℕ) :
   pub more : r.drawn ≤ drawn
   pub most : number_of r d ≤ drawn
   pub higher : last_number 0 journal < number_of r d
-  pub others : (other : ℕ) (y : Daemon) (h : Holding) → (d.id == other) ≡ false → Held r other y h → number_of r d < h.number
+  pub others : (other : ℕ) (y : Daemon) (h : Holding) → (d.id == other) ≡ false → HoldsNumber r other y h → number_of r d < h.number
 
 module _ {daemons : List ℕ} {journal : List Entry} {r : Roll} (keeps : KeepsRoll daemons journal r) where
   module _ {d : Daemon} (found : daemon_of r d.id ≡ Some d) where
@@ -55,7 +55,7 @@ module _ {daemons : List ℕ} {journal : List Entry} {r : Roll} (keeps : KeepsRo
         (let a = keeps.agree d.id d found in record { left = a.left; waits = a.waits })
         (λ other apart. refl)
       where
-        mine : Held r d.id d h
+        mine : HoldsNumber r d.id d h
         mine = record { found = found; holds = holds }
 
         held_number : (k : Holding) → Some (record h { nesting = n }) ≡ Some k → h.number ≡ k.number
@@ -86,7 +86,7 @@ module _ {daemons : List ℕ} {journal : List Entry} {r : Roll} (keeps : KeepsRo
               subst (λ n. n < k.number) (sym is) (others_higher daemons journal r d.id other d y h k keeps mine served apart held);
         }
       where
-        mine : Held r d.id d h
+        mine : HoldsNumber r d.id d h
         mine = record { found = found; holds = holds }
 
     -- it is done with the number, and there is no entry

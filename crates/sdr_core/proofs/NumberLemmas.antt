@@ -14,7 +14,7 @@ use Rattle.sdr_machine.specs.Machine.{Made, MachineStep}
 use Rattle.sdr_machine.specs.declared.daemon.Daemon.{Daemon}
 use Rattle.sdr_machine.specs.declared.daemon.Holding.{Holding}
 use Rattle.sdr_machine.proofs.RollLemmas.{among}
-use Rattle.sdr_machine.specs.Served.{HoldsWithin, IsWithin}
+use Rattle.sdr_machine.specs.Served.{HoldsWithin, IsNumberDrawn}
 use Rattle.law_runs.proofs.RunLemmas.{run_keeps}
 use Rattle.sdr_core.proofs.CoreLemmas.{first_new}
 use Rattle.sdr_core.proofs.HoldingLemmas.{first_after}
@@ -69,7 +69,7 @@ count_one t u k one passes fails same (suc n) le = by (suc n == k) refl (λ belo
             ∙ sym (λ i. if is i then count_failing u n else count_failing u n + 1)
 
 -- The numbers that were drawn are those that are held, each once, and those that are done.
-counted : (drawn : ℕ) (ds : List Daemon) → HoldApart ds → AllByRecursion (IsWithin drawn) ds → count_failing (is_held ds) drawn + holders ds ≡ drawn
+counted : (drawn : ℕ) (ds : List Daemon) → HoldApart ds → AllByRecursion (IsNumberDrawn drawn) ds → count_failing (is_held ds) drawn + holders ds ≡ drawn
 counted drawn [] apart within = let all = count_none (is_held []) (λ m. refl) drawn in omega (arith, all)
 counted drawn (d ∷ ds) apart within = by d.holds refl within.0 (counted drawn ds apart.1 within.1)
   where

@@ -19,7 +19,7 @@ use Rattle.sdr_machine.specs.Closing.{close_of}
 use Rattle.sdr_machine.specs.Crash.{is_kept}
 use Rattle.sdr_machine.specs.Nesting.{cancelled, closing, comes_to, deepened, deepest, doomed_for, ended, nested, noted}
 use Rattle.sdr_machine.specs.Roll.{Roll, at_nesting, daemon_of, first_roll, newcomer, put_daemon, served_number, with_daemon, with_drawn, with_number}
-use Rattle.sdr_machine.specs.Served.{Fits, HasTurn, Held, HoldsDrawn, HoldsWithin, IsFree, IsLock, IsReady, IsWithin, StaysReady}
+use Rattle.sdr_machine.specs.Served.{FitsNesting, HoldsServed, HoldsNumber, HoldsDrawn, HoldsWithin, HoldsNone, KeepsGroundReady, IsGroundReady, IsNumberDrawn, StaysAsReady}
 use Rattle.sdr_machine.specs.Serving.{Locked, after_look, roll_settled}
 use Rattle.sdr_machine.specs.declared.daemon.Daemon.{Daemon}
 use Rattle.sdr_machine.specs.declared.daemon.Holding.{Holding}
@@ -54,18 +54,18 @@ wider : (drawn more : ℕ) → drawn ≤ more → (o : Option Holding) → Holds
 wider drawn more le None w = tt
 wider drawn more le (Some h) w = let m : h.number ≤ drawn = w.1 in (w.0, omega arith)
 
-pub held_within : {r : Roll} {id : ℕ} {d : Daemon} {h : Holding} → HoldsDrawn r → Held r id d h → (1 ≤ h.number) × (h.number ≤ r.drawn)
+pub held_within : {r : Roll} {id : ℕ} {d : Daemon} {h : Holding} → HoldsDrawn r → HoldsNumber r id d h → (1 ≤ h.number) × (h.number ≤ r.drawn)
 held_within {r = r} {id = id} {d = d} numbers held =
-    subst (HoldsWithin r.drawn) held.holds (each_found (IsWithin r.drawn) r.daemons id d held.found numbers.within)
+    subst (HoldsWithin r.drawn) held.holds (each_found (IsNumberDrawn r.drawn) r.daemons id d held.found numbers.within)
 
 -- where a daemon is put in its place, each number that is held was drawn, if its own was, and no other daemon holds that
 pub drawn_put : (r : Roll) (x d : Daemon) (drawn : ℕ) (failed : Option ℕ) → HoldsDrawn r → daemon_of r d.id ≡ Some x → r.drawn ≤ drawn → HoldsWithin drawn d.holds
-    → ((other : ℕ) (y : Daemon) (h h' : Holding) → (d.id == other) ≡ false → d.holds ≡ Some h → Held r other y h' → h.number ≡ h'.number → ⊥)
+    → ((other : ℕ) (y : Daemon) (h h' : Holding) → (d.id == other) ≡ false → d.holds ≡ Some h → HoldsNumber r other y h' → h.number ≡ h'.number → ⊥)
     → HoldsDrawn (record { daemons = put_daemon r.daemons d; drawn = drawn; failed = failed })
 drawn_put r x d drawn failed numbers found more within apart = record {
   within =
-      each_put (IsWithin drawn) r.daemons d
-      (each_also (IsWithin r.drawn) (IsWithin drawn) (λ y w. wider r.drawn drawn more y.holds w) r.daemons numbers.within) within;
+      each_put (IsNumberDrawn drawn) r.daemons d
+      (each_also (IsNumberDrawn r.drawn) (IsNumberDrawn drawn) (λ y w. wider r.drawn drawn more y.holds w) r.daemons numbers.within) within;
   apart = λ id other y z h h' one two same.
       by_daemon r.daemons d x found (λ n y. y.holds ≡ Some h → n ≡ other)
       (λ mine. by_daemon r.daemons d x found (λ n z. z.holds ≡ Some h' → d.id ≡ n) (λ _. refl)
@@ -79,17 +79,21 @@ drawn_put r x d drawn failed numbers found more within apart = record {
 -- a daemon that hasn't come holds nothing
 pub first_drawn : (ids : List ℕ) → HoldsDrawn (first_roll ids)
 first_drawn ids = record {
-  within = each_newcomer (IsWithin 0) (λ id. tt) ids;
+  within = each_newcomer (IsNumberDrawn 0) (λ id. tt) ids;
   apart = λ id other d d' h h' held also same.
       none_some
       (each_found (λ (x : Daemon). x.holds ≡ None) (map newcomer ids) id d held.found (each_newcomer (λ (x : Daemon). x.holds ≡ None) (λ id. refl) ids))
       held.holds;
 }
 
+-- what a daemon holds that draws the next number
+abbrev next_held : Roll → ℕ → Holding
+next_held r depth = record { number = r.drawn + 1; nesting = nested depth }
+
 -- it draws the next number
-drawn_next : (r : Roll) (d : Daemon) (depth : ℕ) → HoldsDrawn r → IsFree r d → HoldsDrawn (with_number r d depth)
+drawn_next : (r : Roll) (d : Daemon) (depth : ℕ) → HoldsDrawn r → HoldsNone r d → HoldsDrawn (with_number r d depth)
 drawn_next r d depth numbers free =
-    drawn_put r d (record d { holds = Some (record { number = r.drawn + 1; nesting = nested depth }) }) (r.drawn + 1) r.failed numbers free.found
+    drawn_put r d (record d { holds = Some (next_held r depth) }) (r.drawn + 1) r.failed numbers free.found
     (omega arith) (omega arith, omega arith)
     (λ other y h h' apart is held same.
     let number : r.drawn + 1 ≡ h.number = held_number _ h is in
@@ -97,7 +101,7 @@ drawn_next r d depth numbers free =
     omega arith)
 
 -- its transaction goes on
-drawn_nested : (r : Roll) (d : Daemon) (h : Holding) (n : Nesting) → HoldsDrawn r → Held r d.id d h → HoldsDrawn (with_daemon r (at_nesting d h n))
+drawn_nested : (r : Roll) (d : Daemon) (h : Holding) (n : Nesting) → HoldsDrawn r → HoldsNumber r d.id d h → HoldsDrawn (with_daemon r (at_nesting d h n))
 drawn_nested r d h n numbers held =
     drawn_put r d (at_nesting d h n) r.drawn r.failed numbers held.found (omega arith) (held_within numbers held)
     (λ other y k k' apart is its same.
@@ -106,7 +110,7 @@ drawn_nested r d h n numbers held =
 -- a number is drawn, and is done
 drawn_done : (r : Roll) → HoldsDrawn r → HoldsDrawn (with_drawn r)
 drawn_done r numbers = record {
-  within = each_also (IsWithin r.drawn) (IsWithin (r.drawn + 1)) (λ y w. wider r.drawn (r.drawn + 1) (omega arith) y.holds w) r.daemons numbers.within;
+  within = each_also (IsNumberDrawn r.drawn) (IsNumberDrawn (r.drawn + 1)) (λ y w. wider r.drawn (r.drawn + 1) (omega arith) y.holds w) r.daemons numbers.within;
   apart = λ id other d d' h h' one two same.
       numbers.apart id other d d' h h' (record { found = one.found; holds = one.holds }) (record { found = two.found; holds = two.holds }) same;
 }
@@ -165,28 +169,28 @@ settled_same r id = by (daemon_of r id) refl
 
 module _ {T : Type 0} (g : Ghosts T) where
   -- one level deeper, or doomed
-  pub fits_deepened : (n : Nesting) (t : T) → Fits g n t → Fits g (deepened n).after t
+  pub fits_deepened : (n : Nesting) (t : T) → FitsNesting g n t → FitsNesting g (deepened n).after t
   fits_deepened n t fits = by (nat_le deepest n.depth) refl
     where
       by : (b : Bool) → nat_le deepest n.depth ≡ b
-          → Fits g (if b then record { answer = answers.Reply (replies.Refused refusals.TooDeep); after = doomed_for (reasons.Refused 23) n } else comes_to n (n.depth + 1)).after t
+          → FitsNesting g (if b then record { answer = answers.Reply (replies.Refused refusals.TooDeep); after = doomed_for (reasons.Refused 23) n } else comes_to n (n.depth + 1)).after t
       by true deep = record { going = λ none. none_some none refl; idle = λ zero. fits.idle zero }
       by false above = record { going = fits.going; idle = λ zero. absurd (omega (arith, zero)) }
 
   -- one level less deep
-  pub fits_risen : (n : Nesting) (depth : ℕ) (t : T) → 1 ≤ depth → Fits g n t → Fits g (record n { depth = depth }) t
+  pub fits_risen : (n : Nesting) (depth : ℕ) (t : T) → 1 ≤ depth → FitsNesting g n t → FitsNesting g (record n { depth = depth }) t
   fits_risen n depth t some fits = record { going = fits.going; idle = λ zero. absurd (omega (arith, zero, some)) }
 
   -- cancelled
-  pub fits_cancelled : (n : Nesting) (t : T) → 1 < n.depth → Fits g (cancelled n).after t
+  pub fits_cancelled : (n : Nesting) (t : T) → 1 < n.depth → FitsNesting g (cancelled n).after t
   fits_cancelled n t deep = record { going = λ none. none_some none refl; idle = λ zero. absurd (omega (arith, zero, deep)) }
 
   -- a first begin, on an idle ground
-  pub fits_begun : (t : T) → g.idle t → Fits g (nested 1) t
+  pub fits_begun : (t : T) → g.idle t → FitsNesting g (nested 1) t
   fits_begun t idle = record { going = λ none. g.idle_going t idle; idle = λ zero. absurd (omega (arith, zero)) }
 
   -- an idle ground is ready for any roll
-  pub ready_idle : (r : Roll) (t : T) → HoldsDrawn r → g.idle t → IsReady g r t
+  pub ready_idle : (r : Roll) (t : T) → HoldsDrawn r → g.idle t → IsGroundReady g r t
   ready_idle r t numbers idle =
       let going : g.going t = g.idle_going t idle in
       record {
@@ -197,41 +201,35 @@ module _ {T : Type 0} (g : Ghosts T) where
       }
 
   -- a daemon draws a number
-  ready_drawn : (r : Roll) (d : Daemon) (depth : ℕ) (t : T) → IsReady g r t → IsFree r d → IsReady g (with_number r d depth) t
+  ready_drawn : (r : Roll) (d : Daemon) (depth : ℕ) (t : T) → IsGroundReady g r t → HoldsNone r d → IsGroundReady g (with_number r d depth) t
   ready_drawn r d depth t ready free = by (served_number r == 0) refl
     where
-      holding : Holding
-      holding = record { number = r.drawn + 1; nesting = nested depth }
-
-      own : Daemon
-      own = record d { holds = Some holding }
-
       numbers : HoldsDrawn (with_number r d depth)
       numbers = drawn_next r d depth ready.numbers free
 
       most : served_number r ≤ r.drawn
       most = least_within r.daemons r.drawn ready.numbers.within
 
-      by : (b : Bool) → (served_number r == 0) ≡ b → IsReady g (with_number r d depth) t
+      by : (b : Bool) → (served_number r == 0) ≡ b → IsGroundReady g (with_number r d depth) t
       by true none = ready_idle (with_number r d depth) t numbers (ready.free (same_number (served_number r) 0 none))
       by false some =
           let one : 1 ≤ served_number r = grind (arith, nat_tests) in
           let stays : served_number (with_number r d depth) ≡ served_number r =
-          least_stays r.daemons r.drawn own d holding ready.numbers.within free.found free.none refl (omega arith) one in
+          least_stays r.daemons r.drawn (record d { holds = Some (next_held r depth) }) d (next_held r depth) ready.numbers.within free.found free.none refl (omega arith) one in
           record {
             numbers = numbers;
             sound = ready.sound;
             served = λ id y h held served.
-                by_daemon r.daemons own d free.found (λ n z. z.holds ≡ Some h → Fits g h.nesting t)
-                (λ mine. let number : r.drawn + 1 ≡ h.number = held_number holding h mine in absurd (omega (arith, number, most, stays, served)))
+                by_daemon r.daemons (record d { holds = Some (next_held r depth) }) d free.found (λ n z. z.holds ≡ Some h → FitsNesting g h.nesting t)
+                (λ mine. let number : r.drawn + 1 ≡ h.number = held_number (next_held r depth) h mine in absurd (omega (arith, number, most, stays, served)))
                 (λ n z apart there holds. ready.served n z h (record { found = there; holds = holds }) (sym stays ∙ served))
                 id y held.found held.holds;
             free = λ zero. absurd (omega (arith, one, stays, zero));
           }
 
   -- the served transaction comes to a nesting that the ground fits
-  ready_nested : (r : Roll) (d : Daemon) (h : Holding) (n : Nesting) (t t' : T) → IsReady g r t → HasTurn r d h → g.sound t' → Fits g n t'
-      → IsReady g (with_daemon r (at_nesting d h n)) t'
+  ready_nested : (r : Roll) (d : Daemon) (h : Holding) (n : Nesting) (t t' : T) → IsGroundReady g r t → HoldsServed r d h → g.sound t' → FitsNesting g n t'
+      → IsGroundReady g (with_daemon r (at_nesting d h n)) t'
   ready_nested r d h n t t' ready turn sound fits =
       let stays : served_number (with_daemon r (at_nesting d h n)) ≡ served_number r =
       least_put r.daemons (at_nesting d h n) d turn.held.found (sym (ap number_held turn.held.holds)) in
@@ -240,8 +238,8 @@ module _ {T : Type 0} (g : Ghosts T) where
         numbers = drawn_nested r d h n ready.numbers turn.held;
         sound = sound;
         served = λ id y k held served.
-            by_daemon r.daemons (at_nesting d h n) d turn.held.found (λ m z. z.holds ≡ Some k → Fits g k.nesting t')
-            (λ mine. let same : record h { nesting = n } ≡ k = cc in subst (λ (x : Holding). Fits g x.nesting t') same fits)
+            by_daemon r.daemons (at_nesting d h n) d turn.held.found (λ m z. z.holds ≡ Some k → FitsNesting g k.nesting t')
+            (λ mine. let same : record h { nesting = n } ≡ k = cc in subst (λ (x : Holding). FitsNesting g x.nesting t') same fits)
             (λ m z apart there holds.
             contrary (number_same d.id m (ready.numbers.apart d.id m d z h k turn.held (record { found = there; holds = holds })
             (sym turn.served ∙ sym stays ∙ served))) apart)
@@ -250,15 +248,15 @@ module _ {T : Type 0} (g : Ghosts T) where
       }
 
   -- a lock before any event
-  pub lock_first : (ids : List ℕ) (t : T) → g.idle t → IsLock g (first_roll ids) t
+  pub lock_first : (ids : List ℕ) (t : T) → g.idle t → KeepsGroundReady g (first_roll ids) t
   lock_first ids t idle = λ sound. ready_idle (first_roll ids) t (first_drawn ids) idle
 
   -- where the disk has failed, nothing is asked
-  pub lock_failed : (r : Roll) (t : T) (moment : ℕ) → r.failed ≡ Some moment → IsLock g r t
+  pub lock_failed : (r : Roll) (t : T) (moment : ℕ) → r.failed ≡ Some moment → KeepsGroundReady g r t
   lock_failed r t moment failed = λ none. none_some none failed
 
   -- the ground shows other bytes
-  pub lock_shown : (r : Roll) (t t' : T) → IsLock g r t → StaysReady g t t' → IsLock g r t'
+  pub lock_shown : (r : Roll) (t t' : T) → KeepsGroundReady g r t → StaysAsReady g t t' → KeepsGroundReady g r t'
   lock_shown r t t' lock stays = λ none.
       let ready = lock none in
       record {
@@ -270,24 +268,24 @@ module _ {T : Type 0} (g : Ghosts T) where
         free = λ none. stays.idle (ready.free none);
       }
 
-  module _ (old self : Locked T) (view : old ≡ self) (lock : IsLock g old.roll old.base) where
+  module _ (old self : Locked T) (view : old ≡ self) (lock : KeepsGroundReady g old.roll old.base) where
     -- the ground fits the served transaction
-    pub turn_fits : (d : Daemon) (h : Holding) → self.roll.failed ≡ None → HasTurn self.roll d h → g.sound old.base × Fits g h.nesting old.base
+    pub turn_fits : (d : Daemon) (h : Holding) → self.roll.failed ≡ None → HoldsServed self.roll d h → g.sound old.base × FitsNesting g h.nesting old.base
     turn_fits d h none turn =
         let ready = lock (ap (λ (l : Locked T). l.roll.failed) view ∙ none) in
-        let mine = subst (λ (l : Locked T). HasTurn l.roll d h) (sym view) turn in
+        let mine = subst (λ (l : Locked T). HoldsServed l.roll d h) (sym view) turn in
         (ready.sound, ready.served d.id d h mine.held mine.served)
 
     -- a daemon draws a number
-    pub lock_drawn : (r : Roll) (d : Daemon) (depth : ℕ) → IsFree self.roll d → r ≡ with_number old.roll d depth → IsLock g r old.base
+    pub lock_drawn : (r : Roll) (d : Daemon) (depth : ℕ) → HoldsNone self.roll d → r ≡ with_number old.roll d depth → KeepsGroundReady g r old.base
     lock_drawn r d depth free is =
-        subst (λ (r : Roll). IsLock g r old.base) (sym is)
-        (λ none. ready_drawn old.roll d depth old.base (lock none) (subst (λ (l : Locked T). IsFree l.roll d) (sym view) free))
+        subst (λ (r : Roll). KeepsGroundReady g r old.base) (sym is)
+        (λ none. ready_drawn old.roll d depth old.base (lock none) (subst (λ (l : Locked T). HoldsNone l.roll d) (sym view) free))
 
     -- a number is drawn, and is done
-    pub lock_counted : (r : Roll) → r ≡ with_drawn old.roll → IsLock g r old.base
+    pub lock_counted : (r : Roll) → r ≡ with_drawn old.roll → KeepsGroundReady g r old.base
     lock_counted r is =
-        subst (λ (r : Roll). IsLock g r old.base) (sym is)
+        subst (λ (r : Roll). KeepsGroundReady g r old.base) (sym is)
         (λ none. let ready = lock none in record {
           numbers = drawn_done old.roll ready.numbers;
           sound = ready.sound;
@@ -296,20 +294,20 @@ module _ {T : Type 0} (g : Ghosts T) where
         })
 
     -- the served transaction comes to a nesting
-    pub lock_nested : (d : Daemon) (h : Holding) (n : Nesting) (r : Roll) (t : T) → HasTurn self.roll d h → r ≡ with_daemon old.roll (at_nesting d h n)
-        → (g.sound old.base × Fits g h.nesting old.base → g.sound t × Fits g n t) → IsLock g r t
-    lock_nested d h n r t turn is then =
-        subst (λ (r : Roll). IsLock g r t) (sym is)
+    pub lock_nested : (d : Daemon) (h : Holding) (n : Nesting) (r : Roll) (t : T) → HoldsServed self.roll d h → r ≡ with_daemon old.roll (at_nesting d h n)
+        → (g.sound old.base × FitsNesting g h.nesting old.base → g.sound t × FitsNesting g n t) → KeepsGroundReady g r t
+    lock_nested d h n r t turn is comes =
+        subst (λ (r : Roll). KeepsGroundReady g r t) (sym is)
         (λ none.
-        let mine = subst (λ (l : Locked T). HasTurn l.roll d h) (sym view) turn in
-        let fit = then (turn_fits d h (sym (ap (λ (l : Locked T). l.roll.failed) view) ∙ none) turn) in
+        let mine = subst (λ (l : Locked T). HoldsServed l.roll d h) (sym view) turn in
+        let fit = comes (turn_fits d h (sym (ap (λ (l : Locked T). l.roll.failed) view) ∙ none) turn) in
         ready_nested old.roll d h n old.base t (lock none) mine fit.0 fit.1)
 
     -- a daemon holds no number any more, and the ground is idle
     pub lock_done : (x d : Daemon) (r : Roll) (t : T) → daemon_of self.roll d.id ≡ Some x → d.holds ≡ None → r ≡ with_daemon old.roll d
-        → (self.roll.failed ≡ None → g.idle t) → IsLock g r t
+        → (self.roll.failed ≡ None → g.idle t) → KeepsGroundReady g r t
     lock_done x d r t found none is idle =
-        subst (λ (r : Roll). IsLock g r t) (sym is)
+        subst (λ (r : Roll). KeepsGroundReady g r t) (sym is)
         (λ sound.
         ready_idle (with_daemon old.roll d) t
         (drawn_put old.roll x d old.roll.drawn old.roll.failed (lock sound).numbers

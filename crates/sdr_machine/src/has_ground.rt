@@ -28,7 +28,8 @@ pub trait HasGround {
     /// Its disk hasn't failed.
     ghost sound: { Self → Type 0 };
 
-    /// No call of the open transaction was stopped on its way: another can be made, and it can be kept.
+    /// No call of the open transaction was stopped on its way: another can be made, and the transaction can
+    /// be kept.
     ghost going: { Self → Type 0 };
 
     /// No call was made since a transaction was last kept or put back: tickets can be looked at.

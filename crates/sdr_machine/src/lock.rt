@@ -4,7 +4,7 @@ ghost use Rattle.sdr_machine.specs.Crash.{commits_by, commits_in, commits_of, co
 ghost use Rattle.sdr_machine.specs.Ground.{State};
 ghost use Rattle.sdr_machine.specs.Machine.{MachineStep, StepsOf, Comes, ComesLooking, Holds, OnTurn, Performs, Enters, Looks, LooksHolding, BeginsUnder, Closes, FaultsWithin, ComesLeaving, Draws, IsSuspended, LeavesHolding, is_of_work, is_outside};
 ghost use Rattle.sdr_machine.specs.Roll.{MayDraw, when_done, at_nesting, daemon_of, first_roll, held_by, with_daemon, with_fault, with_number};
-ghost use Rattle.sdr_machine.specs.Served.{HasTurn, Held, IsFree};
+ghost use Rattle.sdr_machine.specs.Served.{HoldsServed, HoldsNumber, HoldsNone};
 ghost use Rattle.sdr_machine.specs.Serving.{Acts, is_served, roll_settled, takes_memory};
 ghost use Rattle.sdr_machine.specs.Transaction.{is_closing, transaction_of};
 
@@ -25,14 +25,14 @@ pub struct Lock<T: Backing> {
 }
 
 impl<T: Backing> Model for Lock<T> {
-    ghost use Rattle.sdr_machine.specs.Served.{IsLock};
+    ghost use Rattle.sdr_machine.specs.Served.{KeepsGroundReady};
     ghost use Rattle.sdr_machine.specs.Serving.{Locked};
 
     ghost Value = { Locked T };
 
     ghost view = { λ s. record { roll = s.roll; base = s.base } };
 
-    ghost invariant = { λ s. IsLock T.HasGround s.roll s.base };
+    ghost invariant = { λ s. KeepsGroundReady T.HasGround s.roll s.base };
 }
 
 // An answer for which no call was made.
@@ -80,8 +80,8 @@ impl<T: Backing> Lock<T> {
 
     // A call in a transaction that isn't doomed.
     fn ask(&mut self, daemon: Daemon, holding: Holding, call: &Call) -> Result<Came, NoMemory>
-        requires turn { HasTurn self.old.roll daemon holding }
-        requires begun { (holding.nesting.depth == 0) ≡ false }
+        requires turn { HoldsServed self.old.roll daemon holding }
+        requires begun { 0 < holding.nesting.depth }
         requires lasts { T.lasts self.old.base 1 }
         requires sound { self.old.roll.failed ≡ None }
         requires undoomed { holding.nesting.doom ≡ None }
@@ -107,8 +107,8 @@ impl<T: Backing> Lock<T> {
 
     // A call in a transaction.
     fn say(&mut self, daemon: Daemon, holding: Holding, call: &Call) -> Result<Came, NoMemory>
-        requires turn { HasTurn self.old.roll daemon holding }
-        requires begun { (holding.nesting.depth == 0) ≡ false }
+        requires turn { HoldsServed self.old.roll daemon holding }
+        requires begun { 0 < holding.nesting.depth }
         requires lasts { T.lasts self.old.base 1 }
         requires sound { self.old.roll.failed ≡ None }
         ensures serves { IfOk result (λ came. Acts T.HasGround
@@ -127,7 +127,7 @@ impl<T: Backing> Lock<T> {
 
     // Commits or rolls back the transaction, whose number is then done. Only a commit may find no memory.
     fn finish(&mut self, daemon: Daemon, holding: &Holding, event: &Event) -> Result<Came, NoMemory>
-        requires turn { HasTurn self.old.roll daemon holding.now }
+        requires turn { HoldsServed self.old.roll daemon holding.now }
         requires sound { self.old.roll.failed ≡ None }
         requires closing { (s : State) → is_closing (transaction_of holding.now s) event.now
             ≡ true }
@@ -151,7 +151,7 @@ impl<T: Backing> Lock<T> {
 
     // The first begin under a number that was drawn before.
     fn open(&mut self, daemon: Daemon, holding: Holding) -> Came
-        requires turn { HasTurn self.old.roll daemon holding }
+        requires turn { HoldsServed self.old.roll daemon holding }
         requires unbegun { holding.nesting.depth ≡ 0 }
         ensures { Acts T.HasGround false (λ m e m'.
             BeginsUnder m daemon holding e m') daemon.id Event.Begin result self.old self.new }
@@ -163,7 +163,7 @@ impl<T: Backing> Lock<T> {
 
     // A begin: the first one, or an inner one.
     fn begin(&mut self, daemon: Daemon, holding: Holding) -> Came
-        requires turn { HasTurn self.old.roll daemon holding }
+        requires turn { HoldsServed self.old.roll daemon holding }
         ensures { Acts T.HasGround false (λ m e m'.
             OnTurn m daemon holding Event.Begin e m') daemon.id Event.Begin result self.old
             self.new }
@@ -179,7 +179,7 @@ impl<T: Backing> Lock<T> {
 
     // An end: the outermost one, or an inner one.
     fn end(&mut self, daemon: Daemon, holding: Holding) -> Result<Came, NoMemory>
-        requires turn { HasTurn self.old.roll daemon holding }
+        requires turn { HoldsServed self.old.roll daemon holding }
         requires sound { self.old.roll.failed ≡ None }
         ensures closes { IfOk result (λ came. Acts T.HasGround (commits_in holding.nesting Event.End)
             (λ m e m'. OnTurn m daemon holding Event.End e m')
@@ -198,7 +198,7 @@ impl<T: Backing> Lock<T> {
 
     // An exit: the outermost one, or an inner one.
     fn exit(&mut self, daemon: Daemon, holding: Holding) -> Result<Came, NoMemory>
-        requires turn { HasTurn self.old.roll daemon holding }
+        requires turn { HoldsServed self.old.roll daemon holding }
         requires sound { self.old.roll.failed ≡ None }
         ensures closes { IfOk result (λ came. Acts T.HasGround false (λ m e m'.
             OnTurn m daemon holding Event.Exit e m')
@@ -217,7 +217,7 @@ impl<T: Backing> Lock<T> {
 
     // A cancel: the outermost one, or an inner one.
     fn cancel(&mut self, daemon: Daemon, holding: Holding) -> Result<Came, NoMemory>
-        requires turn { HasTurn self.old.roll daemon holding }
+        requires turn { HoldsServed self.old.roll daemon holding }
         requires sound { self.old.roll.failed ≡ None }
         ensures closes { IfOk result (λ came. Acts T.HasGround false (λ m e m'.
             OnTurn m daemon holding Event.Cancel e m')
@@ -236,7 +236,7 @@ impl<T: Backing> Lock<T> {
 
     // A daemon without a number draws the next one, at this depth.
     fn draw(&mut self, daemon: Daemon, depth: u64, event: &Event) -> Came
-        requires free { IsFree self.old.roll daemon }
+        requires free { HoldsNone self.old.roll daemon }
         requires drawn { self.old.roll.drawn < 2 ^ 60 }
         ensures { Acts T.HasGround false (λ m e m'.
             Draws m daemon e depth m') daemon.id event.now result self.old self.new }
@@ -247,7 +247,7 @@ impl<T: Backing> Lock<T> {
 
     // A daemon without a number draws one that can't be served yet.
     fn draw_suspended(&mut self, daemon: Daemon, event: &Event) -> Came
-        requires free { IsFree self.old.roll daemon }
+        requires free { HoldsNone self.old.roll daemon }
         requires drawn { self.old.roll.drawn < 2 ^ 60 }
         ensures { Acts T.HasGround false (λ m e m'.
             IsSuspended m e (m.roll.drawn + 1) (with_number m.roll daemon 0) m')
@@ -278,7 +278,7 @@ impl<T: Backing> Lock<T> {
 
     // A look of a daemon without a number: it draws one, which is done at once where it is served.
     fn comes_looking(&mut self, daemon: Daemon, ticket: u64, event: &Event) -> Came
-        requires free { IsFree self.old.roll daemon }
+        requires free { HoldsNone self.old.roll daemon }
         requires drawn { self.old.roll.drawn < 2 ^ 60 }
         requires sound { self.old.roll.failed ≡ None }
         requires look { event.now ≡ Event.Look ticket }
@@ -294,7 +294,7 @@ impl<T: Backing> Lock<T> {
 
     // A leave of a daemon without a number: it draws one, which is done at once where it is served.
     fn comes_leaving(&mut self, daemon: Daemon, event: &Event) -> Came
-        requires free { IsFree self.old.roll daemon }
+        requires free { HoldsNone self.old.roll daemon }
         requires drawn { self.old.roll.drawn < 2 ^ 60 }
         ensures { Acts T.HasGround false (λ m e m'.
             ComesLeaving m daemon e m') daemon.id event.now result self.old self.new }
@@ -309,7 +309,7 @@ impl<T: Backing> Lock<T> {
 
     // A look under a number that is held.
     fn looks_holding(&mut self, daemon: Daemon, holding: &Holding, ticket: u64) -> Came
-        requires held { Held self.old.roll daemon.id daemon holding.now }
+        requires held { HoldsNumber self.old.roll daemon.id daemon holding.now }
         requires sound { self.old.roll.failed ≡ None }
         ensures { Acts T.HasGround false (λ m e m'.
             LooksHolding m daemon holding.now ticket e m') daemon.id (Event.Look ticket)
@@ -328,7 +328,7 @@ impl<T: Backing> Lock<T> {
 
     // A leave under a number that is held.
     fn leave(&mut self, daemon: Daemon, holding: &Holding, event: &Event) -> Came
-        requires held { Held self.old.roll daemon.id daemon holding.now }
+        requires held { HoldsNumber self.old.roll daemon.id daemon holding.now }
         requires sound { self.old.roll.failed ≡ None }
         requires closing { (s : State) → is_closing (transaction_of holding.now s) event.now
             ≡ true }
@@ -364,7 +364,7 @@ impl<T: Backing> Lock<T> {
 
     // An event of a daemon without a number.
     fn come(&mut self, daemon: Daemon, event: &Event) -> Came
-        requires free { IsFree self.old.roll daemon }
+        requires free { HoldsNone self.old.roll daemon }
         requires drawn { self.old.roll.drawn < 2 ^ 60 }
         requires sound { self.old.roll.failed ≡ None }
         ensures { Acts T.HasGround false (λ m e m'.
@@ -381,7 +381,7 @@ impl<T: Backing> Lock<T> {
 
     // One event of a daemon that holds a number.
     fn hold(&mut self, daemon: Daemon, holding: Holding, event: &Event) -> Result<Came, NoMemory>
-        requires held { Held self.old.roll daemon.id daemon holding }
+        requires held { HoldsNumber self.old.roll daemon.id daemon holding }
         requires sound { self.old.roll.failed ≡ None }
         requires lasts { T.lasts self.old.base 1 }
         ensures holds { IfOk result (λ came. Acts T.HasGround
@@ -402,7 +402,7 @@ impl<T: Backing> Lock<T> {
 
     // One event of a transaction, or a first begin, under a number that is held.
     fn enter(&mut self, daemon: Daemon, holding: Holding, event: &Event) -> Result<Came, NoMemory>
-        requires held { Held self.old.roll daemon.id daemon holding }
+        requires held { HoldsNumber self.old.roll daemon.id daemon holding }
         requires sound { self.old.roll.failed ≡ None }
         requires lasts { T.lasts self.old.base 1 }
         requires within { is_of_work event.now ≡ true }
@@ -425,7 +425,7 @@ impl<T: Backing> Lock<T> {
 
     // One event of the served transaction, or its first begin.
     fn serve(&mut self, daemon: Daemon, holding: Holding, event: &Event) -> Result<Came, NoMemory>
-        requires turn { HasTurn self.old.roll daemon holding }
+        requires turn { HoldsServed self.old.roll daemon holding }
         requires inside { is_outside holding event.now ≡ false }
         requires sound { self.old.roll.failed ≡ None }
         requires lasts { T.lasts self.old.base 1 }

@@ -1,5 +1,5 @@
 // A ground whose media are asked outside.
-ghost use Rattle.sdr_machine.specs.Served.{StaysReady};
+ghost use Rattle.sdr_machine.specs.Served.{StaysAsReady};
 ghost use Rattle.sdr_machine.specs.Serving.{Brings, KeepsGround, ShowsBytes};
 ghost use Rattle.std.specs.Prelude.{true};
 
@@ -12,5 +12,5 @@ pub trait Shows: Backing {
     fn show(&mut self, given: Option<Bytes>)
         ensures shown { Brings Self.stands self.old self.new (ShowsBytes given) }
         ensures keeps { KeepsGround Self.HasGround true self.old self.new }
-        ensures stays { StaysReady Self.HasGround self.old self.new };
+        ensures stays { StaysAsReady Self.HasGround self.old self.new };
 }

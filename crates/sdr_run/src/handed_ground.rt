@@ -64,11 +64,11 @@ impl<D: Disk, M: Media, J: HandedIn> HasGround for HandedGround<D, M, J> {
 
     ghost lasts = { λ _ _. ⊤ };
 
-    ghost sound = { λ g. grounded.IsSound g };
+    ghost sound = { λ g. grounded.HasDiskSound g };
 
     ghost going = { λ g. grounded.IsGoing g };
 
-    ghost idle = { λ g. grounded.IsIdle g };
+    ghost idle = { λ g. grounded.HasNoCalls g };
 
     ghost left = { λ g m image.
         under.LeavesWhere J.condition D.bytes D.may_hold_after g.heap.cells.disk m image };

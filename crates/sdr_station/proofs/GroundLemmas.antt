@@ -10,7 +10,7 @@ use Rattle.sdr_machine.specs.Serving.{Brings, KeepsGround}
 use Rattle.sdr_machine.specs.Standing.{GroundState}
 use Rattle.sdr_machine.specs.declared.has_ground.HasGround.{Ghosts}
 use Rattle.sdr_station.specs.CrashNow.{crash_now}
-use Rattle.sdr_station.specs.Grounded.{Grounded, IsGoing, IsGround, IsIdle, IsSound, Leaves, OpensAs, StandsForBoth, StandsInMemory}
+use Rattle.sdr_station.specs.Grounded.{Grounded, IsGoing, IsGround, HasNoCalls, HasDiskSound, Leaves, OpensAs, StandsForBoth, StandsInMemory}
 
 -- how often media have failed, and have given fewer bytes than were asked for
 abbrev pub lapses_of : {M : Type 0} → MediaGhosts M → M → Lapses
@@ -26,9 +26,9 @@ heap_ground told moment faults may_hold_after media = record {
   lapses = λ g. lapses_of media g.media;
   told = λ g. media.told g.media;
   lasts = λ g _. ⊤;
-  sound = λ g. IsSound g;
+  sound = λ g. HasDiskSound g;
   going = λ g. IsGoing g;
-  idle = λ g. IsIdle g;
+  idle = λ g. HasNoCalls g;
   left = λ g m image. Leaves told may_hold_after g.heap.cells.disk m image;
   opens = λ image s. OpensAs image s;
   crash_now = λ g v image at left. crash_now told moment may_hold_after g v image at left;
@@ -90,7 +90,7 @@ keeps_later {M = M} told moment faults may_hold_after media old new unread later
     (subst (λ (files : M). LapsesLast (lapses_of media old.media) (lapses_of media files)) (sym unread) (lapses_same (lapses_of media old.media))) later
 
 -- where it was put back, no transaction is open on it
-pub restored_idle : {D M T E : Type 0} (r : Result T E) (old new : Grounded D M) → IsSound old → OnOk r (IsSound old → new.stopped ≡ false)
-    → OnOk r (IsSound old → new.idle ≡ true) → OnOk r (new.heap.cells.failed ≡ old.heap.cells.failed) → OnOk r (IsIdle new)
+pub restored_idle : {D M T E : Type 0} (r : Result T E) (old new : Grounded D M) → HasDiskSound old → OnOk r (HasDiskSound old → new.stopped ≡ false)
+    → OnOk r (HasDiskSound old → new.idle ≡ true) → OnOk r (new.heap.cells.failed ≡ old.heap.cells.failed) → OnOk r (HasNoCalls new)
 restored_idle (Ok x) old new sound going idle still = record { going = record { sound = still ∙ sound; going = going sound }; idle = idle sound }
 restored_idle (Err e) old new sound going idle still = tt

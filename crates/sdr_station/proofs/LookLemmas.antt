@@ -23,7 +23,7 @@ use Rattle.sdr_log.specs.Frame.{room_of}
 use Rattle.sdr_log.specs.declared.frame.Frame.{Frame}
 use Rattle.sdr_station.proofs.GroundLemmas.{heap_ground}
 use Rattle.sdr_station.proofs.ServingLemmas.{image_heap}
-use Rattle.sdr_station.specs.Grounded.{Grounded, HasStood, HoldsWorld, IsBefore, IsGround, Leaves, StandsAtRest, StandsForBoth, StandsInMemory, StandsWithin, heap_in, IsIdle}
+use Rattle.sdr_station.specs.Grounded.{Grounded, HasStood, HoldsWorld, IsBefore, IsGround, Leaves, StandsAtRest, StandsForBoth, StandsInMemory, StandsWithin, heap_in, HasNoCalls}
 use Rattle.step_zco.proofs.AccountGoodLemmas.{good_of}
 use Rattle.step_zco.specs.AccountAnswering.{IsGood, Sees}
 
@@ -136,7 +136,7 @@ looks_never faults old heap stops.MediaFault looks sound fault = fault
 looks_never faults old heap stops.Failed looks sound fault = true≢false (sym looks.cause.explained.0 ∙ sound)
 
 -- no transaction is open on it
-pub looked_idle : {D M : Type 0} (old new : Grounded D M) → new ≡ record old { heap = new.heap } → IsQuiet old.heap.cells new.heap.cells → IsIdle old → IsIdle new
+pub looked_idle : {D M : Type 0} (old new : Grounded D M) → new ≡ record old { heap = new.heap } → IsQuiet old.heap.cells new.heap.cells → HasNoCalls old → HasNoCalls new
 looked_idle {D} {M} old new same quiet idle = record {
   going = record { sound = quiet.failed ∙ idle.going.sound; going = ap (λ (g : Grounded D M). g.stopped) same ∙ idle.going.going };
   idle = ap (λ (g : Grounded D M). g.idle) same ∙ idle.idle;

@@ -31,16 +31,16 @@ pub record Grounded (D M : Type 0) : Type 0 where
   pub restored : ℕ
 
 -- its disk hasn't failed
-abbrev pub IsSound : {D M : Type 0} → Grounded D M → Type 0
-IsSound g = g.heap.cells.failed ≡ false
+abbrev pub HasDiskSound : {D M : Type 0} → Grounded D M → Type 0
+HasDiskSound g = g.heap.cells.failed ≡ false
 
 -- no call of the open transaction was stopped on its way
 pub record IsGoing {D M : Type 0} (g : Grounded D M) : Type 0 where
-  pub sound : IsSound g
+  pub sound : HasDiskSound g
   pub going : g.stopped ≡ false
 
 -- no call was made in it
-pub record IsIdle {D M : Type 0} (g : Grounded D M) : Type 0 where
+pub record HasNoCalls {D M : Type 0} (g : Grounded D M) : Type 0 where
   pub going : IsGoing g
   pub idle : g.idle ≡ true
 

@@ -13,7 +13,7 @@ ghost use Rattle.sdr_machine.specs.Standing.{GroundState};
 ghost use Rattle.sdr_log.specs.Calls.{KeepsDisk, KeepsRest};
 ghost use Rattle.sdr_log.specs.Logged.{GivesSame};
 ghost use Rattle.step_things.specs.Answering.{dooms};
-ghost use Rattle.sdr_station.specs.Grounded.{IsGoing, IsIdle, IsSound, StandsInMemory, StaysInside};
+ghost use Rattle.sdr_station.specs.Grounded.{IsGoing, HasNoCalls, HasDiskSound, StandsInMemory, StaysInside};
 ghost use Rattle.sdr_station.specs.Giving.{GivesReply, reads_by};
 ghost use Rattle.sdr_station.specs.Opening.{ExplainsOpen, IsOfAudit, IsOfImage, IsOpen, LeavesBytes, MayBeAgain, disk_of};
 ghost use Rattle.sdr_station.specs.Opening.{media_of};
@@ -98,11 +98,11 @@ impl<D: Disk, M: Media, F: Notify + Drop> HasGround for HeapGround<D, M, F> {
 
     ghost lasts = { λ _ _. ⊤ };
 
-    ghost sound = { λ g. grounded.IsSound g };
+    ghost sound = { λ g. grounded.HasDiskSound g };
 
     ghost going = { λ g. grounded.IsGoing g };
 
-    ghost idle = { λ g. grounded.IsIdle g };
+    ghost idle = { λ g. grounded.HasNoCalls g };
 
     ghost left = { λ g m image. grounded.Leaves D.bytes D.may_hold_after g.heap.cells.disk m image };
 
@@ -408,7 +408,7 @@ impl<D: Disk, M: Media, F: Notify + Drop> Backing for HeapGround<D, M, F> {
         ensures gap { IfOk result (λ reply. HasLapseCause (Answer.Reply reply)
             (⟦<HeapGround<D, M, F> as HasGround>⟧.lapses self.old)
             (⟦<HeapGround<D, M, F> as HasGround>⟧.lapses self.new)) }
-        ensures sound { OnOk result (IsSound self.new) }
+        ensures sound { OnOk result (HasDiskSound self.new) }
         ensures going { IfOk result (λ reply.
             GoesOnAfter ⟦<HeapGround<D, M, F> as HasGround>⟧ call.now reply self.new) }
         ensures dooms { IfOk result (λ reply. self.new.stopped ≡ dooms call.now reply) }
@@ -432,7 +432,7 @@ impl<D: Disk, M: Media, F: Notify + Drop> Backing for HeapGround<D, M, F> {
         ensures brings { OnOk result (Brings StandsInMemory self.old self.new Commits) }
         ensures kept { OnOk result
             (Brings ⟦<HeapGround<D, M, F> as HasGround>⟧.stands self.old self.new Commits) }
-        ensures idle { OnOk result (IsIdle self.new) }
+        ensures idle { OnOk result (HasNoCalls self.new) }
         ensures memory { IsErrOf result Halt.Memory → self.new ≡ self.old }
         ensures never { IsErrOf result Halt.Memory → ⊥ }
         ensures fault { IsErrOf result Halt.Fault

@@ -21,4 +21,4 @@ returns-in-Faulted-clause-left g c =
     subst (λ (k : Close). OnOk c.roll_back-in-Faulted.result (Brings g.T.HasGround.stands c.args.base.now c.roll_back-in-Faulted.new.base (Settles k))) (sym c.in-Faulted.is) c.roll_back-in-Faulted.ensures.put_back
 
 pub keep-requires : goal.keep-requires
-keep-requires g c = c.requires.going (ap is_kept c.in-Ended.is)
+keep-requires g c = record { going = c.requires.going (ap is_kept c.in-Ended.is) }

@@ -1,4 +1,4 @@
-use Rattle.std.proofs.Common.{◌≡◌, ◌∙◌, Err, ap, inl, inr, is_none, refl, sym, subst, true, arith, false, true≢false, ◌==◌}
+use Rattle.std.proofs.Common.{◌≡◌, ◌∙◌, Err, ap, inl, inr, is_none, refl, sym, subst, true, arith}
 use Rattle.sdr_model.specs.declared.answer.Answer.TheVariants as answers
 use Rattle.sdr_machine.specs.Machine.{roll_closed}
 use Rattle.sdr_machine.specs.Nesting.{noted}
@@ -8,8 +8,7 @@ use Rattle.sdr_machine.specs.declared.came.Came.{Came}
 use Rattle.sdr_machine.proofs.LockLemmas.{acts_asked, acts_failed}
 use Rattle.sdr_machine.proofs.WorkLemmas.{works_called}
 use Rattle.sdr_machine.proofs.ServedLemmas.{lock_failed, lock_nested, noted_depth, turn_fits}
-use Rattle.std.proofs.lemmas.Bool.Decides.{nat_tests}
-use Rattle.sdr_machine.specs.Served.{IsLock}
+use Rattle.sdr_machine.specs.Served.{KeepsGroundReady}
 use Rattle.sdr_machine.proofs.lock.Lock.ask.Goals as goal
 
 pub returns-in-Ok-clause-serves : goal.returns-in-Ok-clause-serves
@@ -64,15 +63,14 @@ invariant_of-self g c =
       record {
         going = c.in-Ok.ensures.going h.nesting;
         idle = λ zero.
-            let unbegun : (h.nesting.depth == 0) ≡ true = ap (λ n. n == 0) (sym (noted_depth c.args.call.now reply h.nesting) ∙ zero) in
-            absurd (true≢false (sym unbegun ∙ c.requires.begun));
+            let same = noted_depth c.args.call.now reply h.nesting in absurd (omega (arith, same, zero, c.requires.begun));
       },
     ))
 
 pub invariant_of-self-in-Err-Memory : goal.invariant_of-self-in-Err-Memory
 invariant_of-self-in-Err-Memory g c =
     let T = g.row.T.Denot in
-    subst (λ (t : T). IsLock g.T.HasGround c.self.inside.roll t) (sym (c.in-Err-Memory.ensures.memory (ap Err c.in-Err-Memory.field-0-is))) c.self.invariant
+    subst (λ (t : T). KeepsGroundReady g.T.HasGround c.self.inside.roll t) (sym (c.in-Err-Memory.ensures.memory (ap Err c.in-Err-Memory.field-0-is))) c.self.invariant
 
 pub invariant_of-self-in-Err-Fault : goal.invariant_of-self-in-Err-Fault
 invariant_of-self-in-Err-Fault g c =

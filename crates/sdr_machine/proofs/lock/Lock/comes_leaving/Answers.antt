@@ -7,7 +7,7 @@ use Rattle.sdr_machine.specs.Serving.{Locked}
 use Rattle.sdr_machine.proofs.LockLemmas.{acts_also, acts_told}
 use Rattle.sdr_machine.proofs.WorkLemmas.{on_false, on_true}
 use Rattle.sdr_machine.proofs.ServedLemmas.{lock_counted, lock_done}
-use Rattle.sdr_machine.specs.Served.{IsLock}
+use Rattle.sdr_machine.specs.Served.{KeepsGroundReady}
 use Rattle.sdr_machine.proofs.lock.Lock.comes_leaving.Goals as goal
 
 pub returns-then-serving-ne0 : goal.returns-then-serving-ne0

@@ -4,14 +4,14 @@ use Rattle.sdr_machine.specs.Crash.{LeavesOr, is_kept}
 use Rattle.sdr_machine.specs.Ground.{State, NoHeap, resting}
 use Rattle.sdr_model.specs.World.{empty_world}
 use Rattle.sdr_machine.specs.Machine.{roll_closed}
-use Rattle.sdr_machine.specs.Roll.{with_daemon, Roll}
+use Rattle.sdr_machine.specs.Roll.{when_done, with_daemon, Roll}
 use Rattle.sdr_machine.specs.Serving.{Locked, Settles}
 use Rattle.sdr_machine.specs.Transaction.{transaction_of}
 use Rattle.sdr_machine.proofs.GroundLemmas.{keeps_more}
 use Rattle.sdr_machine.proofs.LockLemmas.{acts_asked, acts_failed, agrees_untold, told}
 use Rattle.sdr_machine.proofs.WorkLemmas.{asks_closing, closes_so, keeps_closing}
 use Rattle.sdr_machine.proofs.ServedLemmas.{kept_undoomed, lock_done, lock_failed, turn_fits}
-use Rattle.sdr_machine.specs.Served.{IsLock}
+use Rattle.sdr_machine.specs.Served.{KeepsGroundReady}
 use Rattle.sdr_machine.proofs.lock.Lock.finish.Goals as goal
 
 -- some state, where any will do
@@ -81,7 +81,7 @@ invariant_of-self g c =
 pub invariant_of-self-in-Err-Memory : goal.invariant_of-self-in-Err-Memory
 invariant_of-self-in-Err-Memory g c =
     let T = g.row.T.Denot in
-    subst (λ (t : T). IsLock g.T.HasGround c.self.inside.roll t) (sym (c.in-Err-Memory.ensures.memory (ap Err c.in-Err-Memory.field-0-is))) c.self.invariant
+    subst (λ (t : T). KeepsGroundReady g.T.HasGround c.self.inside.roll t) (sym (c.in-Err-Memory.ensures.memory (ap Err c.in-Err-Memory.field-0-is))) c.self.invariant
 
 pub invariant_of-self-in-Err-Fault : goal.invariant_of-self-in-Err-Fault
 invariant_of-self-in-Err-Fault g c =

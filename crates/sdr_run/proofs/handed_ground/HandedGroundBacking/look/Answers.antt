@@ -6,7 +6,7 @@ use Rattle.sdr_run.proofs.HandedLemmas.{stays_more}
 use Rattle.sdr_run.proofs.SettledLemmas.{brings_where, ground_where, keeps_where, leaves_where}
 use Rattle.sdr_run.specs.Settled.{StandsWhere}
 use Rattle.sdr_station.proofs.LookLemmas.{looked_idle}
-use Rattle.sdr_station.specs.Grounded.{Grounded, IsIdle}
+use Rattle.sdr_station.specs.Grounded.{Grounded, HasNoCalls}
 use Rattle.sdr_run.proofs.handed_ground.HandedGroundBacking.look.Goals as goal
 
 pub returns-clause-shown : goal.returns-clause-shown
@@ -22,7 +22,7 @@ pub returns-clause-idle : goal.returns-clause-idle
 returns-clause-idle g c =
     let D = g.row.D.Denot in
     let M = g.row.M.Denot in
-    looked_idle c.self.inside.ground c.look.new.self c.look.ensures.same c.look.ensures.quiet (subst (λ (o : Grounded D M). IsIdle o) (sym c.self.view_is) c.requires.idle)
+    looked_idle c.self.inside.ground c.look.new.self c.look.ensures.same c.look.ensures.quiet (subst (λ (o : Grounded D M). HasNoCalls o) (sym c.self.view_is) c.requires.idle)
 
 pub returns-clause-keeps : goal.returns-clause-keeps
 returns-clause-keeps g c =

@@ -5,7 +5,7 @@ use Rattle.sdr_machine.specs.Standing.{GroundState}
 use Rattle.sdr_run.proofs.HandedLemmas.{stays_more}
 use Rattle.sdr_run.proofs.SettledLemmas.{brings_where, ground_where, keeps_where, leaves_where, meets_where, on_err_more, on_ok_both}
 use Rattle.sdr_run.specs.Settled.{StandsWhere}
-use Rattle.sdr_station.specs.Grounded.{Grounded, IsSound}
+use Rattle.sdr_station.specs.Grounded.{Grounded, HasDiskSound}
 use Rattle.sdr_station.proofs.GroundLemmas.{restored_idle}
 use Rattle.sdr_run.proofs.handed_ground.HandedGroundBacking.roll_back.Goals as goal
 
@@ -53,5 +53,5 @@ pub returns-clause-idle : goal.returns-clause-idle
 returns-clause-idle g c =
     let D = g.row.D.Denot in
     let M = g.row.M.Denot in
-    restored_idle c.restore.result c.self.inside.ground c.restore.new.self (subst (λ (o : Grounded D M). IsSound o) (sym c.self.view_is) c.requires.sound)
+    restored_idle c.restore.result c.self.inside.ground c.restore.new.self (subst (λ (o : Grounded D M). HasDiskSound o) (sym c.self.view_is) c.requires.sound)
     c.restore.ensures.going c.restore.ensures.idle c.restore.ensures.sound

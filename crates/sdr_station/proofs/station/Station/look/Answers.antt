@@ -13,7 +13,7 @@ none_of (Some x) is = absurd (true≢false is)
 pub look-requires : goal.look-requires
 look-requires g c =
     let none = none_of c.self.inside.failed (sym c.is_some.ensures ∙ c.if-is_some.false) in
-    c.self.invariant.outside none (ap (λ (s : Stationed g.row.D.Denot g.row.M.Denot). s.nesting.depth) c.self.view_is ∙ c.requires.outside)
+    record { idle = c.self.invariant.outside none (ap (λ (s : Stationed g.row.D.Denot g.row.M.Denot). s.nesting.depth) c.self.view_is ∙ c.requires.outside) }
 
 pub returns-clause-looks : goal.returns-clause-looks
 returns-clause-looks g c =
