@@ -1,10 +1,11 @@
 use Rattle.std.proofs.Common.{◌≡◌, ◌∙◌, ap, arith, sym, subst}
 use Rattle.sdr_machine.proofs.GroundLemmas.{leaves_same}
+use Rattle.sdr_machine.proofs.ServedLemmas.{noted_depth}
 use Rattle.sdr_machine.proofs.WorkLemmas.{on_none}
 use Rattle.sdr_machine.specs.Crash.{LeavesBefore}
 use Rattle.sdr_machine.specs.declared.nesting.Nesting.{Nesting}
 use Rattle.sdr_station.proofs.GroundLemmas.{heap_ground}
-use Rattle.sdr_station.proofs.StationLemmas.{noted_depth, undoomed_noted}
+use Rattle.sdr_station.proofs.StationLemmas.{undoomed_noted}
 use Rattle.sdr_station.specs.Stationed.{SaysOr, Stationed}
 use Rattle.sdr_station.proofs.station.Station.reply.Goals as goal
 
