@@ -29,8 +29,9 @@ use Rattle.sdr_machine.specs.declared.nesting.Nesting.{Nesting}
 use Rattle.law_runs.specs.LastEntries.{AgreesWithLast}
 use Rattle.law_runs.proofs.CoreLemmas.{IsNext, KeepsWorks, StepKeeps, adds_none, adds_some, and_not, found_there, next_inside, next_outside, number_is, what_unclosed}
 use Rattle.law_runs.proofs.CurrentLemmas.{AllUntouched, Current, IsWorking, at_rest, current_drawn, current_looked, none_works, own_untouched, rests_put}
-use Rattle.law_runs.proofs.KeepLemmas.{Held, none_held}
-use Rattle.law_runs.proofs.RollLemmas.{contrary, found_put, least_stays}
+use Rattle.sdr_machine.specs.Served.{HoldsNumber}
+use Rattle.law_runs.proofs.KeepLemmas.{none_held}
+use Rattle.sdr_machine.proofs.RollLemmas.{contrary, found_put, least_stays}
 use Rattle.law_runs.proofs.TransactLemmas.{passes}
 use Rattle.law_runs.proofs.TurnLemmas.{IsTurn, done_roll, drawn_roll, entry_roll, nested_roll}
 use Rattle.law_runs.proofs.WorkLemmas.{SoFar, Untouched, apart_said, said_more, said_other}
@@ -127,7 +128,7 @@ module _ {told : Option Told} {daemons : List ℕ} {first : State} {c : Core} {e
       (drawn_by c.machine.roll d depth) (c.machine.roll.drawn + 1) c.machine.roll.failed current
       (found_there p found) none
       (λ some. least_stays c.machine.roll.daemons c.machine.roll.drawn (drawn_by c.machine.roll d depth) d
-      (record { number = c.machine.roll.drawn + 1; nesting = nested depth }) p.keeps.roll.within (found_there p found) none refl (omega arith) some)
+      (record { number = c.machine.roll.drawn + 1; nesting = nested depth }) p.keeps.roll.held.within (found_there p found) none refl (omega arith) some)
       own same
 
   -- a daemon without a number has said nothing
@@ -229,7 +230,7 @@ module _ {told : Option Told} {daemons : List ℕ} {first : State} {c : Core} {e
       (λ sound. done_works left waits drawn (idle sound) (p.keeps.works sound))
 
   module _ {h : Holding} (holds : d.holds ≡ Some h) where
-    pub mine : Held c.machine.roll d.id d h
+    pub mine : HoldsNumber c.machine.roll d.id d h
     mine = record { found = found_there p found; holds = holds }
 
     -- a look in its transaction is refused

@@ -24,7 +24,7 @@ use Rattle.sdr_machine.specs.declared.daemon.Holding.{Holding}
 use Rattle.law_runs.proofs.CaseLemmas.{IsIdle, closing_whole, left_same, mine, said_nothing}
 use Rattle.law_runs.proofs.CoreLemmas.{IsNext, KeepsWorks, StepKeeps, adds_none, adds_some, found_there, next_closed, next_inside, number_is, what_closed, what_unclosed}
 use Rattle.law_runs.proofs.CurrentLemmas.{Current, OthersUntouched, at_rest, others_put, rests_put, served_far}
-use Rattle.law_runs.proofs.RollLemmas.{found_put, least_put, number_held}
+use Rattle.sdr_machine.proofs.RollLemmas.{found_put, least_put, number_held}
 use Rattle.law_runs.proofs.TransactLemmas.{IsWithin, StaysOpen, asking_inside, closing_inside, transacts_open, transacts_within}
 use Rattle.law_runs.proofs.TurnLemmas.{IsTurn, entry_roll, nested_roll, turn_mine}
 use Rattle.law_runs.proofs.WorkLemmas.{SoFar, apart_said, apart_without, runs_last, said_more, said_none, said_other, said_without, so_far_more}

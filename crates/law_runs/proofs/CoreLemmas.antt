@@ -22,7 +22,7 @@ use Rattle.law_runs.specs.Adding.{AddsRightly, FailsRightly, entry_added, entry_
 use Rattle.law_runs.proofs.CurrentLemmas.{Current}
 use Rattle.law_runs.proofs.JournalLemmas.{last_number}
 use Rattle.law_runs.proofs.KeepLemmas.{KeepsJournal, KeepsRoll, journal_more}
-use Rattle.law_runs.proofs.RollLemmas.{found_member, found_number, same_number}
+use Rattle.sdr_machine.proofs.RollLemmas.{found_member, found_number, same_number}
 use Rattle.law_runs.proofs.TransactLemmas.{passes}
 use Rattle.law_runs.proofs.WorkLemmas.{AreApart}
 

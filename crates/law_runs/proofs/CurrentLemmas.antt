@@ -14,8 +14,9 @@ use Rattle.sdr_machine.specs.Transaction.{IsAnswered, Transacts, is_closing, ref
 use Rattle.sdr_machine.specs.declared.daemon.Daemon.{Daemon}
 use Rattle.sdr_machine.specs.declared.daemon.Holding.{Holding}
 use Rattle.sdr_machine.proofs.LockLemmas.{agrees_untold}
-use Rattle.law_runs.proofs.KeepLemmas.{Held, KeepsRoll}
-use Rattle.law_runs.proofs.RollLemmas.{among, contrary, found_put, least_found, number_same, other_put, same_number}
+use Rattle.sdr_machine.specs.Served.{HoldsNumber}
+use Rattle.law_runs.proofs.KeepLemmas.{KeepsRoll}
+use Rattle.sdr_machine.proofs.RollLemmas.{among, contrary, found_put, least_found, number_same, other_put, same_number}
 use Rattle.law_runs.proofs.WorkLemmas.{AreApart, SoFar, Untouched, said_more, said_other, so_far_more}
 
 -- the daemons have said nothing, or have only begun, but this one
@@ -29,7 +30,7 @@ AllUntouched told r works = (id : ℕ) (d : Daemon) → daemon_of r id ≡ Some 
 
 -- the daemon is in a transaction, its number is served, and what it has said leads to the state
 pub record IsWorking (told : Option Told) (m : Machine) (works : List Work) (id : ℕ) (d : Daemon) (h : Holding) : Type 0 where
-  pub held : Held m.roll id d h
+  pub held : HoldsNumber m.roll id d h
   pub inside : (h.nesting.depth == 0) ≡ false
   pub served : (served_number m.roll == h.number) ≡ true
   pub far : SoFar told m.before h.number (said_by works id) (transaction_of h m.now)
@@ -92,17 +93,17 @@ rests_put told r works works' x d drawn failed before now still found others own
 
 module _ (told : Option Told) (daemons : List ℕ) (journal : List Entry) (m : Machine) (works : List Work) (keeps : KeepsRoll daemons journal m.roll) where
   -- the one whose number is served is the one that works
-  pub works_alone : (id : ℕ) (d : Daemon) (h : Holding) (other : ℕ) (y : Daemon) (k : Holding) → Held m.roll id d h → (served_number m.roll == h.number) ≡ true
+  pub works_alone : (id : ℕ) (d : Daemon) (h : Holding) (other : ℕ) (y : Daemon) (k : Holding) → HoldsNumber m.roll id d h → (served_number m.roll == h.number) ≡ true
       → IsWorking told m works other y k → (other ≡ id) × (y ≡ d) × (k ≡ h)
   works_alone id d h other y k held served is =
       let number : k.number ≡ h.number = sym (same_number (served_number m.roll) k.number is.served) ∙ same_number (served_number m.roll) h.number served in
-      let at : other ≡ id = keeps.apart other id y d k h is.held held number in
+      let at : other ≡ id = keeps.held.apart other id y d k h is.held held number in
       let s : y ≡ d = same_daemon m.roll other id y d (number_same other id at) is.held.found held.found in
       let t : Some k ≡ Some h = sym is.held.holds ∙ ap (λ (z : Daemon). z.holds) s ∙ held.holds in
       (at, s, (let u : k ≡ h = cc in u))
 
   -- what the one has said leads to the state, and the others have only begun
-  pub served_far : (id : ℕ) (d : Daemon) (h : Holding) → Current told m works → Held m.roll id d h → (h.nesting.depth == 0) ≡ false
+  pub served_far : (id : ℕ) (d : Daemon) (h : Holding) → Current told m works → HoldsNumber m.roll id d h → (h.nesting.depth == 0) ≡ false
       → (served_number m.roll == h.number) ≡ true
       → SoFar told m.before h.number (said_by works id) (transaction_of h m.now) × OthersUntouched told m.roll works id
   served_far id d h (Current.rests still all) held inside served = (
@@ -123,7 +124,7 @@ module _ (told : Option Told) (daemons : List ℕ) (journal : List Entry) (m : M
       )
 
   -- nobody works where the one that is served is in no transaction
-  pub none_works : (id : ℕ) (d : Daemon) (h : Holding) → Held m.roll id d h → (served_number m.roll == h.number) ≡ true → (h.nesting.depth == 0) ≡ true
+  pub none_works : (id : ℕ) (d : Daemon) (h : Holding) → HoldsNumber m.roll id d h → (served_number m.roll == h.number) ≡ true → (h.nesting.depth == 0) ≡ true
       → (other : ℕ) (y : Daemon) (k : Holding) → IsWorking told m works other y k → ⊥
   none_works id d h held served outside other y k is =
       let same = works_alone id d h other y k held served is in
@@ -142,7 +143,7 @@ module _ (told : Option Told) (daemons : List ℕ) (journal : List Entry) (m : M
       (record {
         held = record { found = other_put m.roll.daemons d id apart ∙ is.held.found; holds = is.held.holds };
         inside = is.inside;
-        served = ap (λ n. n == h.number) (least (least_found m.roll.daemons m.roll.drawn id y h keeps.within is.held.found is.held.holds).0) ∙ is.served;
+        served = ap (λ n. n == h.number) (least (least_found m.roll.daemons m.roll.drawn id y h keeps.held.within is.held.found is.held.holds).0) ∙ is.served;
         far = subst (λ said. SoFar told m.before h.number said (transaction_of h m.now)) (sym (same id apart)) is.far;
       })
       (λ other z away there. by other z away there (d.id == other) refl)
@@ -168,7 +169,7 @@ module _ (told : Option Told) (daemons : List ℕ) (journal : List Entry) (m : M
           subst (λ said. Untouched told said z.holds) (sym (same other e)) (others other z away (sym (other_put m.roll.daemons d other e) ∙ there))
 
   -- a look in a transaction is refused
-  pub current_looked : (id : ℕ) (d : Daemon) (h : Holding) (said : Said) (ticket : ℕ) → AreApart works → Current told m works → Held m.roll id d h
+  pub current_looked : (id : ℕ) (d : Daemon) (h : Holding) (said : Said) (ticket : ℕ) → AreApart works → Current told m works → HoldsNumber m.roll id d h
       → (h.nesting.depth == 0) ≡ false → said.event ≡ events.Look ticket → IsAnswered said (refused (refusals.InTransaction h.number))
       → Current told m (with_said works id said)
   current_looked id d h said ticket apart current held inside event answer = by current

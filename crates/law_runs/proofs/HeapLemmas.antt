@@ -27,7 +27,7 @@ use Rattle.sdr_model.specs.declared.call.Call.{Call}
 use Rattle.law_runs.specs.Choosing.{is_chance}
 use Rattle.law_runs.proofs.OutcomeLemmas.{Answered, StopKind, bare_same, either_first, either_second, media_row, replies_same, rows_shown, stop_kind, whole_chance}
 use Rattle.law_runs.proofs.PlanLemmas.{fits_same, lacks_alike, lacks_never, plan_of, row_plan}
-use Rattle.law_runs.proofs.RollLemmas.{contrary}
+use Rattle.sdr_machine.proofs.RollLemmas.{contrary}
 
 -- the addresses of the blocks that moves take
 abbrev at_of : List Move → ℕ → ℕ

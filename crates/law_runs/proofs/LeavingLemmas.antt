@@ -19,7 +19,7 @@ use Rattle.sdr_machine.specs.declared.daemon.Holding.{Holding}
 use Rattle.sdr_machine.proofs.StepLemmas.{from_option, from_test}
 use Rattle.law_runs.specs.LastEntries.{is_by_leave}
 use Rattle.law_runs.proofs.CoreLemmas.{KeepsCore}
-use Rattle.law_runs.proofs.RollLemmas.{among, contrary, each_also, each_found, each_put, found_number, found_put, number_same, other_put, same_number}
+use Rattle.sdr_machine.proofs.RollLemmas.{among, contrary, each_also, each_found, each_put, found_number, found_put, number_same, other_put, same_number}
 use Rattle.law_runs.proofs.RunLemmas.{core_step_keeps, run_keeps}
 use Rattle.law_runs.proofs.StalledLemmas.{IsFound, each_found_itself}
 

@@ -14,7 +14,6 @@ pub mod KeepLemmas
 pub mod LeavingLemmas
 pub mod OutcomeLemmas
 pub mod PlanLemmas
-pub mod RollLemmas
 pub mod RowLemmas
 pub mod RowReplies
 pub mod RunLemmas

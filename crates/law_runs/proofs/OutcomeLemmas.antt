@@ -30,7 +30,7 @@ use Rattle.sdr_model.specs.declared.call.Call.TheVariants as calls
 use Rattle.sdr_model.specs.declared.event.Event.TheVariants as events
 use Rattle.sdr_model.specs.declared.zco.ZcoObject.{ZcoObject}
 use Rattle.law_runs.specs.Choosing.{is_chance}
-use Rattle.law_runs.proofs.RollLemmas.{contrary}
+use Rattle.sdr_machine.proofs.RollLemmas.{contrary}
 
 -- a call that reads media is refused, or gives bytes
 pub data MediaRow (w : World) (o : Outcome) : Type 0 where

@@ -22,11 +22,11 @@ use Rattle.law_runs.specs.LastEntries.{AgreesWithJournal}
 use Rattle.law_runs.proofs.CoreLemmas.{KeepsCore}
 use Rattle.law_runs.proofs.CurrentLemmas.{Current}
 use Rattle.law_runs.proofs.JournalLemmas.{all_above, all_below, both_rise, last_done, last_done-more, moments_more, take_all}
-use Rattle.law_runs.proofs.KeepLemmas.{Held}
-use Rattle.law_runs.proofs.RollLemmas.{IsWithin, among, each_found, each_newcomer, numbers_of_newcomers}
+use Rattle.sdr_machine.specs.Served.{HoldsNumber}
+use Rattle.sdr_machine.proofs.RollLemmas.{among, each_found, each_newcomer, numbers_of_newcomers}
+use Rattle.sdr_machine.proofs.ServedLemmas.{first_drawn, held_within}
 use Rattle.law_runs.proofs.StalledLemmas.{stalled_same}
 use Rattle.law_runs.proofs.StepLemmas.{step_keeps}
-use Rattle.law_runs.proofs.TurnLemmas.{held_within}
 use Rattle.law_runs.proofs.WorkLemmas.{Untouched}
 
 -- a daemon that hasn't come holds nothing, and agrees with a journal that has no entry of it
@@ -39,10 +39,9 @@ first_keeps : (told : Option Told) (daemons : List ℕ) (first : State) → Keep
 first_keeps told daemons first = record {
   roll = record {
     numbers = numbers_of_newcomers daemons;
-    within = each_newcomer (IsWithin 0) (λ id. tt) daemons;
+    held = first_drawn daemons;
     last = omega arith;
     above = λ id d h held. absurd (holds_nothing id d h held.found held.holds);
-    apart = λ id other d d' h h' held also same. absurd (holds_nothing id d h held.found held.holds);
     agree = λ id d found. let f = first_daemon daemons id d found in record { left = f.1; waits = f.2 };
   };
   journal = record { leads = refl; rise = tt; members = All-nil (λ (e : Entry). list_any (λ n. n == e.daemon) daemons ≡ true); ends = tt; sound = λ none. tt };
@@ -116,8 +115,8 @@ pub run_held : (told : Option Told) (daemons : List ℕ) (first : State) (made :
     → (h.number ≤ core.machine.roll.drawn) × All (λ (x : Entry). x.number < h.number) core.log.journal
 run_held told daemons first made core runs id d h found holds =
     let keeps = run_keeps told daemons first made core runs in
-    let held : Held core.machine.roll id d h = record { found = found; holds = holds } in (
-      (held_within keeps.roll held).1,
+    let held : HoldsNumber core.machine.roll id d h = record { found = found; holds = holds } in (
+      (held_within keeps.roll.held held).1,
       all_above 0 h.number core.log.journal keeps.journal.rise (keeps.roll.above id d h held),
     )
 

@@ -14,7 +14,7 @@ use Rattle.sdr_machine.specs.Roll.{Roll, is_stalled, is_stuck, waits_for}
 use Rattle.sdr_machine.specs.declared.daemon.Daemon.{Daemon}
 use Rattle.law_runs.specs.LastEntries.{AgreesWithLast, is_by_leave, waited_ticket, waits_by}
 use Rattle.law_runs.proofs.KeepLemmas.{KeepsRoll}
-use Rattle.law_runs.proofs.RollLemmas.{among, each_also, each_found, number_same}
+use Rattle.sdr_machine.proofs.RollLemmas.{among, each_also, each_found, number_same}
 
 -- whether a daemon waits for a ticket, by its last entry
 pub waits_agree : (last : Option Entry) (d : Daemon) (ticket : ℕ) → AgreesWithLast last d

@@ -26,7 +26,7 @@ use Rattle.sdr_machine.proofs.StepLemmas.{from_option, from_test}
 use Rattle.law_runs.proofs.CaseLemmas.{IsIdle, begins, done_none, done_some, draws, idle_fresh, idle_mine, looked_inside, not_begun, opens, refused_adds_none, requested, suspended, unchanged, with_done}
 use Rattle.law_runs.proofs.ClosingLemmas.{closes_so, faults_so, goes_on, look_faults}
 use Rattle.law_runs.proofs.CoreLemmas.{IsNext, StepKeeps, found_there, or_true, unknown}
-use Rattle.law_runs.proofs.RollLemmas.{found_put, same_number}
+use Rattle.sdr_machine.proofs.RollLemmas.{found_put, same_number}
 use Rattle.law_runs.proofs.StalledLemmas.{stalled_by_roll, waits_agree}
 use Rattle.law_runs.proofs.TransactLemmas.{passes}
 use Rattle.law_runs.proofs.TurnLemmas.{IsTurn, turn_fresh, turn_mine}

@@ -1,13 +1,11 @@
 -- What an event of an open transaction is answered, and what the transaction then is.
 use Rattle.std.proofs.Common.{◌≡◌, ◌⊎◌, ◌∙◌, ◌==◌, ◌||◌, ◌+◌, ◌-◌, ℕ, Bool, true, false, Option, None, Some, MatchOption, arith, refl, sym, ap, inl, inr, nat_le, true≢false}
-use Rattle.std.specs.Prelude.{if◌then◌else◌, unwrap_or}
+use Rattle.std.specs.Prelude.{if◌then◌else◌}
 use Rattle.std.proofs.lemmas.Bool.Decides.{nat_tests}
 use Rattle.sdr_base.specs.declared.refusal.Reason.{Reason}
 use Rattle.sdr_base.specs.declared.refusal.Reason.TheVariants as reasons
 use Rattle.sdr_base.specs.declared.refusal.Refusal.TheVariants as refusals
-use Rattle.sdr_base.specs.Refusal.{refusal_number}
 use Rattle.sdr_model.specs.Dry.{StepsDry, StopsReading}
-use Rattle.sdr_model.specs.Reading.{is_reading}
 use Rattle.sdr_model.specs.declared.answer.Answer.{Answer}
 use Rattle.sdr_model.specs.declared.answer.Answer.TheVariants as answers
 use Rattle.sdr_model.specs.declared.answer.Close.{Close}
@@ -19,9 +17,10 @@ use Rattle.sdr_model.specs.declared.event.Event.TheVariants as events
 use Rattle.sdr_model.specs.declared.journal.Said.{Said}
 use Rattle.sdr_machine.specs.Core.{closed_by, is_failed, is_passed_over}
 use Rattle.sdr_machine.specs.Ground.{Ground, NoHeap, OnHeap, Replied, State, StepsOn}
-use Rattle.sdr_machine.specs.Nesting.{comes_to, deepened, deepest, doomed_for, noted}
+use Rattle.sdr_machine.specs.Nesting.{comes_to, deepened, deepest, doomed_for}
 use Rattle.sdr_machine.specs.Transaction.{Becomes, Replies, OpenTransaction, Transacts, asks_disk, is_closing}
 use Rattle.sdr_machine.specs.declared.nesting.Nesting.{Nesting}
+use Rattle.sdr_machine.proofs.ServedLemmas.{noted_depth}
 use Rattle.law_runs.specs.Replying.{is_of_call}
 use Rattle.law_runs.proofs.RowReplies.{row_fair, step_fair, stops_fair}
 
@@ -109,18 +108,6 @@ deepened_open n there = by (nat_le deepest n.depth)
 
 less_open : (depth : ℕ) → nat_le depth 1 ≡ false → (depth - 1 == 0) ≡ false
 less_open depth above = grind (arith, nat_tests)
-
-noted_depth : (call : Call) (reply : Reply) (n : Nesting) → (noted call reply n).depth ≡ n.depth
-noted_depth call (replies.Refused refusal) n = by (is_reading call)
-  where
-    by : (b : Bool) → (if b then n else record n { doom = Some (unwrap_or n.doom (reasons.Refused (refusal_number refusal))) }).depth ≡ n.depth
-    by true = refl
-    by false = refl
-noted_depth call reply n = by (is_reading call)
-  where
-    by : (b : Bool) → (if b then n else record n { modified = true }).depth ≡ n.depth
-    by true = refl
-    by false = refl
 
 pub transacts_open : (t : OpenTransaction) (event : Event) (said : Said) (t' : OpenTransaction) → Transacts t event said t' → (t.nesting.depth == 0) ≡ false
     → is_closing t event ≡ false → StaysOpen t t'

@@ -10,8 +10,10 @@ use Rattle.sdr_machine.specs.declared.daemon.Holding.{Holding}
 use Rattle.sdr_machine.specs.declared.nesting.Nesting.{Nesting}
 use Rattle.law_runs.specs.LastEntries.{AgreesWithLast}
 use Rattle.law_runs.proofs.JournalLemmas.{last_entry-other, last_entry-own, last_number, last_number-more}
-use Rattle.law_runs.proofs.KeepLemmas.{Held, KeepsRoll, none_held, others_higher, roll_moves}
-use Rattle.law_runs.proofs.RollLemmas.{HoldsWithin, IsWithin, contrary, each_found, number_same}
+use Rattle.sdr_machine.proofs.RollLemmas.{contrary, number_same}
+use Rattle.sdr_machine.proofs.ServedLemmas.{held_within}
+use Rattle.sdr_machine.specs.Served.{HoldsNumber}
+use Rattle.law_runs.proofs.KeepLemmas.{KeepsRoll, none_held, others_higher, roll_moves}
 
 -- The number under which an event is made is above that of the last entry, and below all that others hold; so many are drawn
 -- then.
@@ -19,13 +21,9 @@ pub record IsTurn (journal : List Entry) (r : Roll) (d : Daemon) (drawn : ℕ) :
   pub more : r.drawn ≤ drawn
   pub most : number_of r d ≤ drawn
   pub higher : last_number 0 journal < number_of r d
-  pub others : (other : ℕ) (y : Daemon) (h : Holding) → (d.id == other) ≡ false → Held r other y h → number_of r d < h.number
+  pub others : (other : ℕ) (y : Daemon) (h : Holding) → (d.id == other) ≡ false → HoldsNumber r other y h → number_of r d < h.number
 
 module _ {daemons : List ℕ} {journal : List Entry} {r : Roll} (keeps : KeepsRoll daemons journal r) where
-  pub held_within : {id : ℕ} {y : Daemon} {h : Holding} → Held r id y h → (1 ≤ h.number) × (h.number ≤ r.drawn)
-  held_within {id = id} {y = y} {h = h} held =
-      subst (HoldsWithin r.drawn) held.holds (each_found (IsWithin r.drawn) r.daemons id y held.found keeps.within)
-
   module _ {d : Daemon} (found : daemon_of r d.id ≡ Some d) where
     -- it draws the next number
     pub drawn_roll : (depth : ℕ) → d.holds ≡ None → KeepsRoll daemons journal (with_number r d depth)
@@ -37,7 +35,7 @@ module _ {daemons : List ℕ} {journal : List Entry} {r : Roll} (keeps : KeepsRo
         (λ other y h apart held. keeps.above other y h held)
         (λ other y h h' apart is held same.
         let number : r.drawn + 1 ≡ h.number = held_number h is in
-        let most : h'.number ≤ r.drawn = (held_within held).1 in
+        let most : h'.number ≤ r.drawn = (held_within keeps.held held).1 in
         omega arith)
         (let a = keeps.agree d.id d found in record { left = a.left; waits = a.waits })
         (λ other apart. refl)
@@ -49,15 +47,15 @@ module _ {daemons : List ℕ} {journal : List Entry} {r : Roll} (keeps : KeepsRo
     pub nested_roll : {h : Holding} (n : Nesting) → d.holds ≡ Some h → KeepsRoll daemons journal (with_daemon r (at_nesting d h n))
     nested_roll {h = h} n holds =
         roll_moves daemons journal journal r d (at_nesting d h n) r.drawn r.failed keeps found
-        (omega arith) (held_within mine) keeps.last
+        (omega arith) (held_within keeps.held mine) keeps.last
         (λ k is. subst (λ n. last_number 0 journal < n) (held_number k is) (keeps.above d.id d h mine))
         (λ other y k apart held. keeps.above other y k held)
         (λ other y k k' apart is held same.
-        contrary (number_same d.id other (keeps.apart d.id other d y h k' mine held (held_number k is ∙ same))) apart)
+        contrary (number_same d.id other (keeps.held.apart d.id other d y h k' mine held (held_number k is ∙ same))) apart)
         (let a = keeps.agree d.id d found in record { left = a.left; waits = a.waits })
         (λ other apart. refl)
       where
-        mine : Held r d.id d h
+        mine : HoldsNumber r d.id d h
         mine = record { found = found; holds = holds }
 
         held_number : (k : Holding) → Some (record h { nesting = n }) ≡ Some k → h.number ≡ k.number
@@ -79,7 +77,7 @@ module _ {daemons : List ℕ} {journal : List Entry} {r : Roll} (keeps : KeepsRo
     turn_mine {h = h} holds served =
         let is : number_of r d ≡ h.number = ap (λ o. option_map_or (λ (h : Holding). h.number) o (r.drawn + 1)) holds in
         let above : last_number 0 journal < h.number = keeps.above d.id d h mine in
-        let most : h.number ≤ r.drawn = (held_within mine).1 in
+        let most : h.number ≤ r.drawn = (held_within keeps.held mine).1 in
         record {
           more = omega arith;
           most = omega arith;
@@ -88,7 +86,7 @@ module _ {daemons : List ℕ} {journal : List Entry} {r : Roll} (keeps : KeepsRo
               subst (λ n. n < k.number) (sym is) (others_higher daemons journal r d.id other d y h k keeps mine served apart held);
         }
       where
-        mine : Held r d.id d h
+        mine : HoldsNumber r d.id d h
         mine = record { found = found; holds = holds }
 
     -- it is done with the number, and there is no entry

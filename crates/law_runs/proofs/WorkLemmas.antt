@@ -10,7 +10,7 @@ use Rattle.sdr_machine.specs.Core.{Work, said_by, with_said, without_work}
 use Rattle.sdr_machine.specs.Ground.{State}
 use Rattle.sdr_machine.specs.Transaction.{Finishes, GoesOn, IsOpening, Runs, SaysThen, OpenTransaction, Transacts, begun_under, is_closing, transaction_of}
 use Rattle.sdr_machine.specs.declared.daemon.Holding.{Holding}
-use Rattle.law_runs.proofs.RollLemmas.{contrary, number_same, same_number, turned}
+use Rattle.sdr_machine.proofs.RollLemmas.{contrary, number_same, same_number, turned}
 
 -- the open transactions are each another daemon's
 abbrev pub AreApart : List Work → Type 0

@@ -2,6 +2,7 @@
 use Rattle.std.proofs.Common.{◌≡◌, ◌∙◌, ◌≤◌, ◌+◌, ◌*◌, ◌^◌, [], true≢false, ℕ, List, suc, true, false, Option, None, Bool, unwrap_or, if◌then◌else◌, refl, sym, ap, subst, inl, arith}
 use Rattle.std.proofs.lemmas.Option.{none-some}
 use Rattle.std.proofs.lemmas.List.{nil_from_length}
+use Rattle.std.specs.Prelude.{⊤}
 use Rattle.std.specs.FinMap.{entries, get-empty, len-empty, len-entries}
 use Rattle.std.specs.List.{sum_by}
 use Rattle.std.specs.Ordering.{nat_cmp}
@@ -46,10 +47,15 @@ bare_ground = record {
   lapses = λ _. no_lapses;
   told = λ _. None;
   lasts = λ w n. LastsBare w n;
+  sound = λ _. ⊤;
+  going = λ _. ⊤;
+  idle = λ _. ⊤;
   left = λ _ _ _. ⊥;
   opens = λ _ _. ⊥;
   crash_now = λ t v image at left. absurd left;
   lasts_less = λ t n lasts. record { calls = lasts.calls; back = lasts.back; now = lasts.now; within = one_less lasts.calls n most_pieces lasts.within };
+  idle_going = λ t idle. tt;
+  going_sound = λ t going. tt;
 }
 
 -- so many calls lead to a world of the same things too, where as many blocks or more were taken for it

@@ -35,7 +35,7 @@ impl Model for Bare {
 }
 
 impl HasGround for Bare {
-    ghost use Rattle.std.specs.Prelude.{None};
+    ghost use Rattle.std.specs.Prelude.{None, ⊤};
     ghost use Rattle.sdr_machine.specs.Lapses.{no_lapses};
     ghost use Rattle.mem_machine.specs.Bare.{LastsBare, StandsBare};
     ghost use Rattle.sdr_model.specs.Few.{most_pieces};
@@ -53,6 +53,12 @@ impl HasGround for Bare {
 
     ghost lasts = { λ w n. LastsBare w n };
 
+    ghost sound = { λ _. ⊤ };
+
+    ghost going = { λ _. ⊤ };
+
+    ghost idle = { λ _. ⊤ };
+
     ghost left = { λ _ _ _. ⊥ };
 
     ghost opens = { λ _ _. ⊥ };
@@ -60,6 +66,10 @@ impl HasGround for Bare {
     ghost crash_now = { λ t v image at left. absurd left };
 
     ghost lasts_less = { λ t n lasts. record { calls = lasts.calls; back = lasts.back; now = lasts.now; within = one_less lasts.calls n most_pieces lasts.within } };
+
+    ghost idle_going = { λ t idle. tt };
+
+    ghost going_sound = { λ t going. tt };
 }
 
 impl Bare {

@@ -28,7 +28,7 @@ use Rattle.sdr_base.specs.declared.refusal.Reason.{Reason}
 use Rattle.law_runs.specs.Adding.{entry_added}
 use Rattle.law_runs.proofs.CoreLemmas.{KeepsCore}
 use Rattle.law_runs.proofs.CurrentLemmas.{served_far}
-use Rattle.law_runs.proofs.RollLemmas.{found_number, same_number}
+use Rattle.sdr_machine.proofs.RollLemmas.{found_number, same_number}
 use Rattle.law_runs.proofs.WorkLemmas.{runs_last, said_more}
 use Rattle.sdr_core.proofs.EndLemmas.{IsOuterEnd}
 

@@ -19,7 +19,7 @@ use Rattle.sdr_machine.proofs.HolderSteps.{keeps_holders, put_holders}
 use Rattle.sdr_machine.proofs.StepLemmas.{from_option}
 use Rattle.law_runs.proofs.CoreLemmas.{KeepsCore}
 use Rattle.law_runs.proofs.CurrentLemmas.{Current}
-use Rattle.law_runs.proofs.RollLemmas.{contrary, same_number}
+use Rattle.sdr_machine.proofs.RollLemmas.{contrary, same_number}
 use Rattle.law_runs.proofs.WorkLemmas.{SoFar, Untouched}
 use Rattle.sdr_core.proofs.PlaceLemmas.{none_works}
 use Rattle.sdr_core.proofs.SpokenLemmas.{said_by-none}

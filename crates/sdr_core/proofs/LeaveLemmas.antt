@@ -20,7 +20,7 @@ use Rattle.sdr_machine.specs.Transaction.{refused}
 use Rattle.sdr_machine.specs.declared.daemon.Daemon.{Daemon}
 use Rattle.sdr_machine.specs.declared.daemon.Holding.{Holding}
 use Rattle.sdr_machine.proofs.StepLemmas.{Kind, from_option, from_test, step_is}
-use Rattle.law_runs.proofs.RollLemmas.{among, found_number, found_put, put_here, put_later, same_number}
+use Rattle.sdr_machine.proofs.RollLemmas.{among, found_number, found_put, put_here, put_later, same_number}
 use Rattle.sdr_core.specs.Logging.{PassesUnlessClosing, entries_of, leaves_ahead, leaves_of}
 
 -- how many may still be added where a daemon is put in its place

@@ -13,7 +13,8 @@ use Rattle.sdr_machine.specs.Leaving.{holds_number}
 use Rattle.sdr_machine.specs.Machine.{Made, MachineStep}
 use Rattle.sdr_machine.specs.declared.daemon.Daemon.{Daemon}
 use Rattle.sdr_machine.specs.declared.daemon.Holding.{Holding}
-use Rattle.law_runs.proofs.RollLemmas.{HoldsWithin, IsWithin, among}
+use Rattle.sdr_machine.proofs.RollLemmas.{among}
+use Rattle.sdr_machine.specs.Served.{HoldsWithin, IsNumberDrawn}
 use Rattle.law_runs.proofs.RunLemmas.{run_keeps}
 use Rattle.sdr_core.proofs.CoreLemmas.{first_new}
 use Rattle.sdr_core.proofs.HoldingLemmas.{first_after}
@@ -68,7 +69,7 @@ count_one t u k one passes fails same (suc n) le = by (suc n == k) refl (λ belo
             ∙ sym (λ i. if is i then count_failing u n else count_failing u n + 1)
 
 -- The numbers that were drawn are those that are held, each once, and those that are done.
-counted : (drawn : ℕ) (ds : List Daemon) → HoldApart ds → AllByRecursion (IsWithin drawn) ds → count_failing (is_held ds) drawn + holders ds ≡ drawn
+counted : (drawn : ℕ) (ds : List Daemon) → HoldApart ds → AllByRecursion (IsNumberDrawn drawn) ds → count_failing (is_held ds) drawn + holders ds ≡ drawn
 counted drawn [] apart within = let all = count_none (is_held []) (λ m. refl) drawn in omega (arith, all)
 counted drawn (d ∷ ds) apart within = by d.holds refl within.0 (counted drawn ds apart.1 within.1)
   where
@@ -157,10 +158,10 @@ module _ (told : Option Told) (daemons : List ℕ) (first : State) (made : List 
   run_apart =
       let keeps = run_keeps told daemons first made core runs in
       apart_from core.machine.roll.daemons
-      (λ id other d d' h h' is holds also held same. keeps.roll.apart id other d d' h h' (record { found = is; holds = holds }) (record { found = also; holds = held }) same)
+      (λ id other d d' h h' is holds also held same. keeps.roll.held.apart id other d d' h h' (record { found = is; holds = holds }) (record { found = also; holds = held }) same)
       [] core.machine.roll.daemons (run_first told made (first_core daemons first) core (first_new [] daemons) runs) (λ id out. refl)
 
   -- and the others that were drawn are done
   pub run_counted : numbers_done core.machine.roll + holders core.machine.roll.daemons ≡ core.machine.roll.drawn
   run_counted =
-      counted core.machine.roll.drawn core.machine.roll.daemons run_apart (run_keeps told daemons first made core runs).roll.within
+      counted core.machine.roll.drawn core.machine.roll.daemons run_apart (run_keeps told daemons first made core runs).roll.held.within

@@ -9,7 +9,7 @@ use Rattle.sdr_core.proofs.SpokenLemmas.{said_by-none, without_work-none}
 use Rattle.sdr_core.specs.Keeping.{AreApart, AreSpacious, HasSpace, MaySay, StandsAt, is_of, spoken_of, work_of, works_of}
 use Rattle.std.proofs.Math.Seq.{get_or-append_seam, set-append_seam}
 use Rattle.sdr_core.specs.declared.spoken.Spoken.{Spoken}
-use Rattle.law_runs.proofs.RollLemmas.{same_number}
+use Rattle.sdr_machine.proofs.RollLemmas.{same_number}
 
 abbrev is_his : ℕ → Spoken → Bool
 is_his daemon s = s.daemon == daemon

@@ -5,7 +5,7 @@ use Rattle.std.specs.Prelude.{if◌then◌else◌}
 use Rattle.sdr_model.specs.declared.journal.Said.{Said}
 use Rattle.sdr_machine.specs.Core.{Work, said_by, with_said, without_work}
 use Rattle.sdr_core.specs.Keeping.{AreApart, is_of}
-use Rattle.law_runs.proofs.RollLemmas.{number_same, turned}
+use Rattle.sdr_machine.proofs.RollLemmas.{number_same, turned}
 
 pub found_head : (b : Bool) (w : Work) (rest : Option Work) → cond b (Some w) rest ≡ None → (b ≡ false) × (rest ≡ None)
 found_head true w rest none = absurd cc

@@ -47,11 +47,12 @@ first_media b = record { told = b.told; faults = b.lapses.faults; short = b.laps
 abbrev pub bare_begins : RunStart
 bare_begins = record { told = None; daemons = []; first = resting (fresh_world 0) Ground.NoHeap; start = 0; faults = 0; lapses = no_lapses }
 
--- The ground is where the run begins: it stands for the first state, in which no transaction is open, and at each moment since
--- the first a crash left what opens to that state.
+-- The ground is where the run begins: no transaction is open on it, it stands for the first state, and at each moment since the
+-- first a crash left what opens to that state.
 pub record BeginsOn {T : Type 0} (g : Ghosts T) (b : RunStart) (daemons : List ℕ) (base : T) : Type 0 where
   pub told : g.told base ≡ b.told
   pub daemons_are : daemons ≡ b.daemons
+  pub idle : g.idle base
   pub later : b.start ≤ g.moment base
   pub faults : b.faults ≤ g.faults base
   pub lapses : LapsesLast b.lapses (g.lapses base)

@@ -1,59 +1,18 @@
 -- Who holds a number, and what a step leaves of that.
-use Rattle.std.proofs.Common.{◌≡◌, ◌≤◌, ◌⊎◌, ◌∙◌, ◌==◌, ◌+◌, ◌||◌, ◌&&◌, ℕ, List, [], ◌∷◌, suc, Bool, true, false, true≢false, Option, None, Some, IsSome, is_none, is_some, cond, find, length, min, not, if◌then◌else◌, nat_le, arith, refl, sym, ap, subst, inl, inr}
+use Rattle.std.proofs.Common.{◌≡◌, ◌≤◌, ◌⊎◌, ◌∙◌, ◌==◌, ◌+◌, ◌||◌, ◌&&◌, ℕ, List, [], ◌∷◌, suc, Bool, true, false, true≢false, Option, None, Some, IsSome, is_none, is_some, cond, find, length, min, if◌then◌else◌, nat_le, arith, refl, sym, ap, subst, inl, inr}
 use Rattle.std.proofs.lemmas.Bool.Decides.{nat_tests}
-use Rattle.std.specs.List.{list_any, position_or_len}
+use Rattle.std.specs.List.{list_any}
 use Rattle.std.specs.Option.{option_map_or}
-use Rattle.std.specs.Prelude.{nat_lt, slice_set}
 use Rattle.sdr_machine.specs.Holders.{HoldFirst, hold_none, holders}
 use Rattle.sdr_machine.specs.Leaving.{holds_number, served_daemon}
 use Rattle.sdr_machine.specs.Roll.{Roll, least_held, lesser_of, put_daemon}
 use Rattle.sdr_machine.specs.declared.daemon.Daemon.{Daemon}
 use Rattle.sdr_machine.specs.declared.daemon.Holding.{Holding}
-
--- a number above 0
-zero_below : (n : ℕ) → nat_lt 0 (suc n) ≡ true
-zero_below n = grind (arith, nat_tests)
-
-suc_below : (k n : ℕ) → nat_lt (suc k) (suc n) ≡ nat_lt k n
-suc_below k n = by (nat_lt k n) refl
-  where
-    by : (b : Bool) → nat_lt k n ≡ b → nat_lt (suc k) (suc n) ≡ nat_lt k n
-    by true is = (let above : nat_lt (suc k) (suc n) ≡ true = grind (arith, nat_tests) in above) ∙ sym is
-    by false is = (let above : nat_lt (suc k) (suc n) ≡ false = grind (arith, nat_tests) in above) ∙ sym is
-
--- where the first is the one, it is put in its place
-put_here : (x d : Daemon) (xs : List Daemon) → (x.id == d.id) ≡ true → put_daemon (x ∷ xs) d ≡ d ∷ xs
-put_here x d xs is =
-    ap (λ b. let n = cond (not b) (1 + position_or_len (λ (y : Daemon). y.id == d.id) xs) 0 in
-    option_map_or (λ place. slice_set (x ∷ xs) place d) (cond (nat_lt n (length (x ∷ xs))) (Some n) None) (x ∷ xs)) is
-    ∙ ap (λ t. option_map_or (λ place. slice_set (x ∷ xs) place d) (cond t (Some 0) None) (x ∷ xs)) (zero_below (length xs))
-
--- and else it is put among the others
-put_there : (x d : Daemon) (xs : List Daemon) → (x.id == d.id) ≡ false → put_daemon (x ∷ xs) d ≡ x ∷ put_daemon xs d
-put_there x d xs is =
-    ap (λ b. let n = cond (not b) (1 + position_or_len (λ (y : Daemon). y.id == d.id) xs) 0 in
-    option_map_or (λ place. slice_set (x ∷ xs) place d) (cond (nat_lt n (length (x ∷ xs))) (Some n) None) (x ∷ xs)) is
-    ∙ there (1 + position_or_len (λ (y : Daemon). y.id == d.id) xs) (position_or_len (λ (y : Daemon). y.id == d.id) xs) (omega arith)
-  where
-    by_test : (k : ℕ) (t : Bool) → option_map_or (λ place. slice_set (x ∷ xs) place d) (cond t (Some (suc k)) None) (x ∷ xs)
-        ≡ x ∷ option_map_or (λ place. slice_set xs place d) (cond t (Some k) None) xs
-    by_test k true = refl
-    by_test k false = refl
-
-    there : (n k : ℕ) → n ≡ suc k → option_map_or (λ place. slice_set (x ∷ xs) place d) (cond (nat_lt n (length (x ∷ xs))) (Some n) None) (x ∷ xs)
-        ≡ x ∷ option_map_or (λ place. slice_set xs place d) (cond (nat_lt k (length xs)) (Some k) None) xs
-    there n k e =
-        subst (λ n. option_map_or (λ place. slice_set (x ∷ xs) place d) (cond (nat_lt n (length (x ∷ xs))) (Some n) None) (x ∷ xs)
-        ≡ x ∷ option_map_or (λ place. slice_set xs place d) (cond (nat_lt k (length xs)) (Some k) None) xs) (sym e)
-        (ap (λ t. option_map_or (λ place. slice_set (x ∷ xs) place d) (cond t (Some (suc k)) None) (x ∷ xs)) (suc_below k (length xs)) ∙ by_test k (nat_lt k (length xs)))
+use Rattle.sdr_machine.proofs.RollLemmas.{put_here, put_later, same_number}
 
 both : (a b : Bool) → a && b ≡ true → (a ≡ true) × (b ≡ true)
 both true b is = (refl, is)
 both false b is = absurd (true≢false (sym is))
-
--- a number is the one that it was tested to be
-pub same_number : (a b : ℕ) → (a == b) ≡ true → a ≡ b
-same_number a b is = grind (arith, nat_tests)
 
 module _ (d : Daemon) where
   -- a daemon that is put takes no place
@@ -62,8 +21,8 @@ module _ (d : Daemon) where
   put_length (x ∷ xs) = by (put_length xs) (x.id == d.id) refl
     where
       by : length (put_daemon xs d) ≡ length xs → (b : Bool) → (x.id == d.id) ≡ b → length (put_daemon (x ∷ xs) d) ≡ length (x ∷ xs)
-      by rest true is = ap length (put_here x d xs is)
-      by rest false is = ap length (put_there x d xs is) ∙ ap suc rest
+      by rest true is = ap length (put_here x xs d is)
+      by rest false is = ap length (put_later x xs d is) ∙ ap suc rest
 
   -- where it hasn't left if it holds a number, each still may hold
   pub put_first : (before : List ℕ) (ds : List Daemon) → (IsSome d.holds → d.left ≡ false) → list_any (λ id. id == d.id) before ≡ false
@@ -74,10 +33,10 @@ module _ (d : Daemon) where
       by : (list_any (λ id. id == d.id) (x.id ∷ before) ≡ false → HoldFirst (x.id ∷ before) (put_daemon xs d)) → (b : Bool) → (x.id == d.id) ≡ b
           → HoldFirst before (put_daemon (x ∷ xs) d)
       by rest true is =
-          subst (HoldFirst before) (sym (put_here x d xs is))
+          subst (HoldFirst before) (sym (put_here x xs d is))
           (λ holds. record { stays = stays holds; first = out }, subst (λ id. HoldFirst (id ∷ before) xs) (same_number x.id d.id is) first.1)
       by rest false is =
-          subst (HoldFirst before) (sym (put_there x d xs is))
+          subst (HoldFirst before) (sym (put_later x xs d is))
           (first.0, rest ((λ i. is i || list_any (λ id. id == d.id) before) ∙ out))
 
   -- where none holds a number, and it doesn't, none does
@@ -89,8 +48,8 @@ module _ (d : Daemon) where
       parts = both (is_none x.holds) (hold_none xs) none
 
       by : (hold_none xs ≡ true → hold_none (put_daemon xs d) ≡ true) → (b : Bool) → (x.id == d.id) ≡ b → hold_none (put_daemon (x ∷ xs) d) ≡ true
-      by rest true is = ap hold_none (put_here x d xs is) ∙ (λ i. is_none (free i) && parts.1 i)
-      by rest false is = ap hold_none (put_there x d xs is) ∙ (λ i. parts.0 i && rest parts.1 i)
+      by rest true is = ap hold_none (put_here x xs d is) ∙ (λ i. is_none (free i) && parts.1 i)
+      by rest false is = ap hold_none (put_later x xs d is) ∙ (λ i. parts.0 i && rest parts.1 i)
 
 -- the daemon that is found and holds a number is the first of its id, and hasn't left
 pub record IsFirst (before : List ℕ) (ds : List Daemon) (d : Daemon) : Type 0 where
@@ -143,11 +102,11 @@ put_fewer d d' (x ∷ xs) found id holds free = by (λ there. put_fewer d d' xs 
     by among true is here =
         let same : x ≡ d = cc in
         ap (λ b. if b then holders xs + 1 else holders xs) (subst (λ (y : Daemon). is_some y.holds ≡ true) (sym same) holds)
-        ∙ sym (ap (λ (ds : List Daemon). holders ds + 1) (put_here x d' xs (same_test ∙ is)) ∙ ap (λ (o : Option Holding). (if is_some o then holders xs + 1 else holders xs) + 1) free)
+        ∙ sym (ap (λ (ds : List Daemon). holders ds + 1) (put_here x xs d' (same_test ∙ is)) ∙ ap (λ (o : Option Holding). (if is_some o then holders xs + 1 else holders xs) + 1) free)
     by among false is there =
         let rest = among there in
         ap (λ n. if is_some x.holds then n + 1 else n) rest
-        ∙ sym (ap (λ (ds : List Daemon). holders ds + 1) (put_there x d' xs (same_test ∙ is)) ∙ one_more (is_some x.holds) (holders (put_daemon xs d')))
+        ∙ sym (ap (λ (ds : List Daemon). holders ds + 1) (put_later x xs d' (same_test ∙ is)) ∙ one_more (is_some x.holds) (holders (put_daemon xs d')))
 
 -- no more hold a number than there are
 pub holders_few : (ds : List Daemon) → holders ds ≤ length ds

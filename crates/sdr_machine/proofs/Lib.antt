@@ -2,6 +2,8 @@ pub mod GroundLemmas
 pub mod HolderLemmas
 pub mod HolderSteps
 pub mod LockLemmas
+pub mod RollLemmas
 pub mod SeeingLemmas
+pub mod ServedLemmas
 pub mod StepLemmas
 pub mod WorkLemmas

@@ -13,6 +13,7 @@ pub mod Machine
 pub mod Nesting
 pub mod Roll
 pub mod Room
+pub mod Served
 pub mod Serving
 pub mod Standing
 pub mod Transaction

@@ -7,7 +7,7 @@ pub struct Fault;
 /// Why a call had no reply.
 #[derive(Clone, Copy)]
 pub enum Halt {
-    /// It found no memory, or its ground can make no call and keep nothing until it is put back; all is as before.
+    /// It found no memory; all is as before.
     Memory,
     /// The disk failed.
     Fault,

@@ -25,6 +25,16 @@ pub trait HasGround {
     /// So many calls more can be made.
     ghost lasts: { Self → ℕ → Type 0 };
 
+    /// Its disk hasn't failed.
+    ghost sound: { Self → Type 0 };
+
+    /// No call of the open transaction was stopped on its way: another can be made, and the transaction can
+    /// be kept.
+    ghost going: { Self → Type 0 };
+
+    /// No call was made since a transaction was last kept or put back: tickets can be looked at.
+    ghost idle: { Self → Type 0 };
+
     /// What a crash at a moment may leave.
     ghost left: { Self → ℕ → List ℕ → Type 0 };
 
@@ -36,4 +46,10 @@ pub trait HasGround {
 
     /// It lasts for fewer calls too.
     ghost lasts_less: { (t : Self) (n : ℕ) → lasts t (suc n) → lasts t n };
+
+    /// No call was stopped where none was made.
+    ghost idle_going: { (t : Self) → idle t → going t };
+
+    /// None can be made where the disk has failed.
+    ghost going_sound: { (t : Self) → going t → sound t };
 }

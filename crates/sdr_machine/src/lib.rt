@@ -15,8 +15,9 @@
 //!
 //! Proved: `Lock::event`, over any ground: each event of a daemon is a step of the machine (`step`). A disk fault
 //! comes only where the disk's count rose. A crash leaves the state before the open transaction, or, in the end
-//! of an undoomed one, that or the new state. Out of memory leaves all as it was (`err`). `Nesting` and `Roll`
-//! are exactly as defined.
+//! of an undoomed one, that or the new state. Out of memory leaves all as it was (`err`). The lock makes no call and
+//! asks for no commit in a transaction in which a call was stopped, and looks only where none is open (`going`, `idle` of
+//! `Backing`). `Nesting` and `Roll` are exactly as defined.
 #![tactic(auto)]
 
 mod backing;

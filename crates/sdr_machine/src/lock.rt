@@ -3,8 +3,9 @@ ghost use Rattle.std.specs.Prelude.{◌&&◌, ◌==◌, not, ◌≡◌, ◌<◌,
 ghost use Rattle.sdr_machine.specs.Crash.{commits_by, commits_in, commits_of, commits_under};
 ghost use Rattle.sdr_machine.specs.Ground.{State};
 ghost use Rattle.sdr_machine.specs.Machine.{MachineStep, StepsOf, Comes, ComesLooking, Holds, OnTurn, Performs, Enters, Looks, LooksHolding, BeginsUnder, Closes, FaultsWithin, ComesLeaving, Draws, IsSuspended, LeavesHolding, is_of_work, is_outside};
-ghost use Rattle.sdr_machine.specs.Roll.{MayDraw, when_done, at_nesting, first_roll, held_by, with_daemon, with_fault, with_number};
-ghost use Rattle.sdr_machine.specs.Serving.{Acts, is_served, takes_memory};
+ghost use Rattle.sdr_machine.specs.Roll.{MayDraw, when_done, at_nesting, daemon_of, first_roll, held_by, with_daemon, with_fault, with_number};
+ghost use Rattle.sdr_machine.specs.Served.{HoldsServed, HoldsNumber, HoldsNone};
+ghost use Rattle.sdr_machine.specs.Serving.{Acts, is_served, roll_settled, takes_memory};
 ghost use Rattle.sdr_machine.specs.Transaction.{is_closing, transaction_of};
 
 use crate::failing::go_failed;
@@ -24,11 +25,14 @@ pub struct Lock<T: Backing> {
 }
 
 impl<T: Backing> Model for Lock<T> {
+    ghost use Rattle.sdr_machine.specs.Served.{KeepsGroundReady};
     ghost use Rattle.sdr_machine.specs.Serving.{Locked};
 
     ghost Value = { Locked T };
 
     ghost view = { λ s. record { roll = s.roll; base = s.base } };
+
+    ghost invariant = { λ s. KeepsGroundReady T.HasGround s.roll s.base };
 }
 
 // An answer for which no call was made.
@@ -39,6 +43,16 @@ fn told(answer: Answer) -> Came
         answer,
         called: false,
     }
+}
+
+// The disk has failed in an event of a daemon, whose number is done.
+fn fail<T: Backing>(roll: &mut Roll, base: &T, daemon: Daemon) -> Came
+    ensures answer { result ≡ record { answer = Answer.Reply Reply.DiskFault; called = false } }
+    ensures roll { roll.new ≡ with_fault (with_daemon roll.old (when_done daemon)) (T.moment base.now) }
+{
+    roll.put(daemon.when_done());
+    roll.fail(base.moment());
+    told(Answer::Reply(Reply::DiskFault))
 }
 
 // Whether the daemon has a number, but is in no transaction.
@@ -52,8 +66,9 @@ fn is_outside(holding: &Holding, event: &Event) -> bool
 }
 
 impl<T: Backing> Lock<T> {
-    /// No number drawn, on this ground.
+    /// No number drawn, on this ground, on which no transaction is open.
     pub fn new(alloc: Global, ids: &[u8], base: T) -> Result<Lock<T>, (NoMemory, T)>
+        requires { T.idle base }
         ensures made { IfOk result (λ lock. lock ≡ record { roll = first_roll ids.now; base = base }) }
         ensures back { IfErr result (λ why. why.1 ≡ base) }
     {
@@ -63,20 +78,10 @@ impl<T: Backing> Lock<T> {
         }
     }
 
-    // The disk has failed in an event of a daemon, whose number is done.
-    fn fail(&mut self, daemon: Daemon) -> Came
-        ensures answer { result ≡ record { answer = Answer.Reply Reply.DiskFault; called = false } }
-        ensures roll { self.new.roll ≡ with_fault (with_daemon self.old.roll (when_done daemon))
-            (T.moment self.new.base) }
-        ensures base { self.new.base ≡ self.old.base }
-    {
-        self.roll.put(daemon.when_done());
-        self.roll.fail(self.base.moment());
-        told(Answer::Reply(Reply::DiskFault))
-    }
-
     // A call in a transaction that isn't doomed.
     fn ask(&mut self, daemon: Daemon, holding: Holding, call: &Call) -> Result<Came, NoMemory>
+        requires turn { HoldsServed self.old.roll daemon holding }
+        requires begun { 0 < holding.nesting.depth }
         requires lasts { T.lasts self.old.base 1 }
         requires sound { self.old.roll.failed ≡ None }
         requires undoomed { holding.nesting.doom ≡ None }
@@ -96,12 +101,14 @@ impl<T: Backing> Lock<T> {
                 })
             }
             Err(Halt::Memory) => Err(AllocError),
-            Err(Halt::Fault) => Ok(self.fail(daemon)),
+            Err(Halt::Fault) => Ok(fail(&mut self.roll, &self.base, daemon)),
         }
     }
 
     // A call in a transaction.
     fn say(&mut self, daemon: Daemon, holding: Holding, call: &Call) -> Result<Came, NoMemory>
+        requires turn { HoldsServed self.old.roll daemon holding }
+        requires begun { 0 < holding.nesting.depth }
         requires lasts { T.lasts self.old.base 1 }
         requires sound { self.old.roll.failed ≡ None }
         ensures serves { IfOk result (λ came. Acts T.HasGround
@@ -120,6 +127,7 @@ impl<T: Backing> Lock<T> {
 
     // Commits or rolls back the transaction, whose number is then done. Only a commit may find no memory.
     fn finish(&mut self, daemon: Daemon, holding: &Holding, event: &Event) -> Result<Came, NoMemory>
+        requires turn { HoldsServed self.old.roll daemon holding.now }
         requires sound { self.old.roll.failed ≡ None }
         requires closing { (s : State) → is_closing (transaction_of holding.now s) event.now
             ≡ true }
@@ -137,12 +145,14 @@ impl<T: Backing> Lock<T> {
                 Ok(told(Answer::Closed(close)))
             }
             Err(Halt::Memory) => Err(AllocError),
-            Err(Halt::Fault) => Ok(self.fail(daemon)),
+            Err(Halt::Fault) => Ok(fail(&mut self.roll, &self.base, daemon)),
         }
     }
 
     // The first begin under a number that was drawn before.
     fn open(&mut self, daemon: Daemon, holding: Holding) -> Came
+        requires turn { HoldsServed self.old.roll daemon holding }
+        requires unbegun { holding.nesting.depth ≡ 0 }
         ensures { Acts T.HasGround false (λ m e m'.
             BeginsUnder m daemon holding e m') daemon.id Event.Begin result self.old self.new }
     {
@@ -153,6 +163,7 @@ impl<T: Backing> Lock<T> {
 
     // A begin: the first one, or an inner one.
     fn begin(&mut self, daemon: Daemon, holding: Holding) -> Came
+        requires turn { HoldsServed self.old.roll daemon holding }
         ensures { Acts T.HasGround false (λ m e m'.
             OnTurn m daemon holding Event.Begin e m') daemon.id Event.Begin result self.old
             self.new }
@@ -168,6 +179,7 @@ impl<T: Backing> Lock<T> {
 
     // An end: the outermost one, or an inner one.
     fn end(&mut self, daemon: Daemon, holding: Holding) -> Result<Came, NoMemory>
+        requires turn { HoldsServed self.old.roll daemon holding }
         requires sound { self.old.roll.failed ≡ None }
         ensures closes { IfOk result (λ came. Acts T.HasGround (commits_in holding.nesting Event.End)
             (λ m e m'. OnTurn m daemon holding Event.End e m')
@@ -186,6 +198,7 @@ impl<T: Backing> Lock<T> {
 
     // An exit: the outermost one, or an inner one.
     fn exit(&mut self, daemon: Daemon, holding: Holding) -> Result<Came, NoMemory>
+        requires turn { HoldsServed self.old.roll daemon holding }
         requires sound { self.old.roll.failed ≡ None }
         ensures closes { IfOk result (λ came. Acts T.HasGround false (λ m e m'.
             OnTurn m daemon holding Event.Exit e m')
@@ -204,6 +217,7 @@ impl<T: Backing> Lock<T> {
 
     // A cancel: the outermost one, or an inner one.
     fn cancel(&mut self, daemon: Daemon, holding: Holding) -> Result<Came, NoMemory>
+        requires turn { HoldsServed self.old.roll daemon holding }
         requires sound { self.old.roll.failed ≡ None }
         ensures closes { IfOk result (λ came. Acts T.HasGround false (λ m e m'.
             OnTurn m daemon holding Event.Cancel e m')
@@ -222,7 +236,8 @@ impl<T: Backing> Lock<T> {
 
     // A daemon without a number draws the next one, at this depth.
     fn draw(&mut self, daemon: Daemon, depth: u64, event: &Event) -> Came
-        requires { self.old.roll.drawn < 2 ^ 60 }
+        requires free { HoldsNone self.old.roll daemon }
+        requires drawn { self.old.roll.drawn < 2 ^ 60 }
         ensures { Acts T.HasGround false (λ m e m'.
             Draws m daemon e depth m') daemon.id event.now result self.old self.new }
     {
@@ -232,7 +247,8 @@ impl<T: Backing> Lock<T> {
 
     // A daemon without a number draws one that can't be served yet.
     fn draw_suspended(&mut self, daemon: Daemon, event: &Event) -> Came
-        requires { self.old.roll.drawn < 2 ^ 60 }
+        requires free { HoldsNone self.old.roll daemon }
+        requires drawn { self.old.roll.drawn < 2 ^ 60 }
         ensures { Acts T.HasGround false (λ m e m'.
             IsSuspended m e (m.roll.drawn + 1) (with_number m.roll daemon 0) m')
             daemon.id event.now result self.old self.new }
@@ -244,6 +260,8 @@ impl<T: Backing> Lock<T> {
 
     // A look at a ticket of a daemon that is served.
     fn look(&mut self, daemon: Daemon, ticket: u64) -> Came
+        requires found { daemon_of self.old.roll daemon.id ≡ Some daemon }
+        requires idle { T.idle self.old.base }
         requires sound { self.old.roll.failed ≡ None }
         ensures { Acts T.HasGround false (λ m e m'.
             Looks m daemon e ticket m.roll m') daemon.id (Event.Look ticket) result self.old
@@ -254,12 +272,13 @@ impl<T: Backing> Lock<T> {
                 self.roll.put(after_look(daemon, ticket, &answer));
                 told(answer)
             }
-            Err(Fault) => self.fail(daemon),
+            Err(Fault) => fail(&mut self.roll, &self.base, daemon),
         }
     }
 
     // A look of a daemon without a number: it draws one, which is done at once where it is served.
     fn comes_looking(&mut self, daemon: Daemon, ticket: u64, event: &Event) -> Came
+        requires free { HoldsNone self.old.roll daemon }
         requires drawn { self.old.roll.drawn < 2 ^ 60 }
         requires sound { self.old.roll.failed ≡ None }
         requires look { event.now ≡ Event.Look ticket }
@@ -275,7 +294,8 @@ impl<T: Backing> Lock<T> {
 
     // A leave of a daemon without a number: it draws one, which is done at once where it is served.
     fn comes_leaving(&mut self, daemon: Daemon, event: &Event) -> Came
-        requires { self.old.roll.drawn < 2 ^ 60 }
+        requires free { HoldsNone self.old.roll daemon }
+        requires drawn { self.old.roll.drawn < 2 ^ 60 }
         ensures { Acts T.HasGround false (λ m e m'.
             ComesLeaving m daemon e m') daemon.id event.now result self.old self.new }
     {
@@ -289,6 +309,7 @@ impl<T: Backing> Lock<T> {
 
     // A look under a number that is held.
     fn looks_holding(&mut self, daemon: Daemon, holding: &Holding, ticket: u64) -> Came
+        requires held { HoldsNumber self.old.roll daemon.id daemon holding.now }
         requires sound { self.old.roll.failed ≡ None }
         ensures { Acts T.HasGround false (λ m e m'.
             LooksHolding m daemon holding.now ticket e m') daemon.id (Event.Look ticket)
@@ -307,6 +328,7 @@ impl<T: Backing> Lock<T> {
 
     // A leave under a number that is held.
     fn leave(&mut self, daemon: Daemon, holding: &Holding, event: &Event) -> Came
+        requires held { HoldsNumber self.old.roll daemon.id daemon holding.now }
         requires sound { self.old.roll.failed ≡ None }
         requires closing { (s : State) → is_closing (transaction_of holding.now s) event.now
             ≡ true }
@@ -342,6 +364,7 @@ impl<T: Backing> Lock<T> {
 
     // An event of a daemon without a number.
     fn come(&mut self, daemon: Daemon, event: &Event) -> Came
+        requires free { HoldsNone self.old.roll daemon }
         requires drawn { self.old.roll.drawn < 2 ^ 60 }
         requires sound { self.old.roll.failed ≡ None }
         ensures { Acts T.HasGround false (λ m e m'.
@@ -358,6 +381,7 @@ impl<T: Backing> Lock<T> {
 
     // One event of a daemon that holds a number.
     fn hold(&mut self, daemon: Daemon, holding: Holding, event: &Event) -> Result<Came, NoMemory>
+        requires held { HoldsNumber self.old.roll daemon.id daemon holding }
         requires sound { self.old.roll.failed ≡ None }
         requires lasts { T.lasts self.old.base 1 }
         ensures holds { IfOk result (λ came. Acts T.HasGround
@@ -378,6 +402,7 @@ impl<T: Backing> Lock<T> {
 
     // One event of a transaction, or a first begin, under a number that is held.
     fn enter(&mut self, daemon: Daemon, holding: Holding, event: &Event) -> Result<Came, NoMemory>
+        requires held { HoldsNumber self.old.roll daemon.id daemon holding }
         requires sound { self.old.roll.failed ≡ None }
         requires lasts { T.lasts self.old.base 1 }
         requires within { is_of_work event.now ≡ true }
@@ -400,6 +425,8 @@ impl<T: Backing> Lock<T> {
 
     // One event of the served transaction, or its first begin.
     fn serve(&mut self, daemon: Daemon, holding: Holding, event: &Event) -> Result<Came, NoMemory>
+        requires turn { HoldsServed self.old.roll daemon holding }
+        requires inside { is_outside holding event.now ≡ false }
         requires sound { self.old.roll.failed ≡ None }
         requires lasts { T.lasts self.old.base 1 }
         requires within { is_of_work event.now ≡ true }
@@ -420,6 +447,7 @@ impl<T: Backing> Lock<T> {
 
     // One event of a daemon of the lock's.
     fn perform(&mut self, daemon: Daemon, event: &Event) -> Result<Came, NoMemory>
+        requires found { daemon_of self.old.roll daemon.id ≡ Some daemon }
         requires drawn { MayDraw self.old.roll daemon.holds }
         requires sound { self.old.roll.failed ≡ None }
         requires lasts { T.lasts self.old.base 1 }
@@ -508,9 +536,20 @@ fn is_served(roll: &Roll, holding: &Holding) -> bool
     holding.nesting.depth != 0 && roll.serving() == holding.number && holding.nesting.doom.is_none()
 }
 
+// The roll after a call that reads.
+fn settle_roll(roll: &mut Roll, id: u8)
+    ensures { roll.new ≡ roll_settled roll.old id }
+{
+    if let Some(daemon) = roll.daemon(id) {
+        if let Some(holding) = daemon.holds {
+            roll.put(daemon.at_nesting(holding, holding.nesting));
+        }
+    }
+}
+
 impl<T: Shows> Lock<T> {
     ghost use Rattle.std.specs.Prelude.{◌≡◌};
-    ghost use Rattle.sdr_machine.specs.Serving.{Brings, KeepsGround, ShowsBytes, makes_calls, roll_settled};
+    ghost use Rattle.sdr_machine.specs.Serving.{Brings, KeepsGround, ShowsBytes, makes_calls};
 
     /// Whether a call of the daemon is made: its number is served, and it is in a transaction that isn't doomed.
     pub fn makes_calls(&self, id: u8) -> bool
@@ -525,25 +564,13 @@ impl<T: Shows> Lock<T> {
         }
     }
 
-    // The roll after a call that reads.
-    fn settle_roll(&mut self, id: u8)
-        ensures roll { self.new.roll ≡ roll_settled self.old.roll id }
-        ensures base { self.new.base ≡ self.old.base }
-    {
-        if let Some(daemon) = self.roll.daemon(id) {
-            if let Some(holding) = daemon.holds {
-                self.roll.put(daemon.at_nesting(holding, holding.nesting));
-            }
-        }
-    }
-
     /// Answers a call of which media were asked outside: it gives these bytes, or media stopped it.
     pub fn settle(&mut self, id: u8, given: Option<Bytes>)
         ensures roll { self.new.roll ≡ roll_settled self.old.roll id }
         ensures shown { Brings T.stands self.old.base self.new.base (ShowsBytes given) }
         ensures keeps { KeepsGround T.HasGround true self.old.base self.new.base }
     {
-        self.settle_roll(id);
+        settle_roll(&mut self.roll, id);
         self.base.show(given);
     }
 }

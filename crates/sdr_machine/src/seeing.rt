@@ -1,5 +1,5 @@
 // A look at a ticket.
-ghost use Rattle.std.specs.Prelude.{false, true, ◌≡◌, ◌∷◌, [], IfOk, OnErr};
+ghost use Rattle.std.specs.Prelude.{false, true, ◌≡◌, ◌∷◌, [], IfOk, OnErr, OnOk};
 ghost use Rattle.sdr_machine.specs.Crash.{LeavesBefore};
 ghost use Rattle.sdr_machine.specs.Serving.{Brings, Doubts, Finds, KeepsGround, MeetsFault, Sees, after_look, is_sight};
 
@@ -9,6 +9,8 @@ use sdr_model::Answer;
 
 // Whether the daemon has left, or waits for a ticket that isn't granted.
 fn is_stuck<T: Backing>(base: &mut T, daemon: &Daemon) -> Result<bool, Fault>
+    requires { T.idle base.old }
+    ensures idle { OnOk result (T.idle base.new) }
     ensures found { IfOk result (λ stuck. Brings T.stands base.old base.new
         (Finds (daemon.now ∷ []) stuck)) }
     ensures fault { OnErr result (MeetsFault T.HasGround base.old base.new) }
@@ -29,6 +31,8 @@ fn is_stuck<T: Backing>(base: &mut T, daemon: &Daemon) -> Result<bool, Fault>
 
 // Whether all of these daemons have left, or wait for tickets that aren't granted.
 fn are_stuck<T: Backing>(base: &mut T, daemons: &[Daemon]) -> Result<bool, Fault>
+    requires { T.idle base.old }
+    ensures idle { OnOk result (T.idle base.new) }
     ensures found { IfOk result (λ stuck. Brings T.stands base.old base.new
         (Finds daemons.now stuck)) }
     ensures fault { OnErr result (MeetsFault T.HasGround base.old base.new) }
@@ -66,6 +70,8 @@ fn doubt<T: Backing>(
     daemon: &Daemon,
     ticket: u64,
 ) -> Result<Answer, Fault>
+    requires { T.idle base.old }
+    ensures idle { OnOk result (T.idle base.new) }
     ensures seen { IfOk result (λ answer. Brings T.stands base.old base.new
         (Doubts roll.now daemon.now ticket answer)) }
     ensures kind { IfOk result (λ answer. is_sight answer ≡ true) }
@@ -90,6 +96,8 @@ pub fn sight<T: Backing>(
     daemon: &Daemon,
     ticket: u64,
 ) -> Result<Answer, Fault>
+    requires { T.idle base.old }
+    ensures idle { OnOk result (T.idle base.new) }
     ensures seen { IfOk result (λ answer. Brings T.stands base.old base.new
         (Sees roll.now daemon.now ticket answer)) }
     ensures kind { IfOk result (λ answer. is_sight answer ≡ true) }

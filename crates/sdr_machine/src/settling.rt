@@ -8,6 +8,8 @@ use sdr_model::Close;
 
 // Rolls the transaction back.
 fn roll_back<T: Backing>(base: &mut T) -> Result<(), Halt>
+    requires { T.sound base.old }
+    ensures idle { OnOk result (T.idle base.new) }
     ensures put_back { OnOk result (Brings T.stands base.old base.new RollsBack) }
     ensures fault { OnErr result (MeetsFault T.HasGround base.old base.new) }
     ensures only { IsErrOf result Halt.Memory → ⊥ }
@@ -20,9 +22,12 @@ fn roll_back<T: Backing>(base: &mut T) -> Result<(), Halt>
     }
 }
 
-/// Keeps the open transaction or puts it back, by how it closes. Only one that is kept may find no memory, which
-/// leaves all as before.
+/// Keeps the open transaction, in which no call was stopped, or puts it back, by how it closes. Only one that is kept may
+/// find no memory, which leaves all as before.
 pub fn settle<T: Backing>(base: &mut T, close: Close) -> Result<(), Halt>
+    requires sound { T.sound base.old }
+    requires going { is_kept close ≡ true → T.going base.old }
+    ensures idle { OnOk result (T.idle base.new) }
     ensures left { OnOk result (Brings T.stands base.old base.new (Settles close)) }
     ensures memory { IsErrOf result Halt.Memory → base.new ≡ base.old }
     ensures only { IsErrOf result Halt.Memory → is_kept close ≡ true }

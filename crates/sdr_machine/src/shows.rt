@@ -1,4 +1,5 @@
 // A ground whose media are asked outside.
+ghost use Rattle.sdr_machine.specs.Served.{StaysAsReady};
 ghost use Rattle.sdr_machine.specs.Serving.{Brings, KeepsGround, ShowsBytes};
 ghost use Rattle.std.specs.Prelude.{true};
 
@@ -10,5 +11,6 @@ pub trait Shows: Backing {
     /// Shows these bytes, or those that it shows already.
     fn show(&mut self, given: Option<Bytes>)
         ensures shown { Brings Self.stands self.old self.new (ShowsBytes given) }
-        ensures keeps { KeepsGround Self.HasGround true self.old self.new };
+        ensures keeps { KeepsGround Self.HasGround true self.old self.new }
+        ensures stays { StaysAsReady Self.HasGround self.old self.new };
 }

@@ -103,6 +103,7 @@ module _ {D M : Type 0} (d : DiskGhosts D) (m : MediaGhosts M) (read_now : (x : 
   begins_now = record {
     told = refl;
     daemons_are = refl;
+    idle = record { going = record { sound = o.open_so.sound; going = o.open_so.going }; idle = o.open_so.idle };
     later = started;
     faults = o.later;
     lapses = record { faults = omega arith; short = omega arith };

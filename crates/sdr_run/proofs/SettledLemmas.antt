@@ -9,7 +9,7 @@ use Rattle.sdr_machine.specs.Standing.{GroundState}
 use Rattle.sdr_machine.specs.declared.has_ground.HasGround.{Ghosts}
 use Rattle.sdr_run.specs.Settled.{LeavesWhere, StandsWhere, crash_now}
 use Rattle.sdr_station.proofs.GroundLemmas.{heap_ground, lapses_of}
-use Rattle.sdr_station.specs.Grounded.{Grounded, OpensAs, StandsForBoth, StandsInMemory}
+use Rattle.sdr_station.specs.Grounded.{Grounded, IsGoing, HasNoCalls, HasDiskSound, OpensAs, StandsForBoth, StandsInMemory}
 
 -- the heap as a ground under the condition, where the disk and media are told so
 abbrev pub ground_where : {D M : Type 0} → (condition : Type 0) → (D → Option (List ℕ)) → (D → ℕ) → (D → ℕ) → (D → ℕ → List ℕ → Type 0) → MediaGhosts M
@@ -21,10 +21,15 @@ ground_where condition told moment faults may_hold_after media = record {
   lapses = λ g. lapses_of media g.media;
   told = λ g. media.told g.media;
   lasts = λ g _. ⊤;
+  sound = λ g. HasDiskSound g;
+  going = λ g. IsGoing g;
+  idle = λ g. HasNoCalls g;
   left = λ g m image. LeavesWhere condition told may_hold_after g.heap.cells.disk m image;
   opens = λ image s. OpensAs image s;
   crash_now = λ g v image at left. crash_now condition told moment may_hold_after g v image at left;
   lasts_less = λ g n lasts. lasts;
+  idle_going = λ g idle. idle.going;
+  going_sound = λ g going. going.sound;
 }
 
 module _ {D M : Type 0} (condition : Type 0) (told : D → Option (List ℕ)) (moment faults : D → ℕ) (may_hold_after : D → ℕ → List ℕ → Type 0)

@@ -64,6 +64,12 @@ impl<D: Disk, M: Media, J: HandedIn> HasGround for HandedGround<D, M, J> {
 
     ghost lasts = { λ _ _. ⊤ };
 
+    ghost sound = { λ g. grounded.HasDiskSound g };
+
+    ghost going = { λ g. grounded.IsGoing g };
+
+    ghost idle = { λ g. grounded.HasNoCalls g };
+
     ghost left = { λ g m image.
         under.LeavesWhere J.condition D.bytes D.may_hold_after g.heap.cells.disk m image };
 
@@ -73,6 +79,10 @@ impl<D: Disk, M: Media, J: HandedIn> HasGround for HandedGround<D, M, J> {
         under.crash_now J.condition D.bytes D.moment D.may_hold_after g v image at left };
 
     ghost lasts_less = { λ g n lasts. lasts };
+
+    ghost idle_going = { λ g idle. idle.going };
+
+    ghost going_sound = { λ g going. going.sound };
 }
 
 impl<D: Disk, M: Media, J: HandedIn> Backing for HandedGround<D, M, J> {
@@ -93,7 +103,7 @@ impl<D: Disk, M: Media, J: HandedIn> Backing for HandedGround<D, M, J> {
     }
 
     fn look(&mut self, ticket: u64) -> Result<Option<bool>, Fault> {
-        HeapGround::look(&mut self.ground, ticket)
+        Ok(HeapGround::look(&mut self.ground, ticket))
     }
 }
 

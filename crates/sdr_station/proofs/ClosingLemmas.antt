@@ -137,39 +137,6 @@ memory_back old disk now = record {
       };
 }
 
--- the one whose transaction was dropped: its lines were put back, and it can only be put back
-abbrev pub dropped_ground : {D M : Type 0} → Grounded D M → D → ℕ → Grounded D M
-dropped_ground old disk now = record {
-  heap = closing.heap_rolled_back old.heap disk;
-  media = old.media;
-  shown = old.shown;
-  stopped = true;
-  idle = false;
-  moment = now;
-  restored = old.restored;
-}
-
--- what is dropped in memory: the states stay
-pub memory_dropped : {D M : Type 0} (old : Grounded D M) (disk : D) (now : ℕ)
-    → Brings StandsInMemory old (dropped_ground old disk now) SameStates
-memory_dropped old disk now = record {
-  each = λ v at. record {
-    for = v;
-    holds = record {
-      sound = at.sound;
-      size = at.size;
-      before = at.before;
-      taken = at.taken;
-      gave = at.gave;
-      stood = at.stood;
-      now = λ going. absurd (true≢false going);
-      idle = λ idle. absurd (true≢false (sym idle));
-      moves = at.moves;
-    };
-    tells = record { before = refl; now = refl };
-  };
-}
-
 -- what a close that was answered leaves of a ground
 pub record ClosesTo {D M : Type 0} (told : D → Option (List ℕ)) (moment faults : D → ℕ) (may_hold_after : D → ℕ → List ℕ → Type 0)
     (media : MediaGhosts M) (may_keep : Bool) (P : GroundState → GroundState → Type 0) (old new : Grounded D M) : Type
@@ -303,18 +270,6 @@ module _ {D M : Type 0} (told : D → Option (List ℕ)) (moment : D → ℕ) (f
       (closes_to (back_ground old disk now) refl refl refl sound (λ _. refl) ground later rests (memory_back old disk now)
       (leaves_back (back_ground old disk now) refl refl also))
 
-  -- a transaction that is dropped
-  pub closes_dropped : (new : Grounded D M) → new ≡ dropped_ground old disk now → IsGround moment old
-      → faults old.heap.cells.disk ≤ faults disk
-      → (Rests told moment may_hold_after old.heap.cells → Rests told moment may_hold_after (dropped_ground old disk now).heap.cells)
-      → ((image : List ℕ) → P image → GivesHeap old.heap.cells.begun image)
-      → ClosesTo told moment faults may_hold_after media false SameStates old new
-  closes_dropped new same ground later rests also =
-      subst (λ (n : Grounded D M). ClosesTo told moment faults may_hold_after media false SameStates old n) (sym same)
-      (closes_to (dropped_ground old disk now) refl refl refl sound (λ idle. absurd (true≢false (sym idle))) ground later rests
-      (memory_dropped old disk now)
-      (leaves_back (dropped_ground old disk now) refl refl also))
-
 -- where a close is stopped, the disk has failed
 pub stop_fails : (old new : Transaction) (s : Stop) → Explains {T = Unit {0}} old new (Err s) → IfRefused {T = Unit {0}} (Err s) (λ _. ⊥)
     → new.failed ≡ true
@@ -340,12 +295,3 @@ meets_fault {D} told moment faults may_hold_after media old new cells s same sou
     rose stops.DiskFault explained none = explained.2
     rose stops.MediaFault explained none = absurd explained
     rose stops.Failed explained none = absurd (true≢false (sym explained.0 ∙ sound))
-
--- a ground whose disk has failed stands for nothing in memory, and so anything is brought and left
-pub brings_failed : {D M : Type 0} {P : GroundState → GroundState → Type 0} (old new : Grounded D M) → old.heap.cells.failed ≡ true
-    → Brings StandsInMemory old new P
-brings_failed old new failed = record { each = λ v at. absurd (true≢false (sym failed ∙ at.sound)) }
-
-pub leaves_failed : {D M : Type 0} (told : D → Option (List ℕ)) (moment faults : D → ℕ) (may_hold_after : D → ℕ → List ℕ → Type 0)
-    (media : MediaGhosts M) (old new : Grounded D M) → old.heap.cells.failed ≡ true → LeavesBefore (heap_ground told moment faults may_hold_after media) old new
-leaves_failed told moment faults may_hold_after media old new failed = record { each = λ v at. absurd (true≢false (sym failed ∙ at.memory.sound)) }

@@ -1,6 +1,6 @@
 -- A heap on an image as a ground.
 use Rattle.std.proofs.Common.{◌≡◌, ◌∙◌, ◌≤◌, ◌/◌, ◌%◌, ◌==◌, ◌&&◌, ℕ, List, suc, zero, true, false, true≢false, Bool, Option, refl, sym, ap, subst}
-use Rattle.std.specs.Prelude.{replicate, get_or, ⊤}
+use Rattle.std.specs.Prelude.{replicate, get_or, ⊤, OnOk, Result, Ok, Err}
 use Rattle.sdr_base.specs.declared.line.TheConstants.{WORD}
 use Rattle.sdr_base.specs.declared.media.Media.{Ghosts as MediaGhosts}
 use Rattle.sdr_heap.specs.Noted.{marked_in}
@@ -10,7 +10,7 @@ use Rattle.sdr_machine.specs.Serving.{Brings, KeepsGround}
 use Rattle.sdr_machine.specs.Standing.{GroundState}
 use Rattle.sdr_machine.specs.declared.has_ground.HasGround.{Ghosts}
 use Rattle.sdr_station.specs.CrashNow.{crash_now}
-use Rattle.sdr_station.specs.Grounded.{Grounded, IsGround, Leaves, OpensAs, StandsForBoth, StandsInMemory}
+use Rattle.sdr_station.specs.Grounded.{Grounded, IsGoing, IsGround, HasNoCalls, HasDiskSound, Leaves, OpensAs, StandsForBoth, StandsInMemory}
 
 -- how often media have failed, and have given fewer bytes than were asked for
 abbrev pub lapses_of : {M : Type 0} → MediaGhosts M → M → Lapses
@@ -26,10 +26,15 @@ heap_ground told moment faults may_hold_after media = record {
   lapses = λ g. lapses_of media g.media;
   told = λ g. media.told g.media;
   lasts = λ g _. ⊤;
+  sound = λ g. HasDiskSound g;
+  going = λ g. IsGoing g;
+  idle = λ g. HasNoCalls g;
   left = λ g m image. Leaves told may_hold_after g.heap.cells.disk m image;
   opens = λ image s. OpensAs image s;
   crash_now = λ g v image at left. crash_now told moment may_hold_after g v image at left;
   lasts_less = λ g n lasts. lasts;
+  idle_going = λ g idle. idle.going;
+  going_sound = λ g going. going.sound;
 }
 
 none_of : (n i : ℕ) → get_or (replicate n false) i false ≡ false
@@ -83,3 +88,9 @@ pub keeps_later : {D M : Type 0} (told : D → Option (List ℕ)) (moment faults
 keeps_later {M = M} told moment faults may_hold_after media old new unread later =
     keeps_read told moment faults may_hold_after media old new (ap media.told unread)
     (subst (λ (files : M). LapsesLast (lapses_of media old.media) (lapses_of media files)) (sym unread) (lapses_same (lapses_of media old.media))) later
+
+-- where it was put back, no transaction is open on it
+pub restored_idle : {D M T E : Type 0} (r : Result T E) (old new : Grounded D M) → HasDiskSound old → OnOk r (HasDiskSound old → new.stopped ≡ false)
+    → OnOk r (HasDiskSound old → new.idle ≡ true) → OnOk r (new.heap.cells.failed ≡ old.heap.cells.failed) → OnOk r (HasNoCalls new)
+restored_idle (Ok x) old new sound going idle still = record { going = record { sound = still ∙ sound; going = going sound }; idle = idle sound }
+restored_idle (Err e) old new sound going idle still = tt

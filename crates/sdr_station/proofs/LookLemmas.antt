@@ -21,10 +21,9 @@ use Rattle.sdr_machine.specs.Serving.{Brings, Shows, SameStates, shown_in}
 use Rattle.sdr_machine.specs.Standing.{GroundState}
 use Rattle.sdr_log.specs.Frame.{room_of}
 use Rattle.sdr_log.specs.declared.frame.Frame.{Frame}
-use Rattle.sdr_station.proofs.ClosingLemmas.{dropped_ground, within_of}
 use Rattle.sdr_station.proofs.GroundLemmas.{heap_ground}
 use Rattle.sdr_station.proofs.ServingLemmas.{image_heap}
-use Rattle.sdr_station.specs.Grounded.{Grounded, HasStood, HoldsWorld, IsBefore, IsGround, Leaves, StandsAtRest, StandsForBoth, StandsInMemory, StandsWithin, heap_in}
+use Rattle.sdr_station.specs.Grounded.{Grounded, HasStood, HoldsWorld, IsBefore, IsGround, Leaves, StandsAtRest, StandsForBoth, StandsInMemory, StandsWithin, heap_in, HasNoCalls}
 use Rattle.step_zco.proofs.AccountGoodLemmas.{good_of}
 use Rattle.step_zco.specs.AccountAnswering.{IsGood, Sees}
 
@@ -38,16 +37,6 @@ before_idle moment g ground idle = record {
   some = ground.stands (ground.sound (ground.going idle));
   holds = λ v at.
       subst (λ (s : State). HoldsWorld g.heap s.world) (at.idle idle) (within_holds (at.now (ground.going idle)));
-}
-
--- and so does one whose changes were dropped
-pub before_dropped : {D M : Type 0} (moment : D → ℕ) (old : Grounded D M) (disk : D) (now : ℕ)
-    → IsGround moment (dropped_ground old disk now) → old.heap.cells.failed ≡ false → IsBefore (dropped_ground old disk now)
-before_dropped moment old disk now ground sound = record {
-  some = ground.stands sound;
-  holds = λ v at.
-      within_holds
-      (within_of (dropped_ground old disk now).heap (length old.heap.marks) v.before refl refl at.size at.before);
 }
 
 -- there is a heap in it
@@ -146,48 +135,9 @@ looks_never faults old heap stops.DiskFault looks sound fault =
 looks_never faults old heap stops.MediaFault looks sound fault = fault
 looks_never faults old heap stops.Failed looks sound fault = true≢false (sym looks.cause.explained.0 ∙ sound)
 
--- what stands still is shown as what follows is
-pub shows_later : {D M : Type 0} {S : Grounded D M → GroundState → Type 0} (old mid new : Grounded D M) (ticket : ℕ) (granted : Option Bool)
-    → Brings S old mid SameStates → Brings S mid new (Shows ticket granted) → Brings S old new (Shows ticket granted)
-shows_later old mid new ticket granted first second = record {
-  each = λ v at.
-      let s = first.each v at in
-      let t = second.each s.for s.holds in
-      record {
-        for = t.for;
-        holds = t.holds;
-        tells = record {
-          shown = t.tells.shown ∙ ap (λ (b : State). shown_in b.world ticket) s.tells.before;
-          still = record {
-            before = t.tells.still.before ∙ s.tells.before;
-            now = t.tells.still.now ∙ s.tells.now;
-          };
-        };
-      };
-}
-
--- a ground whose disk has failed stands for nothing, and so anything is shown
-pub shows_failed : {D M : Type 0} (told : D → Option (List ℕ)) (moment : D → ℕ)
-    (may_hold_after : D → ℕ → List ℕ → Type 0)
-    (old new : Grounded D M) (ticket : ℕ) → old.heap.cells.failed ≡ true
-    → Brings (λ g v. StandsForBoth told moment may_hold_after g v) old new (Shows ticket None)
-shows_failed told moment may_hold_after old new ticket failed = record {
-  each = λ v at. absurd (true≢false (sym failed ∙ at.memory.sound));
-}
-
--- a crash leaves what it did where the disk and the moment stay
-pub leaves_later : {D M : Type 0} (told : D → Option (List ℕ)) (moment faults : D → ℕ) (may_hold_after : D → ℕ → List ℕ → Type 0)
-    (media : MediaGhosts M) (old mid new : Grounded D M) → new.heap.cells.disk ≡ mid.heap.cells.disk → new.moment ≡ mid.moment
-    → LeavesBefore (heap_ground told moment faults may_hold_after media) old mid
-    → LeavesBefore (heap_ground told moment faults may_hold_after media) old new
-leaves_later {D} told moment faults may_hold_after media old mid new disk same leaves = record {
-  each = λ v at.
-      let e = leaves.each v at in
-      record {
-        later = omega (arith, e.later, same);
-        each = λ m image ge le l.
-            e.each m image ge (omega (arith, le, same))
-            (subst (λ (d : D). Leaves told may_hold_after d m image) disk l);
-        past = λ m image le l. e.past m image le (subst (λ (d : D). Leaves told may_hold_after d m image) disk l);
-      };
+-- no transaction is open on it
+pub looked_idle : {D M : Type 0} (old new : Grounded D M) → new ≡ record old { heap = new.heap } → IsQuiet old.heap.cells new.heap.cells → HasNoCalls old → HasNoCalls new
+looked_idle {D} {M} old new same quiet idle = record {
+  going = record { sound = quiet.failed ∙ idle.going.sound; going = ap (λ (g : Grounded D M). g.stopped) same ∙ idle.going.going };
+  idle = ap (λ (g : Grounded D M). g.idle) same ∙ idle.idle;
 }

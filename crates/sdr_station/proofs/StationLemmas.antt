@@ -73,16 +73,3 @@ undoomed_noted call (replies.Refused refusal) n none = by (is_reading call) none
     by true none = refl
     by false none = absurd cc
 undoomed_noted call reply n none = refl
-
--- a reply keeps the depth
-pub noted_depth : (call : Call) (reply : Reply) (n : Nesting) → (noted call reply n).depth ≡ n.depth
-noted_depth call (replies.Refused refusal) n = by (is_reading call)
-  where
-    by : (b : Bool) → (if b then n else doomed_for (reasons.Refused (refusal_number refusal)) n).depth ≡ n.depth
-    by true = refl
-    by false = refl
-noted_depth call reply n = by (is_reading call)
-  where
-    by : (b : Bool) → (if b then n else record n { modified = true }).depth ≡ n.depth
-    by true = refl
-    by false = refl

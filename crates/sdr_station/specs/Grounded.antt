@@ -30,6 +30,20 @@ pub record Grounded (D M : Type 0) : Type 0 where
   pub moment : ℕ
   pub restored : ℕ
 
+-- its disk hasn't failed
+abbrev pub HasDiskSound : {D M : Type 0} → Grounded D M → Type 0
+HasDiskSound g = g.heap.cells.failed ≡ false
+
+-- no call of the open transaction was stopped on its way
+pub record IsGoing {D M : Type 0} (g : Grounded D M) : Type 0 where
+  pub sound : HasDiskSound g
+  pub going : g.stopped ≡ false
+
+-- no call was made in it
+pub record HasNoCalls {D M : Type 0} (g : Grounded D M) : Type 0 where
+  pub going : IsGoing g
+  pub idle : g.idle ≡ true
+
 -- the blocks, the control words, the marks and the moves of a heap on an image
 abbrev pub heap_in : {D : Type 0} → Held (Opened D) → Heap
 heap_in h = record {

@@ -1,19 +1,20 @@
 // A heap on an image as the ground of a lock.
-ghost use Rattle.std.specs.Prelude.{◌≡◌, ◌≤◌, ◌↔◌, false, true, length};
-ghost use Rattle.std.specs.Prelude.{IfErr, IfOk, IsErrOf, IsOk, OnErr, OnOk};
+ghost use Rattle.std.specs.Prelude.{◌≡◌, ◌≤◌, false, true, length};
+ghost use Rattle.std.specs.Prelude.{IfErr, IfOk, IsErrOf, OnErr, OnOk};
 ghost use Rattle.sdr_disk.specs.Moments.{AtEach};
 ghost use Rattle.sdr_disk.specs.Told.{Both, IfTold};
 ghost use Rattle.sdr_image.specs.Opening.{MayBeOpened};
 ghost use Rattle.sdr_machine.specs.Crash.{LeavesBefore, LeavesEither};
 ghost use Rattle.sdr_machine.specs.Lapses.{HasLapseCause};
-ghost use Rattle.sdr_machine.specs.Serving.{Brings, Calls, Commits, KeepsGround, MeetsFault, RollsBack, Shows, SameStates};
+ghost use Rattle.sdr_machine.specs.Served.{GoesOnAfter};
+ghost use Rattle.sdr_machine.specs.Serving.{Brings, Calls, Commits, KeepsGround, MeetsFault, RollsBack, Shows};
 ghost use Rattle.sdr_image.specs.Opened.{IsQuiet};
 ghost use Rattle.sdr_machine.specs.Standing.{GroundState};
 ghost use Rattle.sdr_log.specs.Calls.{KeepsDisk, KeepsRest};
 ghost use Rattle.sdr_log.specs.Logged.{GivesSame};
 ghost use Rattle.sdr_model.specs.Reading.{is_reading};
 ghost use Rattle.step_things.specs.Answering.{dooms};
-ghost use Rattle.sdr_station.specs.Grounded.{IsBefore, StandsForBoth, StandsInMemory, StaysInside};
+ghost use Rattle.sdr_station.specs.Grounded.{IsGoing, HasNoCalls, HasDiskSound, StandsInMemory, StaysInside};
 ghost use Rattle.sdr_station.specs.Giving.{AsksMedia, GivesReply, reads_by};
 ghost use Rattle.sdr_station.specs.Opening.{ExplainsOpen, IsOfAudit, IsOfImage, IsOpen, LeavesBytes, MayBeAgain, disk_of};
 ghost use Rattle.sdr_station.specs.Opening.{media_of};
@@ -98,6 +99,12 @@ impl<D: Disk, M: Media, F: Notify + Drop> HasGround for HeapGround<D, M, F> {
 
     ghost lasts = { λ _ _. ⊤ };
 
+    ghost sound = { λ g. grounded.HasDiskSound g };
+
+    ghost going = { λ g. grounded.IsGoing g };
+
+    ghost idle = { λ g. grounded.HasNoCalls g };
+
     ghost left = { λ g m image. grounded.Leaves D.bytes D.may_hold_after g.heap.cells.disk m image };
 
     ghost opens = { λ image s. grounded.OpensAs image s };
@@ -106,6 +113,10 @@ impl<D: Disk, M: Media, F: Notify + Drop> HasGround for HeapGround<D, M, F> {
         laws.crash_now D.bytes D.moment D.may_hold_after g v image at left };
 
     ghost lasts_less = { λ g n lasts. lasts };
+
+    ghost idle_going = { λ g idle. idle.going };
+
+    ghost going_sound = { λ g going. going.sound };
 }
 
 // Why an image wasn't opened.
@@ -318,52 +329,18 @@ impl<D: Disk, M: Media, F: Notify + Drop> HeapGround<D, M, F> {
         }
     }
 
-    // Rolls the lines of the open transaction back, which can only be rolled back from then on, and answers whether
-    // the disk hadn't failed.
-    fn roll_back_for_look(&mut self) -> Result<bool, Fault>
-        ensures memory { OnOk result (Brings StandsInMemory self.old self.new SameStates) }
-        ensures dropped { OnOk result
-            (Brings ⟦<HeapGround<D, M, F> as HasGround>⟧.stands self.old self.new SameStates) }
-        ensures back { IfOk result (λ sound. sound ≡ true
-            → (self.new.heap.cells.failed ≡ false) × IsBefore self.new) }
-        ensures failed { IfOk result (λ sound. sound ≡ false → self.old.heap.cells.failed ≡ true) }
-        ensures fault { OnErr result
-            (MeetsFault ⟦<HeapGround<D, M, F> as HasGround>⟧ self.old self.new) }
-        ensures restored { self.new.restored ≡ self.old.restored }
-        ensures media { self.new.media ≡ self.old.media }
+    /// Whether the ticket is there, and granted, where no transaction is open.
+    pub fn look(&mut self, ticket: u64) -> Option<bool>
+        requires idle { self.old.idle ≡ true }
+        ensures memory { Brings StandsInMemory self.old self.new (Shows ticket result) }
+        ensures shown { Brings ⟦<HeapGround<D, M, F> as HasGround>⟧.stands self.old self.new
+            (Shows ticket result) }
+        ensures same { self.new ≡ record self.old { heap = self.new.heap } }
+        ensures quiet { IsQuiet self.old.heap.cells self.new.heap.cells }
         ensures time { self.old.moment ≤ self.new.moment }
         ensures keeps { KeepsGround ⟦<HeapGround<D, M, F> as HasGround>⟧ false self.old self.new }
         ensures inside { StaysInside D.bytes self.old self.new }
         ensures any_moment { LeavesBefore ⟦<HeapGround<D, M, F> as HasGround>⟧ self.old self.new }
-    {
-        match cancel(&mut self.heap) {
-            Ok(()) => {
-                self.moment = moment_of(&mut self.heap);
-                self.stopped = true;
-                self.idle = false;
-                Ok(true)
-            }
-            Err(Stop::DiskFault) => {
-                self.moment = moment_of(&mut self.heap);
-                self.stopped = true;
-                self.idle = false;
-                Err(Fault)
-            }
-            Err(Stop::Failed) => Ok(false),
-            Err(Stop::MediaFault) => unreachable!(),
-            Err(Stop::Refused(_)) => unreachable!(),
-        }
-    }
-
-    // Whether the ticket is there, and granted, where the heap in memory is that before the open transaction.
-    fn see(&mut self, ticket: u64) -> Option<bool>
-        requires sound { self.old.heap.cells.failed ≡ false }
-        requires before { IsBefore self.old }
-        ensures shown { Brings StandsInMemory self.old self.new (Shows ticket result) }
-        ensures stands { Brings ⟦<HeapGround<D, M, F> as HasGround>⟧.stands self.old self.new
-            (Shows ticket result) }
-        ensures same { self.new ≡ record self.old { heap = self.new.heap } }
-        ensures quiet { IsQuiet self.old.heap.cells self.new.heap.cells }
     {
         match look(&mut self.heap, ticket) {
             Ok(granted) => granted,
@@ -371,32 +348,6 @@ impl<D: Disk, M: Media, F: Notify + Drop> HeapGround<D, M, F> {
         }
     }
 
-    /// Whether the ticket is there, and granted, before the open transaction. Where a call was made in that, its
-    /// lines are put back first, and it can only be put back from then on.
-    pub fn look(&mut self, ticket: u64) -> Result<Option<bool>, Fault>
-        ensures memory { IfOk result (λ granted.
-            Brings StandsInMemory self.old self.new (Shows ticket granted)) }
-        ensures shown { IfOk result (λ granted.
-            Brings ⟦<HeapGround<D, M, F> as HasGround>⟧.stands self.old self.new
-            (Shows ticket granted)) }
-        ensures idle { self.old.idle ≡ true → (self.new ≡ record self.old { heap = self.new.heap })
-            × IsQuiet self.old.heap.cells self.new.heap.cells × IsOk result }
-        ensures media { self.new.media ≡ self.old.media }
-        ensures fault { OnErr result
-            (MeetsFault ⟦<HeapGround<D, M, F> as HasGround>⟧ self.old self.new) }
-        ensures time { self.old.moment ≤ self.new.moment }
-        ensures keeps { KeepsGround ⟦<HeapGround<D, M, F> as HasGround>⟧ false self.old self.new }
-        ensures inside { StaysInside D.bytes self.old self.new }
-        ensures any_moment { LeavesBefore ⟦<HeapGround<D, M, F> as HasGround>⟧ self.old self.new }
-    {
-        if self.idle {
-            return Ok(self.see(ticket));
-        }
-        if self.roll_back_for_look()? {
-            return Ok(self.see(ticket));
-        }
-        Ok(None)
-    }
 
     /// The disk and the media. What the open transaction has done is lost.
     pub fn into_parts(self) -> (D, M)
@@ -454,8 +405,9 @@ impl<D: Disk, M: Media, F: Notify + Drop> Backing for HeapGround<D, M, F> {
         self.moment
     }
 
-    // Want of memory comes just where a call was stopped.
+    // It never wants memory.
     fn call(&mut self, call: &Call) -> Result<Reply, Halt>
+        requires going { IsGoing self.old }
         ensures brings { IfOk result (λ reply.
             Brings StandsInMemory self.old self.new (Calls (M.told self.old.media) call.now reply)) }
         ensures answered { IfOk result (λ reply.
@@ -464,6 +416,9 @@ impl<D: Disk, M: Media, F: Notify + Drop> Backing for HeapGround<D, M, F> {
         ensures gap { IfOk result (λ reply. HasLapseCause (Answer.Reply reply)
             (⟦<HeapGround<D, M, F> as HasGround>⟧.lapses self.old)
             (⟦<HeapGround<D, M, F> as HasGround>⟧.lapses self.new)) }
+        ensures sound { OnOk result (HasDiskSound self.new) }
+        ensures going { IfOk result (λ reply.
+            GoesOnAfter ⟦<HeapGround<D, M, F> as HasGround>⟧ call.now reply self.new) }
         ensures dooms { IfOk result (λ reply. self.new.stopped ≡ dooms call.now reply) }
         ensures unread { IfOk result (λ reply.
             reads_by call.now reply ≡ false → self.new.media ≡ self.old.media) }
@@ -472,7 +427,7 @@ impl<D: Disk, M: Media, F: Notify + Drop> Backing for HeapGround<D, M, F> {
             → self.new.heap.cells.touched ≡ self.old.heap.cells.touched }
         ensures asks { AsksMedia M.Media call.now self.old self.new }
         ensures memory { IsErrOf result Halt.Memory → self.new ≡ self.old }
-        ensures stopped { IsErrOf result Halt.Memory ↔ (self.old.stopped ≡ true) }
+        ensures never { IsErrOf result Halt.Memory → ⊥ }
         ensures fault { IsErrOf result Halt.Fault
             → MeetsFault ⟦<HeapGround<D, M, F> as HasGround>⟧ self.old self.new }
         ensures time { self.old.moment ≤ self.new.moment }
@@ -480,20 +435,19 @@ impl<D: Disk, M: Media, F: Notify + Drop> Backing for HeapGround<D, M, F> {
         ensures inside { StaysInside D.bytes self.old self.new }
         ensures any_moment { LeavesBefore ⟦<HeapGround<D, M, F> as HasGround>⟧ self.old self.new }
     {
-        if self.stopped {
-            return Err(Halt::Memory);
-        }
         Ok(self.serve(call))
     }
 
-    // Want of memory comes just where a call was stopped.
+    // It never wants memory.
     fn keep(&mut self) -> Result<(), Halt>
+        requires going { IsGoing self.old }
         ensures brings { OnOk result (Brings StandsInMemory self.old self.new Commits) }
         ensures kept { OnOk result
             (Brings ⟦<HeapGround<D, M, F> as HasGround>⟧.stands self.old self.new Commits) }
         ensures media { self.new.media ≡ self.old.media }
+        ensures idle { OnOk result (HasNoCalls self.new) }
         ensures memory { IsErrOf result Halt.Memory → self.new ≡ self.old }
-        ensures stopped { IsErrOf result Halt.Memory ↔ (self.old.stopped ≡ true) }
+        ensures never { IsErrOf result Halt.Memory → ⊥ }
         ensures fault { IsErrOf result Halt.Fault
             → MeetsFault ⟦<HeapGround<D, M, F> as HasGround>⟧ self.old self.new }
         ensures time { self.old.moment ≤ self.new.moment }
@@ -501,9 +455,6 @@ impl<D: Disk, M: Media, F: Notify + Drop> Backing for HeapGround<D, M, F> {
         ensures inside { StaysInside D.bytes self.old self.new }
         ensures any_moment { LeavesEither ⟦<HeapGround<D, M, F> as HasGround>⟧ self.old self.new }
     {
-        if self.stopped {
-            return Err(Halt::Memory);
-        }
         match self.save() {
             Ok(()) => Ok(()),
             Err(Fault) => Err(Halt::Fault),
@@ -515,6 +466,6 @@ impl<D: Disk, M: Media, F: Notify + Drop> Backing for HeapGround<D, M, F> {
     }
 
     fn look(&mut self, ticket: u64) -> Result<Option<bool>, Fault> {
-        HeapGround::look(self, ticket)
+        Ok(HeapGround::look(self, ticket))
     }
 }

@@ -3,9 +3,8 @@
 //! 1. `HeapGround` is a heap on an image as the ground of a lock. What it stands for is a relation: the bytes at begin stand
 //!    for the world before the transaction, and the heap now for the one that it has made. Each call is a step of the machine.
 //!    Those that ask an object's bytes read the media that its sources name, and no other does.
-//! 2. Where a changing call is refused, the transaction can only be put back: `HeapGround` keeps nothing of it, and answers
-//!    want of memory where it is asked to.
-//!    It tells the moves of its last call and the bytes that it shows, and how many there may be (`Tells`).
+//! 2. Where a changing call is refused, the transaction can only be put back: another call, and a commit, may not be asked for.
+//!    `HeapGround` tells the moves of its last call and the bytes that it shows, and how many there may be (`Tells`).
 //! 3. `Station` nests transactions on such a ground: an end is all or nothing, a doomed call is refused, and after a disk
 //!    fault everything fails.
 //!
@@ -17,7 +16,6 @@
 //! which the heap stands (`asks`); ends, cancels, exits and looks leave them (`media`).
 //! No byte outside the disk's regions changes (`inside`), and unless it failed a disk that wasn't opened may be
 //! handed in again (`again`).
-//! That the lock never asks to keep a transaction with a stopped call is not proved.
 #![tactic(auto)]
 
 mod closing;

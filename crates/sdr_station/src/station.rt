@@ -118,10 +118,7 @@ impl<D: Disk, M: Media, F: Notify + Drop> Station<D, M, F> {
         if self.failed.is_some() {
             return Err(Stop::Failed);
         }
-        match self.ground.look(ticket) {
-            Ok(shown) => Self::ticket_told(ticket, shown),
-            Err(Fault) => unreachable!(),
-        }
+        Self::ticket_told(ticket, self.ground.look(ticket))
     }
 
     // What is told of a ticket that is shown so.

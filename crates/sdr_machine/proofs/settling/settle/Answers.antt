@@ -1,6 +1,7 @@
-use Rattle.std.proofs.Common.{OnOk, subst, sym}
+use Rattle.std.proofs.Common.{OnOk, subst, sym, ap}
 use Rattle.sdr_model.specs.declared.answer.Close.{Close}
 use Rattle.sdr_machine.specs.Serving.{Brings, Settles}
+use Rattle.sdr_machine.specs.Crash.{is_kept}
 use Rattle.sdr_machine.proofs.settling.settle.Goals as goal
 
 pub returns-in-Ended-clause-left : goal.returns-in-Ended-clause-left
@@ -18,3 +19,6 @@ returns-in-Cancelled-clause-left g c =
 pub returns-in-Faulted-clause-left : goal.returns-in-Faulted-clause-left
 returns-in-Faulted-clause-left g c =
     subst (λ (k : Close). OnOk c.roll_back-in-Faulted.result (Brings g.T.HasGround.stands c.args.base.now c.roll_back-in-Faulted.new.base (Settles k))) (sym c.in-Faulted.is) c.roll_back-in-Faulted.ensures.put_back
+
+pub keep-requires : goal.keep-requires
+keep-requires g c = record { going = c.requires.going (ap is_kept c.in-Ended.is) }

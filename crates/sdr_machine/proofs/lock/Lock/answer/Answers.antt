@@ -36,3 +36,11 @@ perform-requires-clause-drawn g c =
     let d = c.in-Some.daemon in
     let some : daemon_of self.roll c.args.id ≡ Some d = subst (λ (l : Locked T). daemon_of l.roll c.args.id ≡ Some d) c.self.view_is (sym c.in-Some.ensures) in
     may_draw_found self.roll c.args.id d some c.requires.drawn
+
+pub perform-requires-clause-found : goal.perform-requires-clause-found
+perform-requires-clause-found g c =
+    let T = g.row.T.Denot in
+    let self : Locked T = c.args.self.now in
+    let d = c.in-Some.daemon in
+    let some : daemon_of self.roll c.args.id ≡ Some d = subst (λ (l : Locked T). daemon_of l.roll c.args.id ≡ Some d) c.self.view_is (sym c.in-Some.ensures) in
+    subst (λ id. daemon_of self.roll id ≡ Some d) (sym (found_id c.args.id self.roll.daemons d some)) some

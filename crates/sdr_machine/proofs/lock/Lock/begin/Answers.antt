@@ -12,6 +12,7 @@ use Rattle.sdr_machine.specs.Roll.{at_nesting, with_daemon}
 use Rattle.sdr_machine.specs.Serving.{Locked, is_disk_fault, machine_at}
 use Rattle.sdr_machine.proofs.LockLemmas.{acts_also, acts_told, tells_media, told}
 use Rattle.sdr_machine.proofs.WorkLemmas.{on_false, on_true, works_nests}
+use Rattle.sdr_machine.proofs.ServedLemmas.{fits_deepened, lock_nested}
 use Rattle.sdr_machine.proofs.lock.Lock.begin.Goals as goal
 
 pub returns-then-nesting-eq0 : goal.returns-then-nesting-eq0
@@ -50,3 +51,13 @@ returns g c =
     acts_told g.T.HasGround _ _ d.id _ inner.answer c.told.result old _ new (with_daemon old.roll (at_nesting d h inner.after))
     c.self.view_is (c.told.ensures ∙ ap told c.begin-answer.ensures.answer) (no_fault h.nesting) (untold h.nesting) refl put (λ none. none)
     (λ v line goes. on_false _ _ _ within (inl (works_nests (machine_at old.roll v) (machine_at new.roll v) d h events.Begin _ inner (λ said t' nests. nests) goes)))
+
+pub invariant_of-self : goal.invariant_of-self
+invariant_of-self g c =
+    let h = c.args.holding in
+    let d = c.args.daemon in
+    let T = g.row.T.Denot in
+    let old : Locked T = record { roll = c.self.inside.roll; base = c.self.inside.base } in
+    lock_nested g.T.HasGround old c.args.self.now c.self.view_is c.self.invariant d h (deepened h.nesting).after c.put.new.self old.base
+    c.requires.turn (c.put.ensures ∙ ap (with_daemon old.roll) (c.at_nesting.ensures ∙ ap (at_nesting d h) c.begin-answer.ensures.after))
+    (λ was. (was.0, fits_deepened g.T.HasGround h.nesting old.base was.1))

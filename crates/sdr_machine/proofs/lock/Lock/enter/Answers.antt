@@ -39,3 +39,12 @@ returns-clause-enters g c =
     if_ok c.serve.result _ _ (λ a acts. acts_also g.T.HasGround _ _ _ _ c.args.daemon.id c.args.event.now a self c.serve.new.self
     (keeps_served self.roll h c.args.event.now mine inside)
     (λ v v' line serves. on_false _ _ _ inside (on_true _ _ _ mine serves)) acts) c.serve.ensures.serves
+
+pub serve-requires-clause-turn : goal.serve-requires-clause-turn
+serve-requires-clause-turn g c =
+    let T = g.row.T.Denot in
+    let serving : c.serving-serving.result ≡ served_number c.args.self.now.roll = c.serving-serving.ensures ∙ ap (λ (l : Locked T). served_number l.roll) c.self.view_is in
+    record { held = c.requires.held; served = omega (arith, serving, c.if-serving-mine.false) }
+
+pub serve-requires-clause-inside : goal.serve-requires-clause-inside
+serve-requires-clause-inside g c = sym c.is_outside.ensures ∙ c.if-is_outside.false

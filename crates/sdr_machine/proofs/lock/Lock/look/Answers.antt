@@ -1,11 +1,11 @@
-use Rattle.std.proofs.Common.{◌≡◌, ◌∙◌, ap, false, inl, inr, refl, subst, sym, true, true≢false, []}
+use Rattle.std.proofs.Common.{◌≡◌, ◌∙◌, ap, false, inl, inr, refl, subst, sym, true, true≢false, [], Some}
 use Rattle.sdr_model.specs.declared.event.Event.TheVariants as events
-use Rattle.sdr_machine.specs.Crash.{LeavesBefore}
-use Rattle.sdr_machine.specs.Roll.{when_done, with_daemon}
-use Rattle.sdr_machine.specs.Serving.{KeepsGround, Locked, MeetsFault, Sees, after_look, machine_at}
+use Rattle.sdr_machine.specs.Roll.{when_done, with_daemon, Roll, daemon_of}
+use Rattle.sdr_machine.specs.Serving.{Locked, Sees, after_look, machine_at}
 use Rattle.sdr_machine.proofs.GroundLemmas.{keeps_more}
 use Rattle.sdr_machine.proofs.LockLemmas.{acts_asked, acts_failed, agrees_untold, no_gap_cause, sight_no_fault, sight_untold, told}
 use Rattle.sdr_machine.proofs.WorkLemmas.{looks_so}
+use Rattle.sdr_machine.proofs.ServedLemmas.{lock_done, lock_failed, looked_free}
 use Rattle.sdr_machine.proofs.lock.Lock.look.Goals as goal
 
 pub returns-in-Ok : goal.returns-in-Ok
@@ -33,10 +33,21 @@ returns-in-Err g c =
     let d = c.args.daemon in
     let T = g.row.T.Denot in
     let old : Locked T = record { roll = c.self.inside.roll; base = c.self.inside.base } in
-    let base = c.fail.ensures.base in
-    acts_failed g.T.HasGround false _ d.id _ c.fail.result old _ c.fail.new.self (with_daemon old.roll (when_done d))
-    c.self.view_is c.fail.ensures.answer c.requires.sound
-    (subst (λ (t : T). MeetsFault g.T.HasGround old.base t) (sym base) c.in-Err.ensures.fault)
-    (subst (λ (t : T). KeepsGround g.T.HasGround true old.base t) (sym base) (keeps_more g.T.HasGround c.in-Err.ensures.keeps))
-    (subst (λ (t : T). LeavesBefore g.T.HasGround old.base t) (sym base) c.in-Err.ensures.any_moment)
+    let new : Locked T = record { roll = c.fail.new.roll; base = c.sight.new.base } in
+    acts_failed g.T.HasGround false _ d.id _ c.fail.result old _ new (with_daemon old.roll (when_done d))
+    c.self.view_is c.fail.ensures.answer c.requires.sound c.in-Err.ensures.fault (keeps_more g.T.HasGround c.in-Err.ensures.keeps) c.in-Err.ensures.any_moment
     c.fail.ensures.roll (λ v line faults. inr faults)
+
+pub invariant_of-self : goal.invariant_of-self
+invariant_of-self g c =
+    let d = c.args.daemon in
+    let free = looked_free d c.args.ticket c.in-Ok.answer in
+    let T = g.row.T.Denot in
+    let old : Locked T = record { roll = c.self.inside.roll; base = c.self.inside.base } in
+    lock_done g.T.HasGround old c.args.self.now c.self.view_is c.self.invariant d (after_look d c.args.ticket c.in-Ok.answer) c.put.new.self c.sight.new.base
+    (subst (λ id. daemon_of c.args.self.now.roll id ≡ Some d) (sym free.1) c.requires.found) free.0
+    (c.put.ensures ∙ ap (with_daemon old.roll) c.after_look.ensures) (λ sound. c.in-Ok.ensures.idle)
+
+pub invariant_of-self-in-Err : goal.invariant_of-self-in-Err
+invariant_of-self-in-Err g c =
+    lock_failed g.T.HasGround c.fail.new.roll c.sight.new.base (g.T.HasGround.moment c.sight.new.base) (ap (λ (r : Roll). r.failed) c.fail.ensures.roll)

@@ -25,6 +25,10 @@ returns-in-Some-clause-performs g c =
 
 pub come-requires : goal.come-requires
 come-requires g c = record {
+  free = record { found = c.requires.found; none = c.in-None.is };
   drawn = may_draw_free c.args.self.now.roll c.args.daemon.holds c.in-None.is c.requires.drawn;
   sound = c.requires.sound;
 }
+
+pub hold-requires-clause-held : goal.hold-requires-clause-held
+hold-requires-clause-held g c = record { found = c.requires.found; holds = c.in-Some.is }

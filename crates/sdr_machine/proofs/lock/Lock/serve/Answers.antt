@@ -1,8 +1,9 @@
-use Rattle.std.proofs.Common.{IfOk, subst, sym}
+use Rattle.std.proofs.Common.{IfOk, subst, sym, ◌≡◌, false, arith, ◌==◌}
 use Rattle.sdr_model.specs.declared.event.Event.{Event}
 use Rattle.sdr_machine.specs.Crash.{commits_in}
-use Rattle.sdr_machine.specs.Machine.{OnTurn}
+use Rattle.sdr_machine.specs.Machine.{OnTurn, is_outside}
 use Rattle.sdr_machine.specs.Serving.{Acts}
+use Rattle.std.proofs.lemmas.Bool.Decides.{nat_tests}
 use Rattle.sdr_machine.proofs.lock.Lock.serve.Goals as goal
 
 pub returns-in-Begin-clause-serves : goal.returns-in-Begin-clause-serves
@@ -34,3 +35,8 @@ returns-in-Say-clause-serves g c =
     let h = c.args.holding in
     let d = c.args.daemon in
     subst (λ (ev : Event). IfOk c.say.result (λ a. Acts g.T.HasGround (commits_in h.nesting ev) (λ m e m'. OnTurn m d h ev e m') d.id ev a c.args.self.now c.say.new.self)) (sym c.in-Say.is) c.say.ensures.serves
+
+pub say-requires-clause-begun : goal.say-requires-clause-begun
+say-requires-clause-begun g c =
+    let inside : (c.args.holding.nesting.depth == 0) ≡ false = subst (λ (ev : Event). is_outside c.args.holding ev ≡ false) c.in-Say.is c.requires.inside in
+    grind (arith, nat_tests, inside)

@@ -1,11 +1,12 @@
-use Rattle.std.proofs.Common.{subst, false}
+use Rattle.std.proofs.Common.{subst, false, sym}
 use Rattle.sdr_machine.specs.Crash.{LeavesBefore}
 use Rattle.sdr_machine.specs.Serving.{Brings, KeepsGround, MeetsFault, RollsBack}
 use Rattle.sdr_machine.specs.Standing.{GroundState}
 use Rattle.sdr_run.proofs.HandedLemmas.{stays_more}
 use Rattle.sdr_run.proofs.SettledLemmas.{brings_where, ground_where, keeps_where, leaves_where, meets_where, on_err_more, on_ok_both}
 use Rattle.sdr_run.specs.Settled.{StandsWhere}
-use Rattle.sdr_station.specs.Grounded.{Grounded}
+use Rattle.sdr_station.specs.Grounded.{Grounded, HasDiskSound}
+use Rattle.sdr_station.proofs.GroundLemmas.{restored_idle}
 use Rattle.sdr_run.proofs.handed_ground.HandedGroundBacking.roll_back.Goals as goal
 
 pub returns-clause-put_back : goal.returns-clause-put_back
@@ -47,3 +48,10 @@ returns-clause-any_moment g c =
 pub invariant_of-self : goal.invariant_of-self
 invariant_of-self g c =
     stays_more g.D.Disk.bytes g.J.HandedIn.was.bytes c.self.inside.ground c.restore.new.self c.self.invariant c.restore.ensures.inside
+
+pub returns-clause-idle : goal.returns-clause-idle
+returns-clause-idle g c =
+    let D = g.row.D.Denot in
+    let M = g.row.M.Denot in
+    restored_idle c.restore.result c.self.inside.ground c.restore.new.self (subst (λ (o : Grounded D M). HasDiskSound o) (sym c.self.view_is) c.requires.sound)
+    c.restore.ensures.going c.restore.ensures.idle c.restore.ensures.sound

@@ -1,74 +1,198 @@
--- A ticket is seen in the world before the transaction, once changes that were made in it are dropped.
-use Rattle.std.proofs.Common.{None, ◌∙◌, ap, arith, subst}
-use Rattle.sdr_machine.specs.Serving.{Shows}
-use Rattle.sdr_station.proofs.ClosingLemmas.{brings_failed}
-use Rattle.sdr_station.proofs.InsideLemmas.{inside_quiet, inside_then}
-use Rattle.sdr_station.proofs.LookLemmas.{before_idle, leaves_later, shows_failed, shows_later}
-use Rattle.sdr_station.proofs.ServingLemmas.{leaves_quiet}
-use Rattle.sdr_station.specs.Grounded.{Grounded, IsBefore, StandsForBoth, StandsInMemory}
+-- A ticket is seen in the heap in memory, which stays.
+use Rattle.std.proofs.Common.{◌≤◌, ◌∙◌, arith, false, refl, sym, ap, subst}
+use Rattle.sdr_image.specs.Opened.{IsQuiet}
+use Rattle.sdr_machine.specs.Crash.{LeavesBefore}
+use Rattle.sdr_machine.specs.Serving.{Brings, KeepsGround, Shows}
+use Rattle.sdr_station.proofs.GroundLemmas.{heap_ground, keeps_later}
+use Rattle.sdr_station.proofs.InsideLemmas.{inside_quiet}
+use Rattle.sdr_station.proofs.LookLemmas.{before_idle, keeps_before_look, looked_ground, looked_quiet, looks_never, queues_before_look, shows_seen}
+use Rattle.sdr_station.proofs.ServingLemmas.{brings_quiet, leaves_quiet}
+use Rattle.sdr_station.specs.Grounded.{Grounded, StandsForBoth, StandsInMemory, StaysInside}
 use Rattle.sdr_station.proofs.ground.HeapGround.look.Goals as goal
 
-pub see-requires-clause-before : goal.see-requires-clause-before
-see-requires-clause-before g c =
-    subst (λ (o : Grounded g.row.D.Denot g.row.M.Denot). IsBefore o) c.self.view_is
-    (before_idle g.D.Disk.moment _ c.self.invariant c.if-self.true)
+pub look-requires-clause-kept : goal.look-requires-clause-kept
+look-requires-clause-kept g c =
+    let D = g.row.D.Denot in
+    let M = g.row.M.Denot in
+    let old : Grounded D M = record {
+      heap = c.self.inside.heap;
+      media = c.self.inside.media;
+      shown = c.self.inside.shown;
+      stopped = c.self.inside.stopped;
+      idle = c.self.inside.idle;
+      moment = c.self.inside.moment;
+      restored = c.self.inside.restored;
+    } in
+    let before = before_idle g.D.Disk.moment old c.self.invariant (ap (λ (o : Grounded D M). o.idle) c.self.view_is ∙ c.requires.idle) in
+    keeps_before_look old before
 
-pub returns-then-self-clause-any_moment : goal.returns-then-self-clause-any_moment
-returns-then-self-clause-any_moment g c =
-    leaves_quiet g.D.Disk.bytes g.D.Disk.moment g.D.Disk.faults g.D.Disk.may_hold_after g.M.Media c.args.self.now c.see.new.self
-    c.see.ensures.quiet.disk (ap (λ (o : Grounded g.row.D.Denot g.row.M.Denot). o.moment) c.see.ensures.same)
+pub look-requires-clause-good : goal.look-requires-clause-good
+look-requires-clause-good g c =
+    let D = g.row.D.Denot in
+    let M = g.row.M.Denot in
+    let old : Grounded D M = record {
+      heap = c.self.inside.heap;
+      media = c.self.inside.media;
+      shown = c.self.inside.shown;
+      stopped = c.self.inside.stopped;
+      idle = c.self.inside.idle;
+      moment = c.self.inside.moment;
+      restored = c.self.inside.restored;
+    } in
+    let before = before_idle g.D.Disk.moment old c.self.invariant (ap (λ (o : Grounded D M). o.idle) c.self.view_is ∙ c.requires.idle) in
+    queues_before_look old before
 
-pub returns-then-branch-clause-memory : goal.returns-then-branch-clause-memory
-returns-then-branch-clause-memory g c =
-    shows_later {S = StandsInMemory} c.args.self.now c.roll_back_for_look.new.self c.see-then-branch.new.self
-    c.args.ticket
-    c.see-then-branch.result c.in_ok-roll_back_for_look.ensures.memory c.see-then-branch.ensures.shown
+pub unreachable-requires : goal.unreachable-requires
+unreachable-requires g c =
+    let D = g.row.D.Denot in
+    let M = g.row.M.Denot in
+    let old : Grounded D M = record {
+      heap = c.self.inside.heap;
+      media = c.self.inside.media;
+      shown = c.self.inside.shown;
+      stopped = c.self.inside.stopped;
+      idle = c.self.inside.idle;
+      moment = c.self.inside.moment;
+      restored = c.self.inside.restored;
+    } in
+    let idle = ap (λ (o : Grounded D M). o.idle) c.self.view_is ∙ c.requires.idle in
+    looks_never g.D.Disk.faults old c.look.new.o c.in-Err.field-0 c.in-Err.ensures.looks
+    (c.self.invariant.sound (c.self.invariant.going idle)) c.in-Err.ensures.refused
 
-pub returns-then-branch-clause-shown : goal.returns-then-branch-clause-shown
-returns-then-branch-clause-shown g c =
-    shows_later {S = λ g' v. StandsForBoth g.D.Disk.bytes g.D.Disk.moment g.D.Disk.may_hold_after g' v} c.args.self.now
-    c.roll_back_for_look.new.self c.see-then-branch.new.self c.args.ticket c.see-then-branch.result
-    c.in_ok-roll_back_for_look.ensures.dropped c.see-then-branch.ensures.stands
-
-pub returns-then-branch-clause-any_moment : goal.returns-then-branch-clause-any_moment
-returns-then-branch-clause-any_moment g c =
-    leaves_later g.D.Disk.bytes g.D.Disk.moment g.D.Disk.faults g.D.Disk.may_hold_after g.M.Media c.args.self.now c.roll_back_for_look.new.self
-    c.see-then-branch.new.self c.see-then-branch.ensures.quiet.disk
-    (ap (λ (o : Grounded g.row.D.Denot g.row.M.Denot). o.moment) c.see-then-branch.ensures.same) c.roll_back_for_look.ensures.any_moment
+pub invariant_of-self : goal.invariant_of-self
+invariant_of-self g c =
+    let D = g.row.D.Denot in
+    let M = g.row.M.Denot in
+    let old : Grounded D M = record {
+      heap = c.self.inside.heap;
+      media = c.self.inside.media;
+      shown = c.self.inside.shown;
+      stopped = c.self.inside.stopped;
+      idle = c.self.inside.idle;
+      moment = c.self.inside.moment;
+      restored = c.self.inside.restored;
+    } in
+    looked_ground g.D.Disk.faults old c.look.new.o _ c.in-Ok.ensures.looks g.D.Disk.moment c.self.invariant
 
 pub returns-clause-memory : goal.returns-clause-memory
 returns-clause-memory g c =
-    brings_failed {P = Shows c.args.ticket None} c.args.self.now c.roll_back_for_look.new.self
-    (c.in_ok-roll_back_for_look.ensures.failed c.if-branch.false)
+    let D = g.row.D.Denot in
+    let M = g.row.M.Denot in
+    let old : Grounded D M = record {
+      heap = c.self.inside.heap;
+      media = c.self.inside.media;
+      shown = c.self.inside.shown;
+      stopped = c.self.inside.stopped;
+      idle = c.self.inside.idle;
+      moment = c.self.inside.moment;
+      restored = c.self.inside.restored;
+    } in
+    let before = before_idle g.D.Disk.moment old c.self.invariant (ap (λ (o : Grounded D M). o.idle) c.self.view_is ∙ c.requires.idle) in
+    subst (λ (o : Grounded D M). Brings StandsInMemory o (record old { heap = c.look.new.o }) (Shows c.args.ticket c.in-Ok.granted))
+    c.self.view_is
+    (shows_seen g.D.Disk.faults old c.look.new.o _ c.in-Ok.ensures.looks c.args.ticket c.in-Ok.granted before c.in-Ok.ensures.seen)
 
 pub returns-clause-shown : goal.returns-clause-shown
 returns-clause-shown g c =
-    shows_failed g.D.Disk.bytes g.D.Disk.moment g.D.Disk.may_hold_after c.args.self.now c.roll_back_for_look.new.self
-    c.args.ticket
-    (c.in_ok-roll_back_for_look.ensures.failed c.if-branch.false)
+    let D = g.row.D.Denot in
+    let M = g.row.M.Denot in
+    let b = g.D.Disk.bytes in
+    let m = g.D.Disk.moment in
+    let f = g.D.Disk.faults in
+    let l = g.D.Disk.may_hold_after in
+    let n = g.M.Media in
+    let old : Grounded D M = record {
+      heap = c.self.inside.heap;
+      media = c.self.inside.media;
+      shown = c.self.inside.shown;
+      stopped = c.self.inside.stopped;
+      idle = c.self.inside.idle;
+      moment = c.self.inside.moment;
+      restored = c.self.inside.restored;
+    } in
+    let before = before_idle g.D.Disk.moment old c.self.invariant (ap (λ (o : Grounded D M). o.idle) c.self.view_is ∙ c.requires.idle) in
+    let quiet = (looked_quiet g.D.Disk.faults old c.look.new.o _ c.in-Ok.ensures.looks).0 in
+    subst
+    (λ (o : Grounded D M). Brings (λ g v. StandsForBoth b m l g v) o (record old { heap = c.look.new.o })
+    (Shows c.args.ticket c.in-Ok.granted))
+    c.self.view_is
+    (brings_quiet b m l old (record old { heap = c.look.new.o }) quiet refl
+    (shows_seen f old c.look.new.o _ c.in-Ok.ensures.looks c.args.ticket c.in-Ok.granted before c.in-Ok.ensures.seen))
 
-pub returns-then-self-clause-time : goal.returns-then-self-clause-time
-returns-then-self-clause-time g c =
-    let same = ap (λ (o : Grounded g.row.D.Denot g.row.M.Denot). o.moment) c.see.ensures.same in
-    omega (arith, same)
+pub returns-clause-quiet : goal.returns-clause-quiet
+returns-clause-quiet g c =
+    let D = g.row.D.Denot in
+    let M = g.row.M.Denot in
+    let old : Grounded D M = record {
+      heap = c.self.inside.heap;
+      media = c.self.inside.media;
+      shown = c.self.inside.shown;
+      stopped = c.self.inside.stopped;
+      idle = c.self.inside.idle;
+      moment = c.self.inside.moment;
+      restored = c.self.inside.restored;
+    } in
+    let quiet = (looked_quiet g.D.Disk.faults old c.look.new.o _ c.in-Ok.ensures.looks).0 in
+    subst (λ (o : Grounded D M). IsQuiet o.heap.cells c.look.new.o.cells) c.self.view_is quiet
 
-pub returns-then-branch-clause-time : goal.returns-then-branch-clause-time
-returns-then-branch-clause-time g c =
-    let same = ap (λ (o : Grounded g.row.D.Denot g.row.M.Denot). o.moment) c.see-then-branch.ensures.same in
-    omega (arith, same, c.roll_back_for_look.ensures.time)
+pub returns-clause-keeps : goal.returns-clause-keeps
+returns-clause-keeps g c =
+    let D = g.row.D.Denot in
+    let M = g.row.M.Denot in
+    let b = g.D.Disk.bytes in
+    let m = g.D.Disk.moment in
+    let f = g.D.Disk.faults in
+    let l = g.D.Disk.may_hold_after in
+    let n = g.M.Media in
+    let old : Grounded D M = record {
+      heap = c.self.inside.heap;
+      media = c.self.inside.media;
+      shown = c.self.inside.shown;
+      stopped = c.self.inside.stopped;
+      idle = c.self.inside.idle;
+      moment = c.self.inside.moment;
+      restored = c.self.inside.restored;
+    } in
+    let quiet = (looked_quiet g.D.Disk.faults old c.look.new.o _ c.in-Ok.ensures.looks).0 in
+    subst (λ (o : Grounded D M). KeepsGround (heap_ground b m f l n) false o (record old { heap = c.look.new.o })) c.self.view_is
+    (keeps_later b m f l n old (record old { heap = c.look.new.o }) refl
+    (subst (λ (d : D). f old.heap.cells.disk ≤ f d) (sym quiet.disk) (omega arith)))
 
-pub returns-then-self-clause-inside : goal.returns-then-self-clause-inside
-returns-then-self-clause-inside g c = inside_quiet g.D.Disk.bytes c.args.self.now c.see.new.self c.see.ensures.quiet
+pub returns-clause-inside : goal.returns-clause-inside
+returns-clause-inside g c =
+    let D = g.row.D.Denot in
+    let M = g.row.M.Denot in
+    let old : Grounded D M = record {
+      heap = c.self.inside.heap;
+      media = c.self.inside.media;
+      shown = c.self.inside.shown;
+      stopped = c.self.inside.stopped;
+      idle = c.self.inside.idle;
+      moment = c.self.inside.moment;
+      restored = c.self.inside.restored;
+    } in
+    let quiet = (looked_quiet g.D.Disk.faults old c.look.new.o _ c.in-Ok.ensures.looks).0 in
+    subst (λ (o : Grounded D M). StaysInside g.D.Disk.bytes o (record old { heap = c.look.new.o })) c.self.view_is
+    (inside_quiet g.D.Disk.bytes old (record old { heap = c.look.new.o }) quiet)
 
-pub returns-then-branch-clause-inside : goal.returns-then-branch-clause-inside
-returns-then-branch-clause-inside g c =
-    inside_then g.D.Disk.bytes c.args.self.now c.roll_back_for_look.new.self c.see-then-branch.new.self
-    c.roll_back_for_look.ensures.inside
-    (inside_quiet g.D.Disk.bytes c.roll_back_for_look.new.self c.see-then-branch.new.self c.see-then-branch.ensures.quiet)
-
-pub returns-then-self-clause-media : goal.returns-then-self-clause-media
-returns-then-self-clause-media g c = ap (λ (o : Grounded g.row.D.Denot g.row.M.Denot). o.media) c.see.ensures.same
-
-pub returns-then-branch-clause-media : goal.returns-then-branch-clause-media
-returns-then-branch-clause-media g c =
-    ap (λ (o : Grounded g.row.D.Denot g.row.M.Denot). o.media) c.see-then-branch.ensures.same ∙ c.roll_back_for_look.ensures.media
+pub returns-clause-any_moment : goal.returns-clause-any_moment
+returns-clause-any_moment g c =
+    let D = g.row.D.Denot in
+    let M = g.row.M.Denot in
+    let b = g.D.Disk.bytes in
+    let m = g.D.Disk.moment in
+    let f = g.D.Disk.faults in
+    let l = g.D.Disk.may_hold_after in
+    let n = g.M.Media in
+    let old : Grounded D M = record {
+      heap = c.self.inside.heap;
+      media = c.self.inside.media;
+      shown = c.self.inside.shown;
+      stopped = c.self.inside.stopped;
+      idle = c.self.inside.idle;
+      moment = c.self.inside.moment;
+      restored = c.self.inside.restored;
+    } in
+    let quiet = (looked_quiet g.D.Disk.faults old c.look.new.o _ c.in-Ok.ensures.looks).0 in
+    subst (λ (o : Grounded D M). LeavesBefore (heap_ground b m f l n) o (record old { heap = c.look.new.o })) c.self.view_is
+    (leaves_quiet b m f l n old (record old { heap = c.look.new.o }) quiet.disk refl)

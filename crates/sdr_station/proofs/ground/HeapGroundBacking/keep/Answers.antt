@@ -1,13 +1,4 @@
-use Rattle.sdr_machine.proofs.GroundLemmas as ground
-use Rattle.std.proofs.Common.{refl}
-use Rattle.sdr_station.proofs.GroundLemmas.{heap_ground}
-use Rattle.sdr_station.proofs.InsideLemmas.{inside_refl}
 use Rattle.sdr_station.proofs.ground.HeapGroundBacking.keep.Goals as goal
 
-pub returns-then-self-clause-any_moment : goal.returns-then-self-clause-any_moment
-returns-then-self-clause-any_moment g c =
-    let h = heap_ground g.D.Disk.bytes g.D.Disk.moment g.D.Disk.faults g.D.Disk.may_hold_after g.M.Media in
-    ground.leaves_either h (ground.leaves_same h c.args.self.now)
-
-pub returns-then-self-clause-inside : goal.returns-then-self-clause-inside
-returns-then-self-clause-inside g c = inside_refl g.D.Disk.bytes c.args.self.now c.args.self.now refl
+pub returns-in-Ok-clause-idle : goal.returns-in-Ok-clause-idle
+returns-in-Ok-clause-idle g c = record { going = record { sound = c.in-Ok.ensures.sound; going = c.in-Ok.ensures.going }; idle = c.in-Ok.ensures.idle }

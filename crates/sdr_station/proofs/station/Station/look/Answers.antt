@@ -10,6 +10,11 @@ none_of : (o : Option ℕ) → is_some o ≡ false → o ≡ None
 none_of None is = refl
 none_of (Some x) is = absurd (true≢false is)
 
+pub look-requires : goal.look-requires
+look-requires g c =
+    let none = none_of c.self.inside.failed (sym c.is_some.ensures ∙ c.if-is_some.false) in
+    record { idle = c.self.invariant.outside none (ap (λ (s : Stationed g.row.D.Denot g.row.M.Denot). s.nesting.depth) c.self.view_is ∙ c.requires.outside) }
+
 pub returns-clause-looks : goal.returns-clause-looks
 returns-clause-looks g c =
     let none = none_of c.self.inside.failed (sym c.is_some.ensures ∙ c.if-is_some.false) in
@@ -17,22 +22,19 @@ returns-clause-looks g c =
     (on_none _ _ c.self.inside.failed none
     (λ v at.
     subst (λ (o : Option Bool). IsTicketTold c.args.ticket o c.ticket_told.result)
-    (c.in-Ok.ensures.memory.each v at).tells.shown c.ticket_told.ensures))
+    (c.look.ensures.memory.each v at).tells.shown c.ticket_told.ensures))
 
 pub returns-clause-still : goal.returns-clause-still
 returns-clause-still g c =
     let D = g.row.D.Denot in
     let M = g.row.M.Denot in
-    let none = none_of c.self.inside.failed (sym c.is_some.ensures ∙ c.if-is_some.false) in
-    let outside = ap (λ (s : Stationed D M). s.nesting.depth) c.self.view_is ∙ c.requires.outside in
-    let looked = c.look.ensures.idle (c.self.invariant.outside none outside) in
     subst
     (λ (o : Stationed D M). StaysLooked o (record { ground = c.look.new.self; nesting = c.self.inside.nesting; failed = c.self.inside.failed }))
     c.self.view_is (record {
-      after = ap (λ (ground : Grounded D M). record { ground = ground; nesting = c.self.inside.nesting; failed = c.self.inside.failed }) looked.0;
-      quiet = looked.1;
+      after = ap (λ (ground : Grounded D M). record { ground = ground; nesting = c.self.inside.nesting; failed = c.self.inside.failed }) c.look.ensures.same;
+      quiet = c.look.ensures.quiet;
       still = record {
         each = λ v at.
-            let s = c.in-Ok.ensures.memory.each v at in record { for = s.for; holds = s.holds; tells = s.tells.still };
+            let s = c.look.ensures.memory.each v at in record { for = s.for; holds = s.holds; tells = s.tells.still };
       };
     })

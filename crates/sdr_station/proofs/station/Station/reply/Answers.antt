@@ -1,13 +1,14 @@
 use Rattle.std.proofs.Common.{◌≡◌, ◌∙◌, ap, arith, refl, sym, subst, true}
 use Rattle.sdr_image.specs.Opened.{IsQuiet}
 use Rattle.sdr_machine.proofs.GroundLemmas.{leaves_same}
+use Rattle.sdr_machine.proofs.ServedLemmas.{noted_depth}
 use Rattle.sdr_machine.proofs.WorkLemmas.{on_none}
 use Rattle.sdr_machine.specs.Crash.{LeavesBefore}
 use Rattle.sdr_machine.specs.declared.nesting.Nesting.{Nesting}
 use Rattle.sdr_model.specs.Reading.{is_reading}
 use Rattle.sdr_station.proofs.GroundLemmas.{heap_ground}
 use Rattle.sdr_station.proofs.MediaLemmas.{asks_none}
-use Rattle.sdr_station.proofs.StationLemmas.{noted_depth, undoomed_noted}
+use Rattle.sdr_station.proofs.StationLemmas.{undoomed_noted}
 use Rattle.sdr_station.specs.Giving.{AsksMedia}
 use Rattle.sdr_station.specs.Stationed.{SaysOr, Stationed}
 use Rattle.sdr_station.proofs.station.Station.reply.Goals as goal

@@ -1,10 +1,11 @@
 -- The daemons of a roll, where one is put in its place.
 use Rattle.std.proofs.Common.{◌||◌, ◌≡◌, ◌≤◌, ◌<◌, ◌∙◌, ◌==◌, ◌+◌, ℕ, suc, List, [], ◌∷◌, Bool, true, false, not, Option, None, Some, arith, refl, sym, ap, subst, cond, map, min, nat_lt, length, find, true≢false}
 use Rattle.std.specs.List.{AllByRecursion, list_any, prefix_len}
-use Rattle.std.specs.Prelude.{if◌then◌else◌, slice_set, ⊤}
+use Rattle.std.specs.Prelude.{if◌then◌else◌, slice_set}
 use Rattle.std.specs.Option.{option_map_or}
 use Rattle.std.proofs.lemmas.Bool.Decides.{nat_tests}
 use Rattle.sdr_machine.specs.Roll.{least_held, lesser_of, newcomer, put_daemon}
+use Rattle.sdr_machine.specs.Served.{HoldsWithin, IsNumberDrawn}
 use Rattle.sdr_machine.specs.declared.daemon.Daemon.{Daemon}
 use Rattle.sdr_machine.specs.declared.daemon.Holding.{Holding}
 
@@ -124,14 +125,6 @@ numbers_put (y ∷ ds) d = by (y.id == d.id) refl (numbers_put ds d)
     by true e rest = ap (λ xs. map (λ (x : Daemon). x.id) xs) (put_here y ds d e) ∙ ap (λ n. n ∷ map (λ (x : Daemon). x.id) ds) (sym (same_number y.id d.id e))
     by false e rest = ap (λ xs. map (λ (x : Daemon). x.id) xs) (put_later y ds d e) ∙ ap (λ xs. y.id ∷ xs) rest
 
--- a number that is held is within 1 and the last that was drawn
-abbrev pub HoldsWithin : ℕ → Option Holding → Type 0
-HoldsWithin drawn None = ⊤
-HoldsWithin drawn (Some h) = (1 ≤ h.number) × (h.number ≤ drawn)
-
-abbrev pub IsWithin : ℕ → Daemon → Type 0
-IsWithin drawn d = HoldsWithin drawn d.holds
-
 -- the least of two numbers, of which one may be none
 lesser_least : (n most : ℕ) → (if n == 0 then most else min most n) ≤ most
 lesser_least n most = by (n == 0)
@@ -155,7 +148,7 @@ lesser_other n most some = by (n == 0) refl
     by false e = omega arith
 
 -- where a daemon holds a number, the least is 1 at least, and no more than it
-pub least_found : (ds : List Daemon) (drawn id : ℕ) (d : Daemon) (h : Holding) → AllByRecursion (IsWithin drawn) ds → among id ds ≡ Some d → d.holds ≡ Some h
+pub least_found : (ds : List Daemon) (drawn id : ℕ) (d : Daemon) (h : Holding) → AllByRecursion (IsNumberDrawn drawn) ds → among id ds ≡ Some d → d.holds ≡ Some h
     → (1 ≤ least_held ds) × (least_held ds ≤ h.number)
 least_found [] drawn id d h all found holds = absurd cc
 least_found (x ∷ ds) drawn id d h all found holds =
@@ -207,7 +200,7 @@ least_put (y ∷ ds) d x found same = by (y.id == d.id) refl found (least_put ds
     by false e found rest = ap least_held (put_later y ds d e) ∙ ap (lesser_of y.holds) (rest found same)
 
 -- the least of these numbers is one that may be held
-least_within : (ds : List Daemon) (drawn : ℕ) → AllByRecursion (IsWithin drawn) ds → least_held ds ≤ drawn
+pub least_within : (ds : List Daemon) (drawn : ℕ) → AllByRecursion (IsNumberDrawn drawn) ds → least_held ds ≤ drawn
 least_within [] drawn all = omega arith
 least_within (x ∷ ds) drawn all = by x.holds all.0 (least_within ds drawn all.1)
   where
@@ -242,7 +235,7 @@ lesser_twice a b n one other = by (n == 0) refl
         rw (p, q) (omega arith)
 
 -- the least number where a daemon has drawn one above all
-least_drawn : (ds : List Daemon) (drawn : ℕ) (d x : Daemon) (h : Holding) → AllByRecursion (IsWithin drawn) ds → among d.id ds ≡ Some x → x.holds ≡ None
+least_drawn : (ds : List Daemon) (drawn : ℕ) (d x : Daemon) (h : Holding) → AllByRecursion (IsNumberDrawn drawn) ds → among d.id ds ≡ Some x → x.holds ≡ None
     → d.holds ≡ Some h → 1 ≤ h.number → least_held (put_daemon ds d) ≡ lesser_of (Some h) (least_held ds)
 least_drawn [] drawn d x h all found none holds one = absurd cc
 least_drawn (y ∷ ds) drawn d x h all found none holds one =
@@ -263,7 +256,7 @@ least_drawn (y ∷ ds) drawn d x h all found none holds one =
     by false e found rest = ap least_held (put_later y ds d e) ∙ ap (lesser_of y.holds) (rest found) ∙ turn y.holds all.0
 
 -- a number that is drawn is not served before those that are held
-pub least_stays : (ds : List Daemon) (drawn : ℕ) (d x : Daemon) (h : Holding) → AllByRecursion (IsWithin drawn) ds → among d.id ds ≡ Some x → x.holds ≡ None
+pub least_stays : (ds : List Daemon) (drawn : ℕ) (d x : Daemon) (h : Holding) → AllByRecursion (IsNumberDrawn drawn) ds → among d.id ds ≡ Some x → x.holds ≡ None
     → d.holds ≡ Some h → drawn < h.number → 1 ≤ least_held ds → least_held (put_daemon ds d) ≡ least_held ds
 least_stays ds drawn d x h all found none holds above some =
     least_drawn ds drawn d x h all found none holds (omega arith) ∙ lesser_drawn (least_held ds) h.number drawn some (least_within ds drawn all) above
