@@ -348,7 +348,6 @@ impl<D: Disk, M: Media, F: Notify + Drop> HeapGround<D, M, F> {
         }
     }
 
-
     /// The disk and the media. What the open transaction has done is lost.
     pub fn into_parts(self) -> (D, M)
         ensures disk { result.0 ≡ self.heap.cells.disk }
