@@ -1,4 +1,5 @@
--- A waiting daemon is awarded, where it looks before the other gives back.
+-- A waiting daemon is awarded, where it looks before the other gives back. The journal keeps to the scripts; it isn't legal, since what is
+-- said in it has no moves.
 use Rattle.std.proofs.Common.{◌≡◌, ◌==◌, ℕ, suc, zero, List, [], ◌∷◌, ◌++◌, true, false, Option, arith, refl, inr}
 use Rattle.std.specs.Prelude.{All, codes}
 use Rattle.std.specs.List.{list_any}
@@ -7,7 +8,7 @@ use Rattle.sdr_base.specs.Media.{Told}
 use Rattle.sdr_base.specs.declared.account.Acct.TheVariants as accounts
 use Rattle.sdr_base.specs.declared.kind.Space.TheVariants as spaces
 use Rattle.sdr_daemon.proofs.RowLemmas.{entry, holds, line}
-use Rattle.sdr_daemon.specs.Scripts.{IsLookRefused, KeepToScripts, KeepsToScript}
+use Rattle.sdr_daemon.specs.Scripts.{IsLookRefused, KeepsToScripts, DaemonKeepsToScript}
 use Rattle.sdr_daemon.specs.Turns.{EndsLook, IsTurn, Phase, SayLines, entries_by, steps_by}
 use Rattle.sdr_machine.specs.Ground.{State}
 use Rattle.sdr_model.specs.declared.answer.Answer.TheVariants as answers
@@ -117,7 +118,7 @@ journal =
 
 module _ (R : ℕ → ℕ → Type 0) where
   -- daemon 1 takes two transactions
-  first_keeps : KeepsToScript R journal (steps_by 1 script) (entries_by 1 journal)
+  first_keeps : DaemonKeepsToScript R journal (steps_by 1 script) (entries_by 1 journal)
   first_keeps = record {
     rest = [];
     before = entry 1 1 (whats.Work said_asking closes.Ended) ∷ entry 4 1 (whats.Work said_shredding closes.Ended) ∷ [];
@@ -150,7 +151,7 @@ module _ (R : ℕ → ℕ → Type 0) where
   }
 
   -- daemon 2 takes one, waits, and is awarded: its look is made again, and gives one entry of each kind
-  second_keeps : KeepsToScript R journal (steps_by 2 script) (entries_by 2 journal)
+  second_keeps : DaemonKeepsToScript R journal (steps_by 2 script) (entries_by 2 journal)
   second_keeps = record {
     rest = [];
     before = entry 2 2 (whats.Work said_queueing closes.Ended) ∷ entry 3 2 (whats.Waits 2) ∷ entry 5 2 (whats.Awarded 2) ∷ [];
@@ -199,7 +200,7 @@ daemons_only (suc (suc (suc (suc (suc (suc zero)))))) d within = refl
 daemons_only (suc (suc (suc (suc (suc (suc (suc k))))))) d within = absurd (omega (arith, within))
 
 -- the journal keeps to both scripts
-pub waiting_daemon_is_awarded : (told : Option Told) (first : State) → KeepToScripts told (1 ∷ 2 ∷ []) first script journal
+pub waiting_daemon_is_awarded : (told : Option Told) (first : State) → KeepsToScripts told (1 ∷ 2 ∷ []) first script journal
 waiting_daemon_is_awarded told first = record {
   each = (first_keeps (IsLookRefused told (1 ∷ 2 ∷ []) first journal), (second_keeps (IsLookRefused told (1 ∷ 2 ∷ []) first journal), tt));
   others = daemons_only;

@@ -1,4 +1,5 @@
--- A bundle out of a file: one transaction of one daemon, and its leave.
+-- A bundle out of a file: one transaction of one daemon, and its leave. The journal keeps to the script; it isn't legal, since what is
+-- said in it has no moves.
 use Rattle.std.proofs.Common.{◌≡◌, ◌==◌, suc, zero, List, [], ◌∷◌, true, Option, arith, refl}
 use Rattle.std.specs.Prelude.{All, codes}
 use Rattle.std.specs.List.{list_any}
@@ -6,7 +7,7 @@ use Rattle.law_runs.specs.Rows.{said}
 use Rattle.sdr_base.specs.Media.{Told}
 use Rattle.sdr_base.specs.declared.account.Acct.TheVariants as accounts
 use Rattle.sdr_daemon.proofs.RowLemmas.{entry, holds, line}
-use Rattle.sdr_daemon.specs.Scripts.{KeepToScripts}
+use Rattle.sdr_daemon.specs.Scripts.{KeepsToScripts}
 use Rattle.sdr_daemon.specs.Turns.{DaemonTurn, IsTurn, Phase, SayLines}
 use Rattle.sdr_machine.specs.Ground.{State}
 use Rattle.sdr_model.specs.declared.answer.Answer.TheVariants as answers
@@ -75,7 +76,7 @@ daemons_only (suc zero) d within = refl
 daemons_only (suc (suc k)) d within = absurd (omega (arith, within))
 
 -- the transaction and the leave keep to the script
-pub bundle_out_of_a_file : (told : Option Told) (first : State) → KeepToScripts told (1 ∷ []) first script (bundle ∷ leave ∷ [])
+pub bundle_out_of_a_file : (told : Option Told) (first : State) → KeepsToScripts told (1 ∷ []) first script (bundle ∷ leave ∷ [])
 bundle_out_of_a_file told first = record {
   each = (
     record {

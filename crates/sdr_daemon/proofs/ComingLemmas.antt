@@ -177,7 +177,7 @@ module _ {told : Option Told} {c c' : Core} {e : Made} (step : CoreStep told c e
           let log = closes_so step found inside closes.Faulted (ap closed_by faults.told.answer) in
           let alone : all_said c.log.works e.daemon e.said ≡ e.said ∷ [] = ap (λ works. all_said works e.daemon e.said) unsaid ∙ all_first e.daemon e.said in
           let what : What = whats.Work (e.said ∷ []) closes.Faulted in
-          LooksSo.seen what (EndsLook.failed refl)
+          LooksSo.seen what (EndsLook.failed faults.told.answer refl)
           (λ no. let n : answers.Reply replies.DiskFault ≡ answers.Waits = sym faults.told.answer ∙ no in absurd cc)
           (λ no. let n : answers.Reply replies.DiskFault ≡ refused (refusals.BadTicket ticket) = sym faults.told.answer ∙ no in absurd cc)
           (added what (when_done x) _ (log.0 ∙ ap (λ works. without_work works e.daemon) unsaid ∙ sym unsaid)

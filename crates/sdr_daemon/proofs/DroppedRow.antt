@@ -1,4 +1,5 @@
--- A journal from which a transaction was dropped doesn't keep to the script.
+-- A daemon whose first line is a begin doesn't leave as done with no other entry: a journal without any of its transactions doesn't keep
+-- to the script.
 use Rattle.std.proofs.Common.{◌≡◌, ◌∙◌, ℕ, List, [], ◌∷◌, ◌++◌, true≢false, refl, sym, ap, subst}
 use Rattle.std.specs.List.{flat_map}
 use Rattle.sdr_model.specs.declared.event.Event.TheVariants as events
@@ -8,7 +9,7 @@ use Rattle.sdr_model.specs.declared.journal.Said.{Said}
 use Rattle.sdr_model.specs.declared.journal.What.TheVariants as whats
 use Rattle.sdr_model.specs.declared.script.ScriptStep.{ScriptStep}
 use Rattle.sdr_words.specs.Bindings.{Binding, event_of}
-use Rattle.sdr_daemon.specs.Scripts.{HasLeaveCause, KeepsToScript}
+use Rattle.sdr_daemon.specs.Scripts.{HasLeaveCause, DaemonKeepsToScript}
 use Rattle.sdr_daemon.specs.Turns.{DaemonTurn, IsTurn, Reached, SayLines, TakeTurns, at_start, is_refused_outside}
 
 no_first : {A : Type 0} (front rest : List A) → [] ≡ front ++ rest → front ≡ []
@@ -63,7 +64,7 @@ module _ (R : ℕ → ℕ → Type 0) where
 
   -- a daemon that begins a transaction, and leaves behind its last line, has an entry beside its leave
   pub dropped : (journal : List Entry) (step : ScriptStep) (steps : List ScriptStep) (leave : Entry) → event_of [] step ≡ events.Begin → leave.what ≡ whats.Leaves leaves.Done
-      → KeepsToScript R journal (step ∷ steps) (leave ∷ []) → ⊥
+      → DaemonKeepsToScript R journal (step ∷ steps) (leave ∷ []) → ⊥
   dropped journal step steps leave begins done keeps =
       let alone = last_alone keeps.before keeps.last leave keeps.all in
       let is : whats.Leaves keeps.leave ≡ whats.Leaves leaves.Done = sym keeps.leaves ∙ ap (λ (e : Entry). e.what) alone.1 ∙ done in

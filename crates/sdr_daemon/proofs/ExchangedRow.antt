@@ -1,4 +1,4 @@
--- A journal in which a daemon has a transaction of other lines doesn't keep to its script.
+-- A daemon whose first line is a begin, and whose first entry is a transaction of another line: its journal doesn't keep to the script.
 use Rattle.std.proofs.Common.{◌≡◌, ◌∙◌, ℕ, List, [], ◌∷◌, ◌++◌, true, true≢false, sym, ap, subst, refl}
 use Rattle.std.specs.List.{flat_map}
 use Rattle.sdr_model.specs.declared.answer.Close.{Close}
@@ -9,7 +9,7 @@ use Rattle.sdr_model.specs.declared.journal.What.TheVariants as whats
 use Rattle.sdr_model.specs.declared.journal.What.{What}
 use Rattle.sdr_model.specs.declared.script.ScriptStep.{ScriptStep}
 use Rattle.sdr_words.specs.Bindings.{Binding, event_of}
-use Rattle.sdr_daemon.specs.Scripts.{KeepsToScript}
+use Rattle.sdr_daemon.specs.Scripts.{DaemonKeepsToScript}
 use Rattle.sdr_daemon.specs.Turns.{DaemonTurn, GivesEntry, IsLine, IsTurn, SayLines, TakeTurns, at_start, is_refused_outside, opens_work}
 
 -- what is said first is said by the first line
@@ -76,11 +76,11 @@ module _ (R : ℕ → ℕ → Type 0) (step : ScriptStep) (steps : List ScriptSt
       by (IsTurn.refused_look ticket look may answer none number refused phase) = absurd (no_look ticket look.said look.event (begun look.said [] look.is))
 
   -- it is said by the first line
-  pub own_line : (journal entries : List Entry) (next : Entry) → KeepsToScript R journal (step ∷ steps) (e ∷ next ∷ entries) → s.line ≡ step.line
+  pub own_line : (journal entries : List Entry) (next : Entry) → DaemonKeepsToScript R journal (step ∷ steps) (e ∷ next ∷ entries) → s.line ≡ step.line
   own_line journal entries next keeps =
       let front = front_of keeps.before keeps.last e next entries keeps.all in
       first_turn keeps.kept.turns front.0 keeps.rest keeps.kept.taken (front.1 ∙ keeps.kept.entries_are) keeps.kept.steps_are
 
   -- so a transaction of another line in its place is refused
-  pub exchanged : (journal entries : List Entry) (next : Entry) → (s.line ≡ step.line → ⊥) → KeepsToScript R journal (step ∷ steps) (e ∷ next ∷ entries) → ⊥
+  pub exchanged : (journal entries : List Entry) (next : Entry) → (s.line ≡ step.line → ⊥) → DaemonKeepsToScript R journal (step ∷ steps) (e ∷ next ∷ entries) → ⊥
   exchanged journal entries next other keeps = other (own_line journal entries next keeps)

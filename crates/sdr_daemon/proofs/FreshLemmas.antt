@@ -12,7 +12,7 @@ use Rattle.sdr_model.specs.declared.journal.Entry.{Entry}
 use Rattle.sdr_model.specs.declared.script.ScriptStep.{ScriptStep}
 use Rattle.sdr_daemon.specs.Progressing.{IsFresh, IsScriptedRun, ProgressHolds, first_progress}
 use Rattle.sdr_daemon.specs.Turns.{at_start}
-use Rattle.sdr_daemon.specs.declared.progress.Progress.{Progress}
+use Rattle.sdr_daemon.specs.declared.script_place.ScriptPlace.{ScriptPlace}
 
 -- newcomers hold no number
 none_hold : (ids : List ℕ) → hold_none (map newcomer ids) ≡ true
@@ -24,7 +24,7 @@ progress_of-newcomers : (ids : List ℕ) → map (λ (d : Daemon). first_progres
 progress_of-newcomers [] = refl
 progress_of-newcomers (id ∷ ids) = ap (λ these. first_progress id ∷ these) (progress_of-newcomers ids)
 
-ids_of-first : (ids : List ℕ) → map (λ (s : Progress). s.daemon) (map first_progress ids) ≡ ids
+ids_of-first : (ids : List ℕ) → map (λ (s : ScriptPlace). s.daemon) (map first_progress ids) ≡ ids
 ids_of-first [] = refl
 ids_of-first (id ∷ ids) = ap (λ these. id ∷ these) (ids_of-first ids)
 
@@ -51,8 +51,8 @@ each_newcomer [] = tt
 each_newcomer (id ∷ ids) = (newcomer_here id ids, each_later (IsNewcomer ids) (IsNewcomer (id ∷ ids)) (newcomer_later id ids) ids (each_newcomer ids))
 
 -- what holds of each daemon's first progress holds of all of it
-all_first : (P : Progress → Type 0) (Q : ℕ → Type 0) → ((id : ℕ) → Q id → P (first_progress id)) → (ids : List ℕ) → AllByRecursion Q ids
-    → (i : ℕ) (d : Progress) → i < length (map first_progress ids) → P (slice_index_or (map first_progress ids) i d)
+all_first : (P : ScriptPlace → Type 0) (Q : ℕ → Type 0) → ((id : ℕ) → Q id → P (first_progress id)) → (ids : List ℕ) → AllByRecursion Q ids
+    → (i : ℕ) (d : ScriptPlace) → i < length (map first_progress ids) → P (slice_index_or (map first_progress ids) i d)
 all_first P Q to [] each i d within = absurd (omega (arith, within))
 all_first P Q to (id ∷ ids) each zero d within = to id each.0
 all_first P Q to (id ∷ ids) each (suc i) d within = all_first P Q to ids each.1 i d (omega (arith, within))
@@ -93,7 +93,7 @@ fresh_run g b script k fresh apart = record {
 }
 
 -- the progress that is made of a fresh core's roll
-pub fresh_progress : {T : Type 0} (g : Ghosts T) (b : RunStart) (k : LoggedLock T) (r : Roll) (these : List Progress) → IsFresh g b k → r ≡ k.lock.roll
+pub fresh_progress : {T : Type 0} (g : Ghosts T) (b : RunStart) (k : LoggedLock T) (r : Roll) (these : List ScriptPlace) → IsFresh g b k → r ≡ k.lock.roll
     → these ≡ map (λ (d : Daemon). first_progress d.id) r.daemons → these ≡ map first_progress b.daemons
 fresh_progress g b k r these fresh same is =
     is ∙ ap (λ (z : Roll). map (λ (d : Daemon). first_progress d.id) z.daemons) (same ∙ fresh.roll) ∙ progress_of-newcomers b.daemons

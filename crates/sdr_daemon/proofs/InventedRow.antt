@@ -1,11 +1,11 @@
--- A journal that has an entry which no line gave doesn't keep to the script.
+-- A daemon without a line has no entry but its leave: a journal with one more of it doesn't keep to the script.
 use Rattle.std.proofs.Common.{◌≡◌, ◌∙◌, ℕ, List, [], ◌∷◌, ◌++◌, true≢false, refl, sym, ap, subst}
 use Rattle.std.specs.List.{flat_map}
 use Rattle.sdr_model.specs.declared.journal.Entry.{Entry}
 use Rattle.sdr_model.specs.declared.journal.Said.{Said}
 use Rattle.sdr_model.specs.declared.script.ScriptStep.{ScriptStep}
 use Rattle.sdr_words.specs.Bindings.{Binding}
-use Rattle.sdr_daemon.specs.Scripts.{KeepsToScript, LooksNext}
+use Rattle.sdr_daemon.specs.Scripts.{DaemonKeepsToScript, LooksNext}
 use Rattle.sdr_daemon.specs.Turns.{DaemonTurn, IsTurn, Phase, Reached, SayLines, TakeTurns, after_turn, after_turns, at_start, opens_work}
 
 both_nil : (front rest : List ScriptStep) → [] ≡ front ++ rest → (front ≡ []) × (rest ≡ [])
@@ -59,14 +59,14 @@ module _ (R : ℕ → ℕ → Type 0) where
       absurd (waiting_on (after_turn at_start t) alone.0 turns rest alone.2 taken.2 next lines.1 parts.1)
 
   -- the entries of a daemon without a line are its leave alone
-  pub leave_alone : (journal entries : List Entry) → KeepsToScript R journal [] entries → (e : Entry) × (entries ≡ e ∷ [])
+  pub leave_alone : (journal entries : List Entry) → DaemonKeepsToScript R journal [] entries → (e : Entry) × (entries ≡ e ∷ [])
   leave_alone journal entries keeps =
       let kept = keeps.kept in
       let none = no_turns kept.turns keeps.rest kept.taken (subst (λ (at : Reached). LooksNext at.phase at.names keeps.rest) kept.at_is kept.next) kept.steps_are in
       (keeps.last, keeps.all ∙ ap (λ before. before ++ keeps.last ∷ []) (kept.entries_are ∙ ap (λ turns. flat_map (λ (t : DaemonTurn). t.entries) turns) none))
 
   -- so an invented entry beside the leave is refused
-  pub invented : (journal : List Entry) (one leave : Entry) → KeepsToScript R journal [] (one ∷ leave ∷ []) → ⊥
+  pub invented : (journal : List Entry) (one leave : Entry) → DaemonKeepsToScript R journal [] (one ∷ leave ∷ []) → ⊥
   invented journal one leave keeps =
       let alone = leave_alone journal (one ∷ leave ∷ []) keeps in
       two (alone.0) alone.1

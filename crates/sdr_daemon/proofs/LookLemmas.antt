@@ -21,20 +21,20 @@ use Rattle.sdr_words.specs.Bindings.{bound, event_of}
 use Rattle.sdr_daemon.proofs.ComingLemmas.{looks}
 use Rattle.sdr_daemon.proofs.ScriptLemmas.{kept_also}
 use Rattle.sdr_daemon.proofs.StepLemmas.{IsStep, is_step, refused_grows, unused}
-use Rattle.sdr_daemon.proofs.TurnLemmas.{IsFree, below_next, ends_turn, is_free, on_way, ticket_of, turned}
+use Rattle.sdr_daemon.proofs.TurnLemmas.{IsFree, below_next, draws_one, ends_turn, is_free, on_way, ticket_of, turned}
 use Rattle.sdr_daemon.specs.Progressing.{IsOnWay, PhaseAgrees, WasLookRefused, steps_ahead}
-use Rattle.sdr_daemon.specs.Scripts.{HasKeptTo, IsLookRefused, KeepsToScript, LooksNext}
+use Rattle.sdr_daemon.specs.Scripts.{HasKeptSoFar, IsLookRefused, DaemonKeepsToScript, LooksNext}
 use Rattle.sdr_daemon.specs.TakingTurns.{AddsAtMostOne, DoesLine, EndsTurn, IsBeforeTurn}
 use Rattle.sdr_daemon.specs.TurnEvents.{BeforeTurn, IsOver, LooksSo, before_of}
 use Rattle.sdr_daemon.specs.Turns.{DaemonTurn, IsLine, IsTurn, MayLook, Phase, Reached, after_turn, entries_by, steps_by}
-use Rattle.sdr_daemon.specs.declared.progress.Progress.{Progress}
+use Rattle.sdr_daemon.specs.declared.script_place.ScriptPlace.{ScriptPlace}
 
-module _ {T : Type 0} (g : Ghosts T) (b : RunStart) (script : List ScriptStep) (x : Daemon) (old : LoggedLock T) (s : Progress) (t : IsBeforeTurn g b script x old s) where
+module _ {T : Type 0} (g : Ghosts T) (b : RunStart) (script : List ScriptStep) (x : Daemon) (old : LoggedLock T) (s : ScriptPlace) (t : IsBeforeTurn g b script x old s) where
   abbrev o : BeforeTurn
   o = before_of old x
 
   -- it looks at a ticket: the look is made again where the ticket waits
-  pub looked : (new : LoggedLock T) (s' : Progress) (step : ScriptStep) (after ticket : ℕ) (a : Came) → steps_ahead script s.daemon s.place ≡ step ∷ steps_ahead script s.daemon after → after ≤ length script
+  pub looked : (new : LoggedLock T) (s' : ScriptPlace) (step : ScriptStep) (after ticket : ℕ) (a : Came) → steps_ahead script s.daemon s.place ≡ step ∷ steps_ahead script s.daemon after → after ≤ length script
       → s.leaving ≡ None → event_of s.names step ≡ events.Look ticket → old.lock.roll.failed ≡ None → s.drawn + 1 < 2 ^ 40
       → MakesCoreStep g s.daemon step.line (events.Look ticket) a old.lock old.log new.lock new.log
       → ((a.answer ≡ answers.Waits) × (s' ≡ record s { drawn = s.drawn + 1 })) ⊎ ((a.answer ≡ answers.Waits → ⊥) × DoesLine step after a.answer (record s { drawn = s.drawn + 1 }) s')
@@ -83,9 +83,9 @@ module _ {T : Type 0} (g : Ghosts T) (b : RunStart) (script : List ScriptStep) (
           (is ∙ ap (λ p. step ∷ steps_ahead script s.daemon p) (sym m.place)) turns (line, tt) tt in
           let d = m.drawn in
           let below = t.drawn in
-          ends_turn g b script x old s t new s' entries x' (old.lock.roll.drawn + 1) behind next (omega arith) m.daemon
+          ends_turn g b script x old s t new s' entries x' (old.lock.roll.drawn + 1) behind next (omega arith) (omega arith) (draws_one g b script x old s t s') m.daemon
           (omega (arith, d)) (omega (arith, d, below)) (omega (arith, d, few)) (subst (λ p. p ≤ length script) (sym m.place) within)
-          (subst (λ c. MatchBool c (KeepsToScript R new.log.journal (steps_by s'.daemon script) (entries_by s'.daemon new.log.journal)) (IsOnWay b script new.lock.roll new.log.journal x' s')) (sym stays)
+          (subst (λ c. MatchBool c (DaemonKeepsToScript R new.log.journal (steps_by s'.daemon script) (entries_by s'.daemon new.log.journal)) (IsOnWay b script new.lock.roll new.log.journal x' s')) (sym stays)
           (on_way g b script x old s t new x' s' t.way.at turn (omega (arith, d, room)) m.daemon refl (subst (λ n. old.lock.roll.drawn + 1 ≤ n) (sym behind.drawn_is) (omega arith)) kept (names m)))
 
       refused_now : IsOver o [] (when_passed_over x) (old.lock.roll.drawn + 1) new.lock.roll new.log → pending_of st.v.before.world ticket ≡ None → R (old.lock.roll.drawn + 1) ticket
@@ -105,13 +105,14 @@ module _ {T : Type 0} (g : Ghosts T) (b : RunStart) (script : List ScriptStep) (
       -- it is looked for again
       waiting : (entries : List Entry) (x' : Daemon) → IsOver o entries x' (old.lock.roll.drawn + 1) new.lock.roll new.log → AddsAtMostOne o entries
           → x'.left ≡ false → s' ≡ record s { drawn = s.drawn + 1 }
-          → (at : Reached) → HasKeptTo R (steps_by s.daemon script) (steps_ahead script s.daemon s.place) (entries_by s.daemon new.log.journal) at → at.number ≤ new.lock.roll.drawn
+          → (at : Reached) → HasKeptSoFar R (steps_by s.daemon script) (steps_ahead script s.daemon s.place) (entries_by s.daemon new.log.journal) at → at.number ≤ new.lock.roll.drawn
           → (s.leaving ≡ None → s.names ≡ at.names) → PhaseAgrees at.phase x' s.leaving → EndsTurn b script o new s s'
       waiting entries x' behind next stays same at kept below names agrees =
           let drawn = t.drawn in
-          subst (λ (z : Progress). EndsTurn b script o new s z) (sym same)
-          (ends_turn g b script x old s t new (record s { drawn = s.drawn + 1 }) entries x' (old.lock.roll.drawn + 1) behind next (omega arith) refl (omega arith) (omega (arith, drawn)) (omega (arith, few)) t.within
-          (subst (λ c. MatchBool c (KeepsToScript R new.log.journal (steps_by s.daemon script) (entries_by s.daemon new.log.journal)) (IsOnWay b script new.lock.roll new.log.journal x' (record s { drawn = s.drawn + 1 }))) (sym stays)
+          subst (λ (z : ScriptPlace). EndsTurn b script o new s z) (sym same)
+          (ends_turn g b script x old s t new (record s { drawn = s.drawn + 1 }) entries x' (old.lock.roll.drawn + 1) behind next (omega arith) (omega arith)
+          (draws_one g b script x old s t (record s { drawn = s.drawn + 1 })) refl (omega arith) (omega (arith, drawn)) (omega (arith, few)) t.within
+          (subst (λ c. MatchBool c (DaemonKeepsToScript R new.log.journal (steps_by s.daemon script) (entries_by s.daemon new.log.journal)) (IsOnWay b script new.lock.roll new.log.journal x' (record s { drawn = s.drawn + 1 }))) (sym stays)
           (record { at = at; kept = kept; below = below; few = room; names = names; agrees = agrees; means = t.way.means })))
 
       first_wait : IsFree x t.way.at.phase (Some ticket) → (x.waits ≡ Some ticket → ⊥) → t.way.at.phase ≡ Phase.ready
@@ -135,7 +136,7 @@ module _ {T : Type 0} (g : Ghosts T) (b : RunStart) (script : List ScriptStep) (
           let below = t.way.below in
           let d = behind.drawn_is in
           waiting [] (after_wait x ticket) behind (AddsAtMostOne.none refl) t.stays waits.1 t.way.at
-          (subst (λ l. HasKeptTo R (steps_by s.daemon script) (steps_ahead script s.daemon s.place) l t.way.at) (sym (ap (entries_by s.daemon) (behind.journal_is ∙ append-nil old.log.journal)))
+          (subst (λ l. HasKeptSoFar R (steps_by s.daemon script) (steps_ahead script s.daemon s.place) l t.way.at) (sym (ap (entries_by s.daemon) (behind.journal_is ∙ append-nil old.log.journal)))
           (kept_also (WasLookRefused b old.lock.roll.drawn old.log.journal) R (refused_grows b o [] new.log.journal new.lock.roll.drawn (AddsAtMostOne.none refl) behind.journal_is (omega (arith, d)))
           (steps_by s.daemon script) (steps_ahead script s.daemon s.place) (entries_by s.daemon old.log.journal) t.way.at t.way.kept))
           (omega (arith, d, below)) t.way.names (agrees_again fr)

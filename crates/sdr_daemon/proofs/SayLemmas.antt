@@ -19,20 +19,20 @@ use Rattle.sdr_daemon.proofs.ComingLemmas.{begins}
 use Rattle.sdr_daemon.proofs.InsideLemmas.{cuts, says_on}
 use Rattle.sdr_daemon.proofs.ScriptLemmas.{lines_more, names_more}
 use Rattle.sdr_daemon.proofs.StepLemmas.{IsStep, is_statement, is_step, step_states}
-use Rattle.sdr_daemon.proofs.TurnLemmas.{IsFree, ends_turn, id_is, is_free, on_way, there, ticket_of, turned}
+use Rattle.sdr_daemon.proofs.TurnLemmas.{IsFree, draws_one, ends_turn, id_is, is_free, on_way, there, ticket_of, turned}
 use Rattle.sdr_daemon.specs.Progressing.{IsOnWay, MeansToLeave, WasLookRefused, steps_ahead}
-use Rattle.sdr_daemon.specs.Scripts.{HasKeptTo, KeepsToScript}
+use Rattle.sdr_daemon.specs.Scripts.{HasKeptSoFar, DaemonKeepsToScript}
 use Rattle.sdr_daemon.specs.TakingTurns.{AddsAtMostOne, EndsTurn, IsBeforeTurn, IsInWork}
 use Rattle.sdr_daemon.specs.TurnEvents.{BeforeTurn, IsOverWith, SaysOn, before_of}
 use Rattle.sdr_daemon.specs.Turns.{DaemonTurn, IsTurn, Phase, SayLines, after_turn, entries_by, names_after, opens_work, steps_by}
-use Rattle.sdr_daemon.specs.declared.progress.Progress.{Progress}
+use Rattle.sdr_daemon.specs.declared.script_place.ScriptPlace.{ScriptPlace}
 
-module _ {T : Type 0} (g : Ghosts T) (b : RunStart) (script : List ScriptStep) (x : Daemon) (old : LoggedLock T) (s : Progress) (t : IsBeforeTurn g b script x old s) where
+module _ {T : Type 0} (g : Ghosts T) (b : RunStart) (script : List ScriptStep) (x : Daemon) (old : LoggedLock T) (s : ScriptPlace) (t : IsBeforeTurn g b script x old s) where
   abbrev o : BeforeTurn
   o = before_of old x
 
   -- it begins a transaction
-  pub begun : (new : LoggedLock T) (s' : Progress) (step : ScriptStep) (after : ℕ) (a : Came) → steps_ahead script s.daemon s.place ≡ step ∷ steps_ahead script s.daemon after → after ≤ length script
+  pub begun : (new : LoggedLock T) (s' : ScriptPlace) (step : ScriptStep) (after : ℕ) (a : Came) → steps_ahead script s.daemon s.place ≡ step ∷ steps_ahead script s.daemon after → after ≤ length script
       → s.leaving ≡ None → event_of s.names step ≡ events.Begin → old.lock.roll.failed ≡ None
       → MakesCoreStep g s.daemon step.line events.Begin a old.lock old.log new.lock new.log → s'.place ≡ after → s'.daemon ≡ s.daemon → s'.drawn ≡ s.drawn + 1
       → (s'.leaving ≡ None → s'.names ≡ bound s.names step a.answer) → IsInWork g b script o new s s'
@@ -45,7 +45,7 @@ module _ {T : Type 0} (g : Ghosts T) (b : RunStart) (script : List ScriptStep) (
         said = said ∷ [];
         within = (begins st.step t.found t.stays t.free t.unsaid sound refl).0;
         at = t.way.at;
-        kept = subst (λ l. HasKeptTo (WasLookRefused b old.lock.roll.drawn old.log.journal) (steps_by s.daemon script) l (entries_by s.daemon old.log.journal) t.way.at)
+        kept = subst (λ l. HasKeptSoFar (WasLookRefused b old.lock.roll.drawn old.log.journal) (steps_by s.daemon script) l (entries_by s.daemon old.log.journal) t.way.at)
             (is ∙ ap (λ p. step ∷ steps_ahead script s.daemon p) (sym place)) t.way.kept;
         ready = ready (is_free g b script x old s t none step (steps_ahead script s.daemon after) is);
         below = t.way.below;
@@ -71,11 +71,11 @@ module _ {T : Type 0} (g : Ghosts T) (b : RunStart) (script : List ScriptStep) (
   opens_more (x ∷ said) more opens = opens
 
   -- it says a line of its transaction
-  module _ (k : LoggedLock T) (sa : Progress) (w : IsInWork g b script o k s sa) (room : s.drawn + 1 < 2 ^ 40) where
+  module _ (k : LoggedLock T) (sa : ScriptPlace) (w : IsInWork g b script o k s sa) (room : s.drawn + 1 < 2 ^ 40) where
     own : sa.daemon ≡ x.id
     own = w.daemon ∙ sym (id_is g b script x old s t)
 
-    module _ (new : LoggedLock T) (sb : Progress) (step : ScriptStep) (after : ℕ) (a : Came) (is : steps_ahead script s.daemon sa.place ≡ step ∷ steps_ahead script s.daemon after) (within : after ≤ length script)
+    module _ (new : LoggedLock T) (sb : ScriptPlace) (step : ScriptStep) (after : ℕ) (a : Came) (is : steps_ahead script s.daemon sa.place ≡ step ∷ steps_ahead script s.daemon after) (within : after ≤ length script)
         (stays : sa.leaving ≡ None) (makes : MakesCoreStep g sa.daemon step.line (event_of sa.names step) a k.lock k.log new.lock new.log) (place : sb.place ≡ after) (same : sb.daemon ≡ sa.daemon)
         (drawn : sb.drawn ≡ sa.drawn) (names : sb.leaving ≡ None → sb.names ≡ bound sa.names step a.answer) where
       st : IsStep g b sa.daemon step.line (event_of sa.names step) a k new
@@ -111,7 +111,7 @@ module _ {T : Type 0} (g : Ghosts T) (b : RunStart) (script : List ScriptStep) (
             said = w.said ++ said_by_it ∷ [];
             within = within_it;
             at = w.at;
-            kept = subst (λ l. HasKeptTo (WasLookRefused b old.lock.roll.drawn old.log.journal) (steps_by s.daemon script) l (entries_by s.daemon old.log.journal) w.at) rest_is w.kept;
+            kept = subst (λ l. HasKeptSoFar (WasLookRefused b old.lock.roll.drawn old.log.journal) (steps_by s.daemon script) l (entries_by s.daemon old.log.journal) w.at) rest_is w.kept;
             ready = w.ready;
             below = w.below;
             say = says;
@@ -139,9 +139,9 @@ module _ {T : Type 0} (g : Ghosts T) (b : RunStart) (script : List ScriptStep) (
               let d = drawn ∙ w.drawn in
               let few = t.way.few in
               let low = t.drawn in
-              ends_turn g b script x old s t new sb (h.entry ∷ []) (when_done x) (old.lock.roll.drawn + 1) h.over next (omega arith)
+              ends_turn g b script x old s t new sb (h.entry ∷ []) (when_done x) (old.lock.roll.drawn + 1) h.over next (omega arith) (omega arith) (draws_one g b script x old s t sb)
               (same ∙ w.daemon) (omega (arith, d)) (omega (arith, d, low)) (omega (arith, d, few)) (subst (λ p. p ≤ length script) (sym place) within)
-              (subst (λ c. MatchBool c (KeepsToScript (WasLookRefused b new.lock.roll.drawn new.log.journal) new.log.journal (steps_by sb.daemon script) (entries_by sb.daemon new.log.journal))
+              (subst (λ c. MatchBool c (DaemonKeepsToScript (WasLookRefused b new.lock.roll.drawn new.log.journal) new.log.journal (steps_by sb.daemon script) (entries_by sb.daemon new.log.journal))
               (IsOnWay b script new.lock.roll new.log.journal (when_done x) sb)) (sym t.stays)
               (on_way g b script x old s t new (when_done x) sb w.at turn (omega (arith, d, room)) (same ∙ w.daemon) refl (subst (λ n. old.lock.roll.drawn + 1 ≤ n) (sym h.over.drawn_is) (omega arith)) kept (by_leaving leaving)))
             where
@@ -151,7 +151,7 @@ module _ {T : Type 0} (g : Ghosts T) (b : RunStart) (script : List ScriptStep) (
               by_leaving (inr memory) = inr memory
 
     -- it leaves in its transaction
-    pub cut_off : (new : LoggedLock T) (sb : Progress) (leave : Leave) (a : Came) → MakesCoreStep g sa.daemon 0 (events.Leaves leave) a k.lock k.log new.lock new.log
+    pub cut_off : (new : LoggedLock T) (sb : ScriptPlace) (leave : Leave) (a : Came) → MakesCoreStep g sa.daemon 0 (events.Leaves leave) a k.lock k.log new.lock new.log
         → sb ≡ record sa { leaving = Some leave } → MeansToLeave (steps_ahead script s.daemon sa.place) (Some leave) → EndsTurn b script o new s sb
     cut_off new sb leave a makes is means =
         let st = is_step g b sa.daemon 0 (events.Leaves leave) a k new w.run makes in
@@ -169,14 +169,14 @@ module _ {T : Type 0} (g : Ghosts T) (b : RunStart) (script : List ScriptStep) (
         let few = t.way.few in
         let low = t.drawn in
         let R : ℕ → ℕ → Type 0 = WasLookRefused b new.lock.roll.drawn new.log.journal in
-        let after : Progress = record sa { leaving = Some leave } in
-        subst (λ (z : Progress). EndsTurn b script o new s z) (sym is)
-        (ends_turn g b script x old s t new after (h.entry ∷ []) (when_done x) (old.lock.roll.drawn + 1) h.over next (omega arith)
+        let after : ScriptPlace = record sa { leaving = Some leave } in
+        subst (λ (z : ScriptPlace). EndsTurn b script o new s z) (sym is)
+        (ends_turn g b script x old s t new after (h.entry ∷ []) (when_done x) (old.lock.roll.drawn + 1) h.over next (omega arith) (omega arith) (draws_one g b script x old s t after)
         w.daemon (omega (arith, d)) (omega (arith, d, low)) (omega (arith, d, few)) w.place
-        (subst (λ z. MatchBool z (KeepsToScript R new.log.journal (steps_by sa.daemon script) (entries_by sa.daemon new.log.journal)) (IsOnWay b script new.lock.roll new.log.journal (when_done x) after)) (sym t.stays)
+        (subst (λ z. MatchBool z (DaemonKeepsToScript R new.log.journal (steps_by sa.daemon script) (entries_by sa.daemon new.log.journal)) (IsOnWay b script new.lock.roll new.log.journal (when_done x) after)) (sym t.stays)
         (record {
           at = after_turn w.at turn;
-          kept = subst (λ id. HasKeptTo R (steps_by id script) (steps_ahead script id sa.place) (entries_by id new.log.journal) (after_turn w.at turn)) (sym w.daemon) kept;
+          kept = subst (λ id. HasKeptSoFar R (steps_by id script) (steps_ahead script id sa.place) (entries_by id new.log.journal) (after_turn w.at turn)) (sym w.daemon) kept;
           below = subst (λ n. old.lock.roll.drawn + 1 ≤ n) (sym h.over.drawn_is) (omega arith);
           few = omega (arith, d, room);
           names = λ none. absurd cc;

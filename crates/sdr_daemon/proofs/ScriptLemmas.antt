@@ -15,7 +15,7 @@ use Rattle.sdr_model.specs.declared.journal.Entry.{Entry}
 use Rattle.sdr_model.specs.declared.journal.Said.{Said}
 use Rattle.sdr_model.specs.declared.script.ScriptStep.{ScriptStep}
 use Rattle.sdr_words.specs.Bindings.{Binding, bound}
-use Rattle.sdr_daemon.specs.Scripts.{HasKeptTo, HasLeaveCause, IsLookRefused, KeepsToScript, LooksNext}
+use Rattle.sdr_daemon.specs.Scripts.{HasKeptSoFar, HasLeaveCause, IsLookRefused, DaemonKeepsToScript, LooksNext}
 use Rattle.sdr_daemon.specs.Turns.{DaemonTurn, IsLine, IsTurn, Reached, SayLines, TakeTurns, after_turn, after_turns, at_start, entries_by, names_after}
 
 -- one more line is said
@@ -59,9 +59,9 @@ after_turns-more p [] t = refl
 after_turns-more p (x ∷ turns) t = after_turns-more (after_turn p x) turns t
 
 -- so the daemon has kept to its script by one turn more
-pub kept_more : (R : ℕ → ℕ → Type 0) (steps rest rest' : List ScriptStep) (entries : List Entry) (at : Reached) (t : DaemonTurn) → HasKeptTo R steps rest entries at
+pub kept_more : (R : ℕ → ℕ → Type 0) (steps rest rest' : List ScriptStep) (entries : List Entry) (at : Reached) (t : DaemonTurn) → HasKeptSoFar R steps rest entries at
     → rest ≡ t.lines ++ rest' → IsTurn R at t → SayLines at.names t.lines t.said → LooksNext t.phase (names_after at.names t.lines t.said) rest'
-    → HasKeptTo R steps rest' (entries ++ t.entries) (after_turn at t)
+    → HasKeptSoFar R steps rest' (entries ++ t.entries) (after_turn at t)
 kept_more R steps rest rest' entries at t kept ahead is lines next =
     let L : DaemonTurn → List ScriptStep = λ (x : DaemonTurn). x.lines in
     let E : DaemonTurn → List Entry = λ (x : DaemonTurn). x.entries in
@@ -79,7 +79,7 @@ kept_more R steps rest rest' entries at t kept ahead is lines next =
 
 -- and where more is refused
 pub kept_also : (R R' : ℕ → ℕ → Type 0) → ((n ticket : ℕ) → R n ticket → R' n ticket) → (steps rest : List ScriptStep) (entries : List Entry) (at : Reached)
-    → HasKeptTo R steps rest entries at → HasKeptTo R' steps rest entries at
+    → HasKeptSoFar R steps rest entries at → HasKeptSoFar R' steps rest entries at
 kept_also R R' more steps rest entries at kept = record {
   turns = kept.turns;
   taken = turns_also R R' more at_start kept.turns kept.taken;
@@ -104,7 +104,7 @@ leave_later journal e number rest leaves.Spent may = may
 
 -- a script that was kept to stays so
 pub script_later : (R R' : ℕ → ℕ → Type 0) → ((n ticket : ℕ) → R n ticket → R' n ticket) → (journal : List Entry) (e : Entry) (steps : List ScriptStep) (entries : List Entry)
-    → KeepsToScript R journal steps entries → KeepsToScript R' (journal ++ e ∷ []) steps entries
+    → DaemonKeepsToScript R journal steps entries → DaemonKeepsToScript R' (journal ++ e ∷ []) steps entries
 script_later R R' more journal e steps entries keeps = record {
   rest = keeps.rest;
   before = keeps.before;
@@ -120,7 +120,7 @@ script_later R R' more journal e steps entries keeps = record {
 
 -- a script is kept to where more is refused
 pub script_also : (R R' : ℕ → ℕ → Type 0) → ((n ticket : ℕ) → R n ticket → R' n ticket) → (journal : List Entry) (steps : List ScriptStep) (entries : List Entry)
-    → KeepsToScript R journal steps entries → KeepsToScript R' journal steps entries
+    → DaemonKeepsToScript R journal steps entries → DaemonKeepsToScript R' journal steps entries
 script_also R R' more journal steps entries keeps = record {
   rest = keeps.rest;
   before = keeps.before;

@@ -1,4 +1,5 @@
--- Two daemons wait for each other: each is told that all have stalled, and goes on.
+-- Two daemons wait for each other: each is told that all have stalled, and goes on. The journal keeps to the scripts; it isn't legal,
+-- since what is said in it has no moves.
 use Rattle.std.proofs.Common.{◌≡◌, ◌==◌, ℕ, suc, zero, List, [], ◌∷◌, ◌++◌, true, false, Option, arith, refl, inl, inr}
 use Rattle.std.specs.Prelude.{All, codes}
 use Rattle.std.specs.List.{list_any}
@@ -7,7 +8,7 @@ use Rattle.sdr_base.specs.Media.{Told}
 use Rattle.sdr_base.specs.declared.account.Acct.TheVariants as accounts
 use Rattle.sdr_base.specs.declared.kind.Space.TheVariants as spaces
 use Rattle.sdr_daemon.proofs.RowLemmas.{entry, holds, line}
-use Rattle.sdr_daemon.specs.Scripts.{IsLookRefused, KeepToScripts, KeepsToScript}
+use Rattle.sdr_daemon.specs.Scripts.{IsLookRefused, KeepsToScripts, DaemonKeepsToScript}
 use Rattle.sdr_daemon.specs.Turns.{EndsLook, IsTurn, Phase, SayLines, entries_by, steps_by}
 use Rattle.sdr_machine.specs.Ground.{State}
 use Rattle.sdr_model.specs.declared.answer.Answer.TheVariants as answers
@@ -164,7 +165,7 @@ says_19 = (record { line = refl; event = refl }, tt)
 
 module _ (R : ℕ → ℕ → Type 0) where
   -- daemon 1 stalls twice, and then gives back
-  first_keeps : KeepsToScript R journal (steps_by 1 script) (entries_by 1 journal)
+  first_keeps : DaemonKeepsToScript R journal (steps_by 1 script) (entries_by 1 journal)
   first_keeps = record {
     rest = [];
     before =
@@ -232,7 +233,7 @@ module _ (R : ℕ → ℕ → Type 0) where
   }
 
   -- daemon 2 stalls once, waits again, and is awarded: its last look is answered at once
-  second_keeps : KeepsToScript R journal (steps_by 2 script) (entries_by 2 journal)
+  second_keeps : DaemonKeepsToScript R journal (steps_by 2 script) (entries_by 2 journal)
   second_keeps = record {
     rest = [];
     before =
@@ -313,7 +314,7 @@ daemons_only (suc (suc (suc (suc (suc (suc (suc (suc (suc (suc (suc (suc (suc (s
 daemons_only (suc (suc (suc (suc (suc (suc (suc (suc (suc (suc (suc (suc (suc (suc (suc k))))))))))))))) d within = absurd (omega (arith, within))
 
 -- the journal keeps to both scripts
-pub stalled_daemons_go_on : (told : Option Told) (first : State) → KeepToScripts told (1 ∷ 2 ∷ []) first script journal
+pub stalled_daemons_go_on : (told : Option Told) (first : State) → KeepsToScripts told (1 ∷ 2 ∷ []) first script journal
 stalled_daemons_go_on told first = record {
   each = (first_keeps (IsLookRefused told (1 ∷ 2 ∷ []) first journal), (second_keeps (IsLookRefused told (1 ∷ 2 ∷ []) first journal), tt));
   others = daemons_only;

@@ -25,11 +25,11 @@ use Rattle.sdr_daemon.proofs.EventLemmas.{found_none}
 use Rattle.sdr_daemon.proofs.ScriptLemmas.{kept_also, kept_more}
 use Rattle.sdr_daemon.proofs.StepLemmas.{any_more, grown, is_step, put_same, refused_grows, unsound_below}
 use Rattle.sdr_daemon.specs.Progressing.{IsOnWay, MeansToLeave, PhaseAgrees, WasLookRefused, steps_ahead}
-use Rattle.sdr_daemon.specs.Scripts.{HasKeptTo, HasLeaveCause, KeepsToScript, LooksNext}
-use Rattle.sdr_daemon.specs.TakingTurns.{AddsAtMostOne, DoesLine, EndsTurn, IsBeforeTurn, MayDepart}
+use Rattle.sdr_daemon.specs.Scripts.{HasKeptSoFar, HasLeaveCause, DaemonKeepsToScript, LooksNext}
+use Rattle.sdr_daemon.specs.TakingTurns.{AddsAtMostOne, BringsOn, DoesLine, EndsTurn, IsBeforeTurn, MayDepart}
 use Rattle.sdr_daemon.specs.TurnEvents.{BeforeTurn, IsOver, before_of}
 use Rattle.sdr_daemon.specs.Turns.{DaemonTurn, IsTurn, Phase, Reached, SayLines, after_turn, entries_by, is_refused_outside, names_after, steps_by}
-use Rattle.sdr_daemon.specs.declared.progress.Progress.{Progress}
+use Rattle.sdr_daemon.specs.declared.script_place.ScriptPlace.{ScriptPlace}
 
 -- a daemon does anything next, or looks at the ticket for which it waits
 pub data IsFree (x : Daemon) (phase : Phase) (ticket : Option ℕ) : Type 0 where
@@ -41,7 +41,7 @@ abbrev pub ticket_of : Event → Option ℕ
 ticket_of (events.Look ticket) = Some ticket
 ticket_of event = None
 
-module _ {T : Type 0} (g : Ghosts T) (b : RunStart) (script : List ScriptStep) (x : Daemon) (old : LoggedLock T) (s : Progress) (t : IsBeforeTurn g b script x old s) where
+module _ {T : Type 0} (g : Ghosts T) (b : RunStart) (script : List ScriptStep) (x : Daemon) (old : LoggedLock T) (s : ScriptPlace) (t : IsBeforeTurn g b script x old s) where
   abbrev o : BeforeTurn
   o = before_of old x
 
@@ -51,20 +51,29 @@ module _ {T : Type 0} (g : Ghosts T) (b : RunStart) (script : List ScriptStep) (
   pub there : among x.id old.lock.roll.daemons ≡ Some x
   there = ap (λ n. among n old.lock.roll.daemons) id_is ∙ t.found
 
+  up : old.lock.roll.drawn < old.lock.roll.drawn + 1
+  up = omega arith
+
+  -- a number that is drawn brings the daemon on
+  pub draws_one : (s' : ScriptPlace) → BringsOn o (old.lock.roll.drawn + 1) s s'
+  draws_one s' = BringsOn.draws up
+
   -- the turn is over, and the daemon's progress holds
-  pub ends_turn : (new : LoggedLock T) (s' : Progress) (entries : List Entry) (after : Daemon) (drawn : ℕ) → IsOver o entries after drawn new.lock.roll new.log → AddsAtMostOne o entries
-      → old.lock.roll.drawn ≤ drawn → s'.daemon ≡ s.daemon → drawn + s.drawn ≤ old.lock.roll.drawn + s'.drawn
+  pub ends_turn : (new : LoggedLock T) (s' : ScriptPlace) (entries : List Entry) (after : Daemon) (drawn : ℕ) → IsOver o entries after drawn new.lock.roll new.log → AddsAtMostOne o entries
+      → old.lock.roll.drawn ≤ drawn → drawn ≤ old.lock.roll.drawn + 1 → BringsOn o drawn s s' → s'.daemon ≡ s.daemon → drawn + s.drawn ≤ old.lock.roll.drawn + s'.drawn
       → s'.drawn ≤ drawn → s'.drawn ≤ 2 ^ 40 → s'.place ≤ length script
-      → MatchBool after.left (KeepsToScript (WasLookRefused b new.lock.roll.drawn new.log.journal) new.log.journal (steps_by s'.daemon script) (entries_by s'.daemon new.log.journal))
+      → MatchBool after.left (DaemonKeepsToScript (WasLookRefused b new.lock.roll.drawn new.log.journal) new.log.journal (steps_by s'.daemon script) (entries_by s'.daemon new.log.journal))
       (IsOnWay b script new.lock.roll new.log.journal after s')
       → EndsTurn b script o new s s'
-  ends_turn new s' entries after drawn over next more same counted below few within state = record {
+  ends_turn new s' entries after drawn over next more one on same counted below few within state = record {
     entries = entries;
     after = after;
     drawn = drawn;
     over = over;
     next = next;
     more = more;
+    few = one;
+    goes_on = on;
     holds = record {
       daemon = after;
       found =
@@ -81,14 +90,14 @@ module _ {T : Type 0} (g : Ghosts T) (b : RunStart) (script : List ScriptStep) (
 
   -- where the daemon is in its script behind a turn, from a place
   pub turned : (new : LoggedLock T) (entries : List Entry) (after : Daemon) (drawn : ℕ) → IsOver o entries after drawn new.lock.roll new.log → AddsAtMostOne o entries → old.lock.roll.drawn ≤ drawn
-      → (at : Reached) (from : List ScriptStep) → HasKeptTo (WasLookRefused b old.lock.roll.drawn old.log.journal) (steps_by s.daemon script) from (entries_by s.daemon old.log.journal) at
+      → (at : Reached) (from : List ScriptStep) → HasKeptSoFar (WasLookRefused b old.lock.roll.drawn old.log.journal) (steps_by s.daemon script) from (entries_by s.daemon old.log.journal) at
       → (turn : DaemonTurn) (rest : List ScriptStep) → turn.entries ≡ entries → from ≡ turn.lines ++ rest
       → IsTurn (WasLookRefused b new.lock.roll.drawn new.log.journal) at turn → SayLines at.names turn.lines turn.said
       → LooksNext turn.phase (names_after at.names turn.lines turn.said) rest
-      → HasKeptTo (WasLookRefused b new.lock.roll.drawn new.log.journal) (steps_by s.daemon script) rest (entries_by s.daemon new.log.journal) (after_turn at turn)
+      → HasKeptSoFar (WasLookRefused b new.lock.roll.drawn new.log.journal) (steps_by s.daemon script) rest (entries_by s.daemon new.log.journal) (after_turn at turn)
   turned new entries after drawn behind next more at from was turn rest is lines turns says looks_next =
       let R : ℕ → ℕ → Type 0 = WasLookRefused b new.lock.roll.drawn new.log.journal in
-      subst (λ l. HasKeptTo R (steps_by s.daemon script) rest l (after_turn at turn))
+      subst (λ l. HasKeptSoFar R (steps_by s.daemon script) rest l (after_turn at turn))
       (ap (λ l. entries_by s.daemon old.log.journal ++ l) is ∙ sym (grown o entries new.log.journal s.daemon id_is next behind.journal_is))
       (kept_more R (steps_by s.daemon script) from rest (entries_by s.daemon old.log.journal) at turn
       (kept_also (WasLookRefused b old.lock.roll.drawn old.log.journal) R
@@ -100,7 +109,7 @@ module _ {T : Type 0} (g : Ghosts T) (b : RunStart) (script : List ScriptStep) (
   below_next = let below = t.way.below in omega (arith, below)
 
   -- it leaves
-  pub departs : (new : LoggedLock T) (s' : Progress) (leave : Leave) (a : Came) → MayDepart old.lock.roll script s leave → MakesCoreStep g s.daemon 0 (events.Leaves leave) a old.lock old.log new.lock new.log
+  pub departs : (new : LoggedLock T) (s' : ScriptPlace) (leave : Leave) (a : Came) → MayDepart old.lock.roll script s leave → MakesCoreStep g s.daemon 0 (events.Leaves leave) a old.lock old.log new.lock new.log
       → s' ≡ record s { drawn = s.drawn + 1 } → EndsTurn b script o new s s'
   departs new s' leave a may makes is =
       let st = is_step g b s.daemon 0 (events.Leaves leave) a old new t.run makes in
@@ -108,14 +117,14 @@ module _ {T : Type 0} (g : Ghosts T) (b : RunStart) (script : List ScriptStep) (
       let R : ℕ → ℕ → Type 0 = WasLookRefused b new.lock.roll.drawn new.log.journal in
       let next : AddsAtMostOne o (h.entry ∷ []) = AddsAtMostOne.one h.entry refl h.next.number h.next.daemon in
       let own : entries_by s.daemon new.log.journal ≡ entries_by s.daemon old.log.journal ++ h.entry ∷ [] = grown o (h.entry ∷ []) new.log.journal s.daemon id_is next h.over.journal_is in
-      let kept : HasKeptTo R (steps_by s.daemon script) (steps_ahead script s.daemon s.place) (entries_by s.daemon old.log.journal) t.way.at =
+      let kept : HasKeptSoFar R (steps_by s.daemon script) (steps_ahead script s.daemon s.place) (entries_by s.daemon old.log.journal) t.way.at =
       kept_also (WasLookRefused b old.lock.roll.drawn old.log.journal) R
       (refused_grows b o (h.entry ∷ []) new.log.journal new.lock.roll.drawn next h.over.journal_is (subst (λ n. old.lock.roll.drawn ≤ n) (sym h.over.drawn_is) (omega arith)))
       (steps_by s.daemon script) (steps_ahead script s.daemon s.place) (entries_by s.daemon old.log.journal) t.way.at t.way.kept in
       let few = t.way.few in
       let drawn = t.drawn in
-      subst (λ (z : Progress). EndsTurn b script o new s z) (sym is)
-      (ends_turn new (record s { drawn = s.drawn + 1 }) (h.entry ∷ []) (after_leave x) (old.lock.roll.drawn + 1) h.over next (omega arith)
+      subst (λ (z : ScriptPlace). EndsTurn b script o new s z) (sym is)
+      (ends_turn new (record s { drawn = s.drawn + 1 }) (h.entry ∷ []) (after_leave x) (old.lock.roll.drawn + 1) h.over next (omega arith) (omega arith) (draws_one (record s { drawn = s.drawn + 1 }))
       refl (omega arith) (omega (arith, drawn)) (omega (arith, few)) t.within
       (record {
         rest = steps_ahead script s.daemon s.place;
@@ -155,13 +164,13 @@ module _ {T : Type 0} (g : Ghosts T) (b : RunStart) (script : List ScriptStep) (
       by Phase.leaving at next agrees = absurd (true≢false (sym (subst IsSome none (subst (λ q. PhaseAgrees q x s.leaving) at agrees))))
 
   -- behind a turn by which it is ready again, the daemon is on its way
-  pub on_way : (new : LoggedLock T) (after : Daemon) (s' : Progress) (at : Reached) (turn : DaemonTurn) → s'.drawn < 2 ^ 40 → s'.daemon ≡ s.daemon → turn.phase ≡ Phase.ready → turn.number ≤ new.lock.roll.drawn
-      → HasKeptTo (WasLookRefused b new.lock.roll.drawn new.log.journal) (steps_by s.daemon script) (steps_ahead script s.daemon s'.place) (entries_by s.daemon new.log.journal) (after_turn at turn)
+  pub on_way : (new : LoggedLock T) (after : Daemon) (s' : ScriptPlace) (at : Reached) (turn : DaemonTurn) → s'.drawn < 2 ^ 40 → s'.daemon ≡ s.daemon → turn.phase ≡ Phase.ready → turn.number ≤ new.lock.roll.drawn
+      → HasKeptSoFar (WasLookRefused b new.lock.roll.drawn new.log.journal) (steps_by s.daemon script) (steps_ahead script s.daemon s'.place) (entries_by s.daemon new.log.journal) (after_turn at turn)
       → ((s'.leaving ≡ None) × (s'.names ≡ names_after at.names turn.lines turn.said)) ⊎ (s'.leaving ≡ Some leaves.Memory)
       → IsOnWay b script new.lock.roll new.log.journal after s'
   on_way new after s' at turn few same ready below kept names = record {
     at = after_turn at turn;
-    kept = subst (λ id. HasKeptTo (WasLookRefused b new.lock.roll.drawn new.log.journal) (steps_by id script) (steps_ahead script id s'.place) (entries_by id new.log.journal) (after_turn at turn)) (sym same) kept;
+    kept = subst (λ id. HasKeptSoFar (WasLookRefused b new.lock.roll.drawn new.log.journal) (steps_by id script) (steps_ahead script id s'.place) (entries_by id new.log.journal) (after_turn at turn)) (sym same) kept;
     below = below;
     few = few;
     names = λ none. by_names none names;
@@ -180,9 +189,9 @@ module _ {T : Type 0} (g : Ghosts T) (b : RunStart) (script : List ScriptStep) (
       by_means (inr memory) = subst (MeansToLeave (steps_ahead script s'.daemon s'.place)) (sym memory) tt
 
   -- it passes over a line
-  pub passes : (s' : Progress) (step : ScriptStep) (after : ℕ) → steps_ahead script s.daemon s.place ≡ step ∷ steps_ahead script s.daemon after → after ≤ length script → s.leaving ≡ None
+  pub passes : (s' : ScriptPlace) (step : ScriptStep) (after : ℕ) → steps_ahead script s.daemon s.place ≡ step ∷ steps_ahead script s.daemon after → after ≤ length script → s.place < after → s.leaving ≡ None
       → is_refused_outside (event_of s.names step) ≡ true → DoesLine step after (refused refusals.NotBegun) s s' → EndsTurn b script o old s s'
-  passes s' step after is within none passed moves = by (is_free none step (steps_ahead script s.daemon after) is)
+  passes s' step after is within further none passed moves = by (is_free none step (steps_ahead script s.daemon after) is)
     where
       said : Said
       said = record { line = step.line; event = event_of s.names step; answer = refused refusals.NotBegun; bytes = []; moves = [] }
@@ -224,16 +233,17 @@ module _ {T : Type 0} (g : Ghosts T) (b : RunStart) (script : List ScriptStep) (
           (IsTurn.passes said at refl passed refl refl refl refl)
           (record { line = refl; event = ap (λ n. event_of n step) (t.way.names none) }, tt) tt in
           let few = t.way.few in
-          ends_turn old s' [] x old.lock.roll.drawn behind (AddsAtMostOne.none refl) (omega arith) moves.daemon
+          ends_turn old s' [] x old.lock.roll.drawn behind (AddsAtMostOne.none refl) (omega arith) (omega arith)
+          (BringsOn.further (let p = moves.place in omega (arith, p, further))) moves.daemon
           (let d = moves.drawn in omega (arith, d)) (let d = moves.drawn in let below = t.drawn in omega (arith, d, below)) (let d = moves.drawn in omega (arith, d, few))
           (subst (λ p. p ≤ length script) (sym moves.place) within)
-          (subst (λ c. MatchBool c (KeepsToScript (WasLookRefused b old.lock.roll.drawn old.log.journal) old.log.journal (steps_by s'.daemon script) (entries_by s'.daemon old.log.journal))
+          (subst (λ c. MatchBool c (DaemonKeepsToScript (WasLookRefused b old.lock.roll.drawn old.log.journal) old.log.journal (steps_by s'.daemon script) (entries_by s'.daemon old.log.journal))
           (IsOnWay b script old.lock.roll old.log.journal x s')) (sym t.stays)
           (on_way old x s' t.way.at turn (let d = moves.drawn in omega (arith, d, few)) moves.daemon refl t.way.below kept names))
 
   -- it finds no memory, and means to leave
-  pub starves : EndsTurn b script o old s (record s { leaving = Some leaves.Memory })
-  starves =
+  pub starves : s.leaving ≡ None → EndsTurn b script o old s (record s { leaving = Some leaves.Memory })
+  starves none =
       let few = t.way.few in
       ends_turn old (record s { leaving = Some leaves.Memory }) [] x old.lock.roll.drawn (record {
         journal_is = sym (append-nil old.log.journal);
@@ -242,8 +252,8 @@ module _ {T : Type 0} (g : Ghosts T) (b : RunStart) (script : List ScriptStep) (
         drawn_is = refl;
         id = refl;
         unheld = found_none old.lock.roll.daemons s.daemon x t.free t.found;
-      }) (AddsAtMostOne.none refl) (omega arith) refl (omega arith) t.drawn (omega (arith, few)) t.within
-      (subst (λ c. MatchBool c (KeepsToScript (WasLookRefused b old.lock.roll.drawn old.log.journal) old.log.journal (steps_by s.daemon script) (entries_by s.daemon old.log.journal))
+      }) (AddsAtMostOne.none refl) (omega arith) (omega arith) (BringsOn.starves none refl) refl (omega arith) t.drawn (omega (arith, few)) t.within
+      (subst (λ c. MatchBool c (DaemonKeepsToScript (WasLookRefused b old.lock.roll.drawn old.log.journal) old.log.journal (steps_by s.daemon script) (entries_by s.daemon old.log.journal))
       (IsOnWay b script old.lock.roll old.log.journal x (record s { leaving = Some leaves.Memory }))) (sym t.stays)
       (record { at = t.way.at; kept = t.way.kept; below = t.way.below; few = few; names = λ none. absurd cc; agrees = agrees t.way.at.phase t.way.agrees; means = tt }))
     where

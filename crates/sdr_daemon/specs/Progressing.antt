@@ -12,9 +12,9 @@ use Rattle.sdr_model.specs.declared.event.Leave.TheVariants as leaves
 use Rattle.sdr_model.specs.declared.event.Leave.{Leave}
 use Rattle.sdr_model.specs.declared.journal.Entry.{Entry}
 use Rattle.sdr_model.specs.declared.script.ScriptStep.{ScriptStep}
-use Rattle.sdr_daemon.specs.Scripts.{HasKeptTo, IsLookRefused, KeepsToScript}
+use Rattle.sdr_daemon.specs.Scripts.{HasKeptSoFar, IsLookRefused, DaemonKeepsToScript}
 use Rattle.sdr_daemon.specs.Turns.{Phase, Reached, entries_by, steps_by}
-use Rattle.sdr_daemon.specs.declared.progress.Progress.{Progress}
+use Rattle.sdr_daemon.specs.declared.script_place.ScriptPlace.{ScriptPlace}
 
 -- a look was refused under a number that was drawn
 pub record WasLookRefused (b : RunStart) (drawn : ℕ) (journal : List Entry) (number ticket : ℕ) : Type 0 where
@@ -32,7 +32,7 @@ PhaseAgrees Phase.ready d leaving = ⊤
 PhaseAgrees (Phase.waiting ticket) d leaving = d.waits ≡ Some ticket
 PhaseAgrees Phase.leaving d leaving = IsSome leaving
 
--- a daemon means to leave for want of memory, or behind its last line
+-- if a daemon means to leave, then for want of memory, or behind its last line
 abbrev pub MeansToLeave : List ScriptStep → Option Leave → Type 0
 MeansToLeave rest None = ⊤
 MeansToLeave rest (Some leaves.Memory) = ⊤
@@ -40,9 +40,9 @@ MeansToLeave rest (Some leaves.Done) = rest ≡ []
 MeansToLeave rest (Some leave) = ⊥
 
 -- A daemon is on its way: the lines before its place gave its entries.
-pub record IsOnWay (b : RunStart) (script : List ScriptStep) (r : Roll) (journal : List Entry) (d : Daemon) (s : Progress) : Type 0 where
+pub record IsOnWay (b : RunStart) (script : List ScriptStep) (r : Roll) (journal : List Entry) (d : Daemon) (s : ScriptPlace) : Type 0 where
   pub at : Reached
-  pub kept : HasKeptTo (WasLookRefused b r.drawn journal) (steps_by s.daemon script) (steps_ahead script s.daemon s.place) (entries_by s.daemon journal) at
+  pub kept : HasKeptSoFar (WasLookRefused b r.drawn journal) (steps_by s.daemon script) (steps_ahead script s.daemon s.place) (entries_by s.daemon journal) at
   pub below : at.number ≤ r.drawn
   pub few : s.drawn < 2 ^ 40
   pub names : s.leaving ≡ None → s.names ≡ at.names
@@ -50,7 +50,7 @@ pub record IsOnWay (b : RunStart) (script : List ScriptStep) (r : Roll) (journal
   pub means : MeansToLeave (steps_ahead script s.daemon s.place) s.leaving
 
 -- The progress of a daemon holds of a roll and a journal: the daemon has left, and its entries keep to its script; or it is on its way.
-pub record ProgressHolds (b : RunStart) (script : List ScriptStep) (r : Roll) (journal : List Entry) (s : Progress) : Type 0 where
+pub record ProgressHolds (b : RunStart) (script : List ScriptStep) (r : Roll) (journal : List Entry) (s : ScriptPlace) : Type 0 where
   pub daemon : Daemon
   pub found : daemon_of r s.daemon ≡ Some daemon
   pub drawn : s.drawn ≤ r.drawn
@@ -58,30 +58,30 @@ pub record ProgressHolds (b : RunStart) (script : List ScriptStep) (r : Roll) (j
   pub within : s.place ≤ length script
   pub state :
       MatchBool daemon.left
-      (KeepsToScript (WasLookRefused b r.drawn journal) journal (steps_by s.daemon script) (entries_by s.daemon journal))
+      (DaemonKeepsToScript (WasLookRefused b r.drawn journal) journal (steps_by s.daemon script) (entries_by s.daemon journal))
       (IsOnWay b script r journal daemon s)
 
 -- What holds of a core and the progress of its daemons between two turns: no number is held, no transaction is open, and each daemon's
 -- progress holds.
-pub record IsScriptedRun {T : Type 0} (g : Ghosts T) (b : RunStart) (script : List ScriptStep) (k : LoggedLock T) (these : List Progress) : Type 0 where
+pub record IsScriptedRun {T : Type 0} (g : Ghosts T) (b : RunStart) (script : List ScriptStep) (k : LoggedLock T) (these : List ScriptPlace) : Type 0 where
   pub free : hold_none k.lock.roll.daemons ≡ true
   pub unsaid : k.log.works ≡ []
   pub holds : All (ProgressHolds b script k.lock.roll k.log.journal) these
-  pub ids : map (λ (s : Progress). s.daemon) these ≡ b.daemons
+  pub ids : map (λ (s : ScriptPlace). s.daemon) these ≡ b.daemons
   pub apart : IsDistinct nat_eq b.daemons
-  pub drawn : k.lock.roll.drawn ≤ sum_by (λ (s : Progress). s.drawn) these
+  pub drawn : k.lock.roll.drawn ≤ sum_by (λ (s : ScriptPlace). s.drawn) these
   pub lasts : LastsOn g k.lock.base
 
 -- a core, and the progress of its daemons
 pub record ScriptedCore (T : Type 0) : Type 0 where
   pub core : LoggedLock T
-  pub progress : List Progress
+  pub progress : List ScriptPlace
 
 -- the progress of a daemon before its first line
-abbrev pub first_progress : ℕ → Progress
+abbrev pub first_progress : ℕ → ScriptPlace
 first_progress daemon = record { daemon = daemon; place = 0; drawn = 0; leaving = None; names = [] }
 
--- A core before any event, on a ground that is where the run begins.
+-- A core before any event: its daemons are newcomers, nothing was said, and its ground lasts for as many calls as are made.
 pub record IsFresh {T : Type 0} (g : Ghosts T) (b : RunStart) (k : LoggedLock T) : Type 0 where
   pub roll : k.lock.roll ≡ first_roll b.daemons
   pub works : k.log.works ≡ []
@@ -89,5 +89,5 @@ pub record IsFresh {T : Type 0} (g : Ghosts T) (b : RunStart) (k : LoggedLock T)
   pub lasts : LastsOn g k.lock.base
 
 -- whether all daemons of these have left
-abbrev pub have_left : Roll → List Progress → Bool
-have_left r these = list_all (λ (s : Progress). has_left r s.daemon) these
+abbrev pub have_left : Roll → List ScriptPlace → Bool
+have_left r these = list_all (λ (s : ScriptPlace). has_left r s.daemon) these

@@ -21,7 +21,7 @@ LooksNext (Phase.waiting ticket) names (step ∷ rest) = event_of names step ≡
 LooksNext phase names rest = ⊤
 
 -- The lines but these last ones gave these entries, turn by turn, and the daemon has come so far.
-pub record HasKeptTo (R : ℕ → ℕ → Type 0) (steps rest : List ScriptStep) (entries : List Entry) (at : Reached) : Type 0 where
+pub record HasKeptSoFar (R : ℕ → ℕ → Type 0) (steps rest : List ScriptStep) (entries : List Entry) (at : Reached) : Type 0 where
   pub turns : List DaemonTurn
   pub taken : TakeTurns R at_start turns
   pub at_is : at ≡ after_turns at_start turns
@@ -38,11 +38,11 @@ HasLeaveCause journal number rest leaves.Memory = ⊤
 HasLeaveCause journal number rest leaves.Spent = 2 ^ 40 ≤ number
 
 -- A daemon's entries are those of its lines in order, of all of them unless it left early, and a leave.
-pub record KeepsToScript (R : ℕ → ℕ → Type 0) (journal : List Entry) (steps : List ScriptStep) (entries : List Entry) : Type 0 where
+pub record DaemonKeepsToScript (R : ℕ → ℕ → Type 0) (journal : List Entry) (steps : List ScriptStep) (entries : List Entry) : Type 0 where
   pub rest : List ScriptStep
   pub before : List Entry
   pub at : Reached
-  pub kept : HasKeptTo R steps rest before at
+  pub kept : HasKeptSoFar R steps rest before at
   pub last : Entry
   pub all : entries ≡ before ++ last ∷ []
   pub leave : Leave
@@ -59,6 +59,6 @@ pub record IsLookRefused (told : Option Told) (daemons : List ℕ) (first : Stat
   pub none : pending_of before.world ticket ≡ Option.None
 
 -- The journal keeps to the scripts of these daemons: the entries of each keep to its lines, and there are no others.
-pub record KeepToScripts (told : Option Told) (daemons : List ℕ) (first : State) (script : List ScriptStep) (journal : List Entry) : Type 0 where
-  pub each : AllByRecursion (λ id. KeepsToScript (IsLookRefused told daemons first journal) journal (steps_by id script) (entries_by id journal)) daemons
+pub record KeepsToScripts (told : Option Told) (daemons : List ℕ) (first : State) (script : List ScriptStep) (journal : List Entry) : Type 0 where
+  pub each : AllByRecursion (λ id. DaemonKeepsToScript (IsLookRefused told daemons first journal) journal (steps_by id script) (entries_by id journal)) daemons
   pub others : All (λ (e : Entry). list_any (λ id. id == e.daemon) daemons ≡ true) journal

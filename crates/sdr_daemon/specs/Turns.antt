@@ -1,10 +1,11 @@
--- The turns of a daemon: what it does at once, and what its lines say in it.
+-- The turns of a daemon: what it does while it holds the lock once, and what its lines say in that.
 use Rattle.std.specs.Prelude.{◌≡◌, ◌<◌, ◌⊎◌, ℕ, List, [], ◌∷◌, ◌++◌, ◌==◌, Bool, true, false, filter, ⊤}
 use Rattle.sdr_base.specs.declared.refusal.Refusal.TheVariants as refusals
 use Rattle.sdr_machine.specs.Transaction.{refused}
 use Rattle.sdr_model.specs.declared.answer.Answer.TheVariants as answers
 use Rattle.sdr_model.specs.declared.answer.Close.TheVariants as closes
 use Rattle.sdr_model.specs.declared.answer.Close.{Close}
+use Rattle.sdr_model.specs.declared.answer.Reply.TheVariants as replies
 use Rattle.sdr_model.specs.declared.event.Event.TheVariants as events
 use Rattle.sdr_model.specs.declared.event.Event.{Event}
 use Rattle.sdr_model.specs.declared.event.Leave.{Leave}
@@ -56,7 +57,8 @@ pub record Reached : Type 0 where
 abbrev pub at_start : Reached
 at_start = record { number = 0; names = []; phase = Phase.ready }
 
--- what a daemon does at once: its lines, what they say, the entries that this gives, the number, and what it may do next
+-- What a daemon does while it holds the lock once: its lines, what they say, the entries that this gives, the number of the last of these or
+-- of a refused look, and what it may do next.
 pub record DaemonTurn : Type 0 where
   pub lines : List ScriptStep
   pub said : List Said
@@ -106,9 +108,10 @@ pub record SaysLook (t : DaemonTurn) (ticket : ℕ) : Type 0 where
 pub data EndsLook (ticket : ℕ) (s : Said) (what : What) : Type 0 where
   awarded : s.answer ≡ answers.Awarded → what ≡ whats.Awarded ticket → EndsLook ticket s what
   stalled : s.answer ≡ answers.Stalled → what ≡ whats.Stalled ticket → EndsLook ticket s what
-  failed : what ≡ whats.Work (s ∷ []) closes.Faulted → EndsLook ticket s what
+  failed : s.answer ≡ answers.Reply replies.DiskFault → what ≡ whats.Work (s ∷ []) closes.Faulted → EndsLook ticket s what
 
--- What a daemon that has come so far may do at once, where R tells of a number and a ticket that a look was refused so.
+-- What a daemon that has come so far may do while it holds the lock once. `R number ticket`: a look at the ticket was refused under the
+-- number.
 pub data IsTurn (R : ℕ → ℕ → Type 0) (at : Reached) (t : DaemonTurn) : Type 0 where
   -- a line outside a transaction that neither begins one nor looks at a ticket is refused, and gives nothing
   passes : (s : Said) → at.phase ≡ Phase.ready → t.said ≡ s ∷ [] → is_refused_outside s.event ≡ true → s.answer ≡ refused refusals.NotBegun

@@ -3,11 +3,11 @@ ghost use Rattle.std.specs.Prelude.{◌≡◌, ◌≤◌, IfErr, IfOk, false, is
 ghost use Rattle.std.specs.List.{IsDistinct};
 ghost use Rattle.sdr_core.specs.CoreKept.{IsRunOf, KeepsRun};
 ghost use Rattle.sdr_daemon.specs.Progressing.{IsFresh, first_progress, have_left};
-ghost use Rattle.sdr_daemon.specs.Scripts.{KeepToScripts};
+ghost use Rattle.sdr_daemon.specs.Scripts.{KeepsToScripts};
 ghost use Rattle.sdr_daemon.specs.TakingTurns.{TurnsAt, is_gone};
 ghost use Rattle.sdr_machine.specs.Crash.{is_sound};
 
-use crate::progress::{Progress, Scripted, first_progress};
+use crate::script_place::{ScriptPlace, Scripted, first_progress};
 use crate::turn::turn;
 use sdr_base::NoMemory;
 use sdr_core::{Core, Origin};
@@ -20,7 +20,7 @@ use std::marker::{Model, PhantomData};
 /// each daemon's entries are those of its lines that are done.
 pub struct ScriptedRun<T: Tells, J: Origin, S: Scripted> {
     core: Core<T, J>,
-    progress: Vec<Progress>,
+    progress: Vec<ScriptPlace>,
     script: Script,
     alloc: Global,
     of: PhantomData<S>,
@@ -39,7 +39,7 @@ impl<T: Tells, J: Origin, S: Scripted> Model for ScriptedRun<T, J, S> {
 }
 
 // The daemons of a roll before their first lines.
-fn progress_of(alloc: Global, roll: &Roll) -> Result<Vec<Progress>, NoMemory>
+fn progress_of(alloc: Global, roll: &Roll) -> Result<Vec<ScriptPlace>, NoMemory>
     ensures { IfOk result (λ all. all.items
         ≡ map (λ d. first_progress d.id) roll.now.daemons) }
 {
@@ -124,7 +124,7 @@ impl<T: Tells, J: Origin, S: Scripted> ScriptedRun<T, J, S> {
         ensures journal { result.0 ≡ self.core.log.journal }
         ensures base { result.1 ≡ self.core.lock.base }
         ensures run { IsRunOf T.HasGround J.begins result.0 result.1 }
-        ensures keeps { KeepToScripts J.begins.told J.begins.daemons J.begins.first S.script
+        ensures keeps { KeepsToScripts J.begins.told J.begins.daemons J.begins.first S.script
             result.0 }
     {
         let ScriptedRun {

@@ -8,7 +8,7 @@ ghost use Rattle.sdr_daemon.specs.Turns.{is_refused_outside};
 ghost use Rattle.sdr_machine.specs.Core.{closed_by};
 ghost use Rattle.sdr_words.specs.Bindings.{event_of};
 
-use crate::progress::{Progress, Scripted, next_step};
+use crate::script_place::{ScriptPlace, Scripted, next_step};
 use sdr_base::Refusal;
 use sdr_core::{Core, Origin};
 use sdr_machine::{Came, Tells};
@@ -20,7 +20,7 @@ const MOST_DRAWN: u64 = 1_099_511_627_775;
 
 /// What came of a line.
 #[derive(Clone, Copy)]
-pub enum Went {
+pub enum LineOutcome {
     /// It was said, and the transaction goes on.
     On,
     /// It was said, and closed the transaction.
@@ -46,7 +46,7 @@ fn closes(answer: &Answer) -> bool
 // that; if not, the daemon means to leave.
 fn note(
     alloc: Global,
-    progress: &mut Progress,
+    progress: &mut ScriptPlace,
     step: &ScriptStep,
     after: usize,
     answer: &Answer,
@@ -80,11 +80,11 @@ fn make_leave<T: Tells, J: Origin>(core: &mut Core<T, J>, daemon: u8, leave: Lea
 fn say<T: Tells, J: Origin>(
     alloc: Global,
     core: &mut Core<T, J>,
-    progress: &mut Progress,
+    progress: &mut ScriptPlace,
     step: &ScriptStep,
     after: usize,
     event: &Event,
-) -> Went
+) -> LineOutcome
     requires drawn { core.old.lock.roll.drawn < 2 ^ 60 }
     requires lasts { LastsOn T.HasGround core.old.lock.base }
     ensures says { SaysLine T.HasGround step.now after event.now core.old core.new progress.old
@@ -92,22 +92,22 @@ fn say<T: Tells, J: Origin>(
     ensures lasts { LastsOn T.HasGround core.new.lock.base }
 {
     let Ok(came) = core.event(progress.daemon, step.line, event) else {
-        return Went::Unsaid;
+        return LineOutcome::Unsaid;
     };
     let held = note(alloc, progress, step, after, &came.answer);
     if closes(&came.answer) {
-        return Went::Closed;
+        return LineOutcome::Closed;
     }
     if held {
-        return Went::On;
+        return LineOutcome::On;
     }
-    Went::Starved
+    LineOutcome::Starved
 }
 
 // The daemon leaves: its turn is its leave.
 fn depart<T: Tells, J: Origin, S: Scripted>(
     core: &mut Core<T, J>,
-    progress: &mut Progress,
+    progress: &mut ScriptPlace,
     leave: Leave,
 )
     requires drawn { core.old.lock.roll.drawn < 2 ^ 60 }
@@ -126,13 +126,14 @@ fn depart<T: Tells, J: Origin, S: Scripted>(
 fn pass<T: Tells, J: Origin, S: Scripted>(
     alloc: Global,
     core: &Core<T, J>,
-    progress: &mut Progress,
+    progress: &mut ScriptPlace,
     step: &ScriptStep,
     after: usize,
 )
     requires ahead { steps_ahead S.script progress.old.daemon progress.old.place
         ≡ step.now ∷ steps_ahead S.script progress.old.daemon after }
     requires within { after ≤ length S.script }
+    requires further { progress.old.place < after }
     requires stays { progress.old.leaving ≡ None }
     requires passed { is_refused_outside (event_of progress.old.names step.now) ≡ true }
     ensures ends { TakesTurn T.HasGround J.begins S.script core.now core.now progress.old
@@ -146,7 +147,7 @@ fn pass<T: Tells, J: Origin, S: Scripted>(
 fn look<T: Tells, J: Origin, S: Scripted>(
     alloc: Global,
     core: &mut Core<T, J>,
-    progress: &mut Progress,
+    progress: &mut ScriptPlace,
     step: &ScriptStep,
     after: usize,
     event: &Event,
@@ -181,11 +182,11 @@ fn look<T: Tells, J: Origin, S: Scripted>(
 fn begin<T: Tells, J: Origin, S: Scripted>(
     alloc: Global,
     core: &mut Core<T, J>,
-    progress: &mut Progress,
+    progress: &mut ScriptPlace,
     step: &ScriptStep,
     after: usize,
     event: &Event,
-) -> Went
+) -> LineOutcome
     requires drawn { core.old.lock.roll.drawn < 2 ^ 60 }
     requires few { progress.old.drawn + 1 < 2 ^ 40 }
     requires lasts { LastsOn T.HasGround core.old.lock.base }
@@ -200,16 +201,16 @@ fn begin<T: Tells, J: Origin, S: Scripted>(
         progress.old progress.new }
     ensures lasts { LastsOn T.HasGround core.new.lock.base }
 {
-    let went = say(alloc, core, progress, step, after, event);
-    if let Went::Unsaid = went {
-        return went;
+    let outcome = say(alloc, core, progress, step, after, event);
+    if let LineOutcome::Unsaid = outcome {
+        return outcome;
     }
     progress.drawn += 1;
-    went
+    outcome
 }
 
 // The daemon leaves in its transaction, which is closed by that.
-fn cut<T: Tells, J: Origin>(core: &mut Core<T, J>, progress: &mut Progress, leave: Leave) -> Came
+fn cut<T: Tells, J: Origin>(core: &mut Core<T, J>, progress: &mut ScriptPlace, leave: Leave) -> Came
     requires drawn { core.old.lock.roll.drawn < 2 ^ 60 }
     requires lasts { LastsOn T.HasGround core.old.lock.base }
     ensures makes { MakesCoreStep T.HasGround progress.old.daemon 0 (Event.Leaves leave) result
@@ -225,10 +226,10 @@ fn cut<T: Tells, J: Origin>(core: &mut Core<T, J>, progress: &mut Progress, leav
 fn line<T: Tells, J: Origin>(
     alloc: Global,
     core: &mut Core<T, J>,
-    progress: &mut Progress,
+    progress: &mut ScriptPlace,
     step: &ScriptStep,
     after: usize,
-) -> Went
+) -> LineOutcome
     requires drawn { core.old.lock.roll.drawn < 2 ^ 60 }
     requires lasts { LastsOn T.HasGround core.old.lock.base }
     ensures says { SaysLine T.HasGround step.now after (event_of progress.old.names step.now)
@@ -237,7 +238,7 @@ fn line<T: Tells, J: Origin>(
 {
     match progress.names.event(alloc, step) {
         Ok(event) => say(alloc, core, progress, step, after, &event),
-        Err(_) => Went::Unsaid,
+        Err(_) => LineOutcome::Unsaid,
     }
 }
 
@@ -245,7 +246,7 @@ fn line<T: Tells, J: Origin>(
 fn work<T: Tells, J: Origin, S: Scripted>(
     alloc: Global,
     core: &mut Core<T, J>,
-    progress: &mut Progress,
+    progress: &mut ScriptPlace,
     script: &[ScriptStep],
     step: &ScriptStep,
     after: usize,
@@ -268,22 +269,22 @@ fn work<T: Tells, J: Origin, S: Scripted>(
     ensures lasts { LastsOn T.HasGround core.new.lock.base }
 {
     match begin::<T, J, S>(alloc, core, progress, step, after, event) {
-        Went::On => (),
-        Went::Closed => return,
-        Went::Starved => {
+        LineOutcome::On => (),
+        LineOutcome::Closed => return,
+        LineOutcome::Starved => {
             cut(core, progress, Leave::Memory);
             return;
         }
-        Went::Unsaid => {
+        LineOutcome::Unsaid => {
             progress.leaving = Some(Leave::Memory);
             return;
         }
     }
     while let Some((step, after)) = next_step(script, progress.daemon, progress.place) {
         match line(alloc, core, progress, step, after) {
-            Went::On => (),
-            Went::Closed => return,
-            Went::Starved | Went::Unsaid => {
+            LineOutcome::On => (),
+            LineOutcome::Closed => return,
+            LineOutcome::Starved | LineOutcome::Unsaid => {
                 cut(core, progress, Leave::Memory);
                 return;
             }
@@ -296,7 +297,7 @@ fn work<T: Tells, J: Origin, S: Scripted>(
 pub fn turn<T: Tells, J: Origin, S: Scripted>(
     alloc: Global,
     core: &mut Core<T, J>,
-    progress: &mut Progress,
+    progress: &mut ScriptPlace,
     script: &[ScriptStep],
 )
     requires at { MayTakeTurn T.HasGround J.begins S.script core.old progress.old }

@@ -11,7 +11,7 @@ use Rattle.sdr_daemon.proofs.turn.look.Goals as goal
 pub returns-in_default-clause-ends : goal.returns-in_default-clause-ends
 returns-in_default-clause-ends g c x t =
     subst (λ (k : LoggedLock g.row.T.Denot). EndsTurn g.J.Origin.begins g.S.Scripted.script (before_of c.args.core.now x) k c.args.progress.now (record c.args.progress.now { leaving = Some leaves.Memory }))
-    (sym c.in_default.ensures.err) (starves g.T.HasGround g.J.Origin.begins g.S.Scripted.script x c.args.core.now c.args.progress.now t)
+    (sym c.in_default.ensures.err) (starves g.T.HasGround g.J.Origin.begins g.S.Scripted.script x c.args.core.now c.args.progress.now t c.requires.stays)
 
 pub returns-in-Waits-clause-ends : goal.returns-in-Waits-clause-ends
 returns-in-Waits-clause-ends g c x t =

@@ -19,7 +19,7 @@ impl Scripted for Brand {
 
 /// How far a daemon is in its script.
 #[derive(Drop)]
-pub struct Progress {
+pub struct ScriptPlace {
     pub daemon: u8,
     /// The place of the whole script from which on its lines aren't done.
     pub place: usize,
@@ -32,10 +32,10 @@ pub struct Progress {
 }
 
 /// A daemon before its first line. It takes no memory.
-pub fn first_progress(alloc: Global, daemon: u8) -> Progress
+pub fn first_progress(alloc: Global, daemon: u8) -> ScriptPlace
     ensures { result ≡ first_progress daemon }
 {
-    Progress {
+    ScriptPlace {
         daemon,
         place: 0,
         drawn: 0,

@@ -2,7 +2,7 @@ use Rattle.std.proofs.Common.{◌≡◌, ◌≤◌, ◌++◌, List, length}
 use Rattle.sdr_model.specs.declared.script.ScriptStep.{ScriptStep}
 use Rattle.sdr_daemon.specs.Progressing.{steps_ahead}
 use Rattle.sdr_daemon.specs.Turns.{steps_by}
-use Rattle.sdr_daemon.proofs.progress.next_step.Given as goal
+use Rattle.sdr_daemon.proofs.script_place.next_step.Given as goal
 
 abbrev pub invariant-loop-step : goal.invariant-loop-step
 invariant-loop-step l = record {

@@ -2,7 +2,7 @@ use Rattle.std.proofs.Common.{◌≡◌, ◌∷◌, ap}
 use Rattle.law_runs.proofs.RollLemmas.{number_same}
 use Rattle.sdr_daemon.proofs.LineLemmas.{front_is, other_number, rest_is, same_passed, step_found, step_passed}
 use Rattle.sdr_daemon.specs.Turns.{steps_by}
-use Rattle.sdr_daemon.proofs.progress.next_step.Goals as goal
+use Rattle.sdr_daemon.proofs.script_place.next_step.Goals as goal
 
 pub loop-step-init : goal.loop-step-init
 loop-step-init c = record {
