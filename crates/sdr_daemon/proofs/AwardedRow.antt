@@ -146,6 +146,7 @@ module _ (R : ℕ → ℕ → Type 0) where
     all = refl;
     leave = leaves.Done;
     leaves = refl;
+    due = tt;
     higher = omega arith;
     cause = refl;
   }
@@ -185,6 +186,7 @@ module _ (R : ℕ → ℕ → Type 0) where
     all = refl;
     leave = leaves.Done;
     leaves = refl;
+    due = tt;
     higher = omega arith;
     cause = refl;
   }

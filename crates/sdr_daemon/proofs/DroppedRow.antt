@@ -44,7 +44,7 @@ module _ (R : ℕ → ℕ → Type 0) where
       by : IsTurn R at t → (s : Said) × (t.said ≡ s ∷ []) × (s.event ≡ events.Begin → ⊥)
       by (IsTurn.passes s ready said passed answer entries number phase) = (s, said, λ begins. true≢false (sym passed ∙ ap is_refused_outside begins))
       by (IsTurn.works close ready opens gives phase) = absurd (clash gives.entry gives.is)
-      by (IsTurn.cut close s leave ready opens event gives phase) = absurd (clash gives.entry gives.is)
+      by (IsTurn.cut close s leave ready opens unlined event gives phase) = absurd (clash gives.entry gives.is)
       by (IsTurn.waits ticket ready lines gives phase) = absurd (clash gives.entry gives.is)
       by (IsTurn.looks ticket look what may gives ends phase) = absurd (clash gives.entry gives.is)
       by (IsTurn.refused_look ticket look may answer entries number refused phase) =

@@ -65,7 +65,7 @@ module _ (R : ℕ → ℕ → Type 0) (step : ScriptStep) (steps : List ScriptSt
           let work : whats.Work t.said closed ≡ whats.Work (s ∷ said) close = gave (whats.Work t.said closed) gives in
           let same : t.said ≡ s ∷ said = cc in
           (of s said same).line
-      by (IsTurn.cut closed last leave ready opens event gives phase) =
+      by (IsTurn.cut closed last leave ready opens unlined event gives phase) =
           let work : whats.Work (t.said ++ last ∷ []) closed ≡ whats.Work (s ∷ said) close = gave (whats.Work (t.said ++ last ∷ []) closed) gives in
           let same : t.said ++ last ∷ [] ≡ s ∷ said = cc in
           let first = first_said t.said last s said opens same in

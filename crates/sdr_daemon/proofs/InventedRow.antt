@@ -26,7 +26,7 @@ module _ (R : ℕ → ℕ → Type 0) where
       clash : (s : Said) → [] ≡ s ∷ [] → ⊥
       clash s is = absurd cc
   waits_alone at t none (IsTurn.works close ready opens gives phase) = absurd (true≢false (sym opens ∙ ap opens_work none))
-  waits_alone at t none (IsTurn.cut close s leave ready opens event gives phase) = absurd (true≢false (sym opens ∙ ap opens_work none))
+  waits_alone at t none (IsTurn.cut close s leave ready opens unlined event gives phase) = absurd (true≢false (sym opens ∙ ap opens_work none))
   waits_alone at t none (IsTurn.waits ticket ready lines gives phase) = (ticket, ready, phase)
   waits_alone at t none (IsTurn.looks ticket by what may gives ends phase) = absurd (clash by.said (sym none ∙ by.is))
     where

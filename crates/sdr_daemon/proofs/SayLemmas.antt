@@ -158,12 +158,12 @@ module _ {T : Type 0} (g : Ghosts T) (b : RunStart) (script : List ScriptStep) (
         let said : Said = (made_by sa.daemon (events.Leaves leave) a (g.moment k.lock.base) (g.moment new.lock.base) 0 st.v').said in
         let c = cuts st.step o w.said w.within (there g b script x old s t) t.stays t.free own leave refl in
         let h : IsOverWith o (whats.Work (w.said ++ said ∷ []) c.0) (when_done x) new.lock.roll new.log = c.2 in
-        let turn : DaemonTurn = record { lines = w.lines; said = w.said; entries = h.entry ∷ []; number = old.lock.roll.drawn + 1; phase = Phase.leaving } in
+        let turn : DaemonTurn = record { lines = w.lines; said = w.said; entries = h.entry ∷ []; number = old.lock.roll.drawn + 1; phase = Phase.leaving leave } in
         let next : AddsAtMostOne o (h.entry ∷ []) = AddsAtMostOne.one h.entry refl h.next.number h.next.daemon in
         let below = w.below in
         let kept =
         turned g b script x old s t new (h.entry ∷ []) (when_done x) (old.lock.roll.drawn + 1) h.over next (omega arith) w.at (w.lines ++ steps_ahead script s.daemon sa.place) w.kept turn (steps_ahead script s.daemon sa.place) refl refl
-        (IsTurn.cut c.0 said leave w.ready w.opens refl
+        (IsTurn.cut c.0 said leave w.ready w.opens refl refl
         (record { entry = h.entry; is = refl; what_is = h.next.what_is; number = sym h.next.number; higher = subst (λ n. w.at.number < n) (sym h.next.number) (omega (arith, below)) }) refl) w.say tt in
         let d = w.drawn in
         let few = t.way.few in

@@ -38,7 +38,7 @@ names_more names (x ∷ steps) [] step s lines = absurd lines
 pub turn_also : (R R' : ℕ → ℕ → Type 0) → ((n ticket : ℕ) → R n ticket → R' n ticket) → (p : Reached) (t : DaemonTurn) → IsTurn R p t → IsTurn R' p t
 turn_also R R' more p t (IsTurn.passes s ready said passed answer none number phase) = IsTurn.passes s ready said passed answer none number phase
 turn_also R R' more p t (IsTurn.works close ready opens adds phase) = IsTurn.works close ready opens adds phase
-turn_also R R' more p t (IsTurn.cut close s leave ready opens event adds phase) = IsTurn.cut close s leave ready opens event adds phase
+turn_also R R' more p t (IsTurn.cut close s leave ready opens unlined event adds phase) = IsTurn.cut close s leave ready opens unlined event adds phase
 turn_also R R' more p t (IsTurn.waits ticket ready lines adds phase) = IsTurn.waits ticket ready lines adds phase
 turn_also R R' more p t (IsTurn.looks ticket by what may adds ends phase) = IsTurn.looks ticket by what may adds ends phase
 turn_also R R' more p t (IsTurn.refused_look ticket by may answer none number at phase) =
@@ -114,6 +114,7 @@ script_later R R' more journal e steps entries keeps = record {
   all = keeps.all;
   leave = keeps.leave;
   leaves = keeps.leaves;
+  due = keeps.due;
   higher = keeps.higher;
   cause = leave_later journal e keeps.last.number keeps.rest keeps.leave keeps.cause;
 }
@@ -130,6 +131,7 @@ script_also R R' more journal steps entries keeps = record {
   all = keeps.all;
   leave = keeps.leave;
   leaves = keeps.leaves;
+  due = keeps.due;
   higher = keeps.higher;
   cause = keeps.cause;
 }

@@ -228,6 +228,7 @@ module _ (R : ℕ → ℕ → Type 0) where
     all = refl;
     leave = leaves.Done;
     leaves = refl;
+    due = tt;
     higher = omega arith;
     cause = refl;
   }
@@ -291,6 +292,7 @@ module _ (R : ℕ → ℕ → Type 0) where
     all = refl;
     leave = leaves.Done;
     leaves = refl;
+    due = tt;
     higher = omega arith;
     cause = refl;
   }

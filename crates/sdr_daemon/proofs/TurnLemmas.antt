@@ -25,7 +25,7 @@ use Rattle.sdr_daemon.proofs.EventLemmas.{found_none}
 use Rattle.sdr_daemon.proofs.ScriptLemmas.{kept_also, kept_more}
 use Rattle.sdr_daemon.proofs.StepLemmas.{any_more, grown, is_step, put_same, refused_grows, unsound_below}
 use Rattle.sdr_daemon.specs.Progressing.{IsOnWay, MeansToLeave, PhaseAgrees, WasLookRefused, steps_ahead}
-use Rattle.sdr_daemon.specs.Scripts.{HasKeptSoFar, HasLeaveCause, DaemonKeepsToScript, LooksNext}
+use Rattle.sdr_daemon.specs.Scripts.{HasKeptSoFar, HasLeaveCause, DaemonKeepsToScript, IsLeaveDue, LooksNext, leave_due}
 use Rattle.sdr_daemon.specs.TakingTurns.{AddsAtMostOne, BringsOn, DoesLine, EndsTurn, IsBeforeTurn, MayDepart}
 use Rattle.sdr_daemon.specs.TurnEvents.{BeforeTurn, IsOver, before_of}
 use Rattle.sdr_daemon.specs.Turns.{DaemonTurn, IsTurn, Phase, Reached, SayLines, after_turn, entries_by, is_refused_outside, names_after, steps_by}
@@ -109,9 +109,9 @@ module _ {T : Type 0} (g : Ghosts T) (b : RunStart) (script : List ScriptStep) (
   below_next = let below = t.way.below in omega (arith, below)
 
   -- it leaves
-  pub departs : (new : LoggedLock T) (s' : ScriptPlace) (leave : Leave) (a : Came) → MayDepart old.lock.roll script s leave → MakesCoreStep g s.daemon 0 (events.Leaves leave) a old.lock old.log new.lock new.log
+  pub departs : (new : LoggedLock T) (s' : ScriptPlace) (leave : Leave) (a : Came) → MayDepart old.lock.roll script s leave → IsLeaveDue s.leaving leave → MakesCoreStep g s.daemon 0 (events.Leaves leave) a old.lock old.log new.lock new.log
       → s' ≡ record s { drawn = s.drawn + 1 } → EndsTurn b script o new s s'
-  departs new s' leave a may makes is =
+  departs new s' leave a may due makes is =
       let st = is_step g b s.daemon 0 (events.Leaves leave) a old new t.run makes in
       let h = leaves st.step t.found t.stays t.free t.unsaid leave refl in
       let R : ℕ → ℕ → Type 0 = WasLookRefused b new.lock.roll.drawn new.log.journal in
@@ -135,10 +135,16 @@ module _ {T : Type 0} (g : Ghosts T) (b : RunStart) (script : List ScriptStep) (
         all = own;
         leave = leave;
         leaves = h.next.what_is;
+        due = due_by t.way.at.phase t.way.agrees;
         higher = subst (λ n. t.way.at.number < n) (sym h.next.number) below_next;
         cause = cause st.drawn h.entry h.next.number h.over.journal_is leave may;
       }))
     where
+      due_by : (p : Phase) → PhaseAgrees p x s.leaving → IsLeaveDue (leave_due p) leave
+      due_by Phase.ready agrees = tt
+      due_by (Phase.waiting ticket) agrees = tt
+      due_by (Phase.leaving meant) agrees = subst (λ o. IsLeaveDue o leave) agrees due
+
       cause : All (λ (e : Entry). e.number ≤ old.lock.roll.drawn) old.log.journal → (e : Entry) → e.number ≡ old.lock.roll.drawn + 1 → new.log.journal ≡ old.log.journal ++ e ∷ []
           → (leave : Leave) → MayDepart old.lock.roll script s leave → HasLeaveCause new.log.journal e.number (steps_ahead script s.daemon s.place) leave
       cause all e number grows leaves.Done may = may
@@ -161,7 +167,8 @@ module _ {T : Type 0} (g : Ghosts T) (b : RunStart) (script : List ScriptStep) (
           IsFree.awaits ticket at
           (ap (λ names. ticket_of (event_of names step)) (t.way.names none) ∙ ap ticket_of (subst (λ q. LooksNext q t.way.at.names (step ∷ rest)) at next))
           (subst (λ q. PhaseAgrees q x s.leaving) at agrees)
-      by Phase.leaving at next agrees = absurd (true≢false (sym (subst IsSome none (subst (λ q. PhaseAgrees q x s.leaving) at agrees))))
+      by (Phase.leaving leave) at next agrees =
+          let no : None ≡ Some leave = sym none ∙ subst (λ q. PhaseAgrees q x s.leaving) at agrees in absurd cc
 
   -- behind a turn by which it is ready again, the daemon is on its way
   pub on_way : (new : LoggedLock T) (after : Daemon) (s' : ScriptPlace) (at : Reached) (turn : DaemonTurn) → s'.drawn < 2 ^ 40 → s'.daemon ≡ s.daemon → turn.phase ≡ Phase.ready → turn.number ≤ new.lock.roll.drawn
@@ -260,4 +267,4 @@ module _ {T : Type 0} (g : Ghosts T) (b : RunStart) (script : List ScriptStep) (
       agrees : (p : Phase) → PhaseAgrees p x s.leaving → PhaseAgrees p x (Some leaves.Memory)
       agrees Phase.ready was = tt
       agrees (Phase.waiting ticket) was = was
-      agrees Phase.leaving was = refl
+      agrees (Phase.leaving leave) was = let no : None ≡ Some leave = sym none ∙ was in absurd cc

@@ -1,5 +1,5 @@
 -- How far the daemons of a core are in their scripts.
-use Rattle.std.specs.Prelude.{◌≡◌, ◌≤◌, ◌<◌, ◌^◌, ℕ, List, [], All, Bool, true, Option, None, Some, IsSome, MatchBool, drop, length, map, nat_eq, sum_by, ⊤}
+use Rattle.std.specs.Prelude.{◌≡◌, ◌≤◌, ◌<◌, ◌^◌, ℕ, List, [], All, Bool, true, Option, None, Some, MatchBool, drop, length, map, nat_eq, sum_by, ⊤}
 use Rattle.std.specs.List.{IsDistinct, list_all}
 use Rattle.sdr_core.specs.CoreKept.{LoggedLock, RunStart}
 use Rattle.sdr_core.specs.Leaving.{LastsOn}
@@ -25,12 +25,12 @@ pub record WasLookRefused (b : RunStart) (drawn : ℕ) (journal : List Entry) (n
 abbrev pub steps_ahead : List ScriptStep → ℕ → ℕ → List ScriptStep
 steps_ahead script daemon place = steps_by daemon (drop place script)
 
--- The daemon as the roll has it waits for the ticket that it may look at next, and means to leave where its transaction was closed by a
--- leave.
+-- The daemon as the roll has it waits for the ticket that it may look at next, and means to make the leave by which its transaction was
+-- closed.
 abbrev pub PhaseAgrees : Phase → Daemon → Option Leave → Type 0
 PhaseAgrees Phase.ready d leaving = ⊤
 PhaseAgrees (Phase.waiting ticket) d leaving = d.waits ≡ Some ticket
-PhaseAgrees Phase.leaving d leaving = IsSome leaving
+PhaseAgrees (Phase.leaving leave) d leaving = leaving ≡ Some leave
 
 -- if a daemon means to leave, then for want of memory, or behind its last line
 abbrev pub MeansToLeave : List ScriptStep → Option Leave → Type 0

@@ -1,5 +1,5 @@
 -- When a journal keeps to the scripts: each daemon's entries are its lines in order.
-use Rattle.std.specs.Prelude.{◌≡◌, ◌<◌, ◌≤◌, ◌^◌, ◌&&◌, ℕ, List, [], ◌∷◌, ◌++◌, ◌==◌, All, true, not, filter, flat_map, nat_lt, Option, ⊤}
+use Rattle.std.specs.Prelude.{◌≡◌, ◌<◌, ◌≤◌, ◌⊎◌, ◌^◌, ◌&&◌, ℕ, List, [], ◌∷◌, ◌++◌, ◌==◌, All, true, not, filter, flat_map, nat_lt, Option, None, Some, ⊤}
 use Rattle.std.specs.List.{AllByRecursion, list_all, list_any}
 use Rattle.sdr_base.specs.Media.{Told}
 use Rattle.sdr_machine.specs.Ground.{State}
@@ -37,6 +37,16 @@ HasLeaveCause journal number rest leaves.Fault = list_any (λ (e : Entry). is_fa
 HasLeaveCause journal number rest leaves.Memory = ⊤
 HasLeaveCause journal number rest leaves.Spent = 2 ^ 40 ≤ number
 
+-- the leave that a daemon is to make, where one has closed its transaction
+abbrev pub leave_due : Phase → Option Leave
+leave_due (Phase.leaving leave) = Some leave
+leave_due phase = None
+
+-- a daemon that is to make a leave makes that one, or leaves for a fault
+abbrev pub IsLeaveDue : Option Leave → Leave → Type 0
+IsLeaveDue None leave = ⊤
+IsLeaveDue (Some due) leave = (leave ≡ due) ⊎ (leave ≡ leaves.Fault)
+
 -- A daemon's entries are those of its lines in order, of all of them unless it left early, and a leave.
 pub record DaemonKeepsToScript (R : ℕ → ℕ → Type 0) (journal : List Entry) (steps : List ScriptStep) (entries : List Entry) : Type 0 where
   pub rest : List ScriptStep
@@ -47,6 +57,7 @@ pub record DaemonKeepsToScript (R : ℕ → ℕ → Type 0) (journal : List Entr
   pub all : entries ≡ before ++ last ∷ []
   pub leave : Leave
   pub leaves : last.what ≡ whats.Leaves leave
+  pub due : IsLeaveDue (leave_due at.phase) leave
   pub higher : at.number < last.number
   pub cause : HasLeaveCause journal last.number rest leave
 

@@ -41,11 +41,11 @@ abbrev pub names_after : List Binding → List ScriptStep → List Said → List
 names_after names (step ∷ steps) (s ∷ said) = names_after (bound names step s.answer) steps said
 names_after names steps said = names
 
--- what a daemon may do next: anything; or look again at the ticket for which it waits; or leave, since a leave has closed its transaction
+-- what a daemon may do next: anything; or look again at the ticket for which it waits; or make the leave that has closed its transaction
 pub data Phase : Type 0 where
   ready : Phase
   waiting : ℕ → Phase
-  leaving : Phase
+  leaving : Leave → Phase
 
 -- how far a daemon has come: the number of its last entry or refused look, what its names hold, and what it may do next
 pub record Reached : Type 0 where
@@ -119,8 +119,8 @@ pub data IsTurn (R : ℕ → ℕ → Type 0) (at : Reached) (t : DaemonTurn) : T
   -- from a begin on, the lines up to the closing one are all that is said in the transaction
   works : (close : Close) → at.phase ≡ Phase.ready → opens_work t.said ≡ true → GivesEntry at t (whats.Work t.said close) → t.phase ≡ Phase.ready → IsTurn R at t
   -- or the lines up to a leave, which closes it
-  cut : (close : Close) (s : Said) (leave : Leave) → at.phase ≡ Phase.ready → opens_work t.said ≡ true → s.event ≡ events.Leaves leave
-      → GivesEntry at t (whats.Work (t.said ++ s ∷ []) close) → t.phase ≡ Phase.leaving → IsTurn R at t
+  cut : (close : Close) (s : Said) (leave : Leave) → at.phase ≡ Phase.ready → opens_work t.said ≡ true → s.line ≡ 0 → s.event ≡ events.Leaves leave
+      → GivesEntry at t (whats.Work (t.said ++ s ∷ []) close) → t.phase ≡ Phase.leaving leave → IsTurn R at t
   -- a look at a ticket that waits gives an entry once
   waits : (ticket : ℕ) → at.phase ≡ Phase.ready → t.lines ≡ [] → GivesEntry at t (whats.Waits ticket) → t.phase ≡ Phase.waiting ticket → IsTurn R at t
   -- and the look is made again until its ticket is granted, all daemons have stalled, or the disk fails

@@ -3,6 +3,7 @@ ghost use Rattle.std.specs.Prelude.{◌≡◌, ◌≤◌, ◌<◌, ◌^◌, ◌+
 ghost use Rattle.sdr_core.specs.CoreKept.{MakesCoreStep};
 ghost use Rattle.sdr_core.specs.Leaving.{LastsOn};
 ghost use Rattle.sdr_daemon.specs.Progressing.{steps_ahead};
+ghost use Rattle.sdr_daemon.specs.Scripts.{IsLeaveDue};
 ghost use Rattle.sdr_daemon.specs.TakingTurns.{BeginComesTo, DoesLine, MayDepart, MayTakeTurn, SaysLine, TakesTurn};
 ghost use Rattle.sdr_daemon.specs.Turns.{is_refused_outside};
 ghost use Rattle.sdr_machine.specs.Core.{closed_by};
@@ -114,6 +115,7 @@ fn depart<T: Tells, J: Origin, S: Scripted>(
     requires few { progress.old.drawn < 2 ^ 40 }
     requires lasts { LastsOn T.HasGround core.old.lock.base }
     requires may { MayDepart core.old.lock.roll S.script progress.old leave }
+    requires due { IsLeaveDue progress.old.leaving leave }
     ensures ends { TakesTurn T.HasGround J.begins S.script core.old core.new progress.old
         progress.new }
     ensures lasts { LastsOn T.HasGround core.new.lock.base }
