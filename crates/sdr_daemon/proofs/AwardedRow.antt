@@ -202,7 +202,7 @@ daemons_only (suc (suc (suc (suc (suc (suc zero)))))) d within = refl
 daemons_only (suc (suc (suc (suc (suc (suc (suc k))))))) d within = absurd (omega (arith, within))
 
 -- the journal keeps to both scripts
-pub waiting_daemon_is_awarded : (told : Option Told) (first : State) → KeepsToScripts told (1 ∷ 2 ∷ []) first script journal
+pub waiting_daemon_is_awarded : (told : Option Told) (first : State) → KeepsToScripts told first script journal
 waiting_daemon_is_awarded told first = record {
   each = (first_keeps (IsLookRefused told (1 ∷ 2 ∷ []) first journal), (second_keeps (IsLookRefused told (1 ∷ 2 ∷ []) first journal), tt));
   others = daemons_only;

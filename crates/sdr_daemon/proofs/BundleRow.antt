@@ -76,7 +76,7 @@ daemons_only (suc zero) d within = refl
 daemons_only (suc (suc k)) d within = absurd (omega (arith, within))
 
 -- the transaction and the leave keep to the script
-pub bundle_out_of_a_file : (told : Option Told) (first : State) → KeepsToScripts told (1 ∷ []) first script (bundle ∷ leave ∷ [])
+pub bundle_out_of_a_file : (told : Option Told) (first : State) → KeepsToScripts told first script (bundle ∷ leave ∷ [])
 bundle_out_of_a_file told first = record {
   each = (
     record {

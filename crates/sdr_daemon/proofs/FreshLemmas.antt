@@ -1,6 +1,7 @@
 -- Before any turn each daemon is at its first line.
-use Rattle.std.proofs.Common.{◌≡◌, ◌∙◌, ◌<◌, ◌==◌, ℕ, zero, suc, List, [], ◌∷◌, Bool, true, false, Some, arith, refl, sym, ap, subst, cond, length, map}
-use Rattle.std.specs.List.{AllByRecursion, IsDistinct}
+use Rattle.std.proofs.Common.{◌≡◌, ◌∙◌, ◌<◌, ◌+◌, ◌==◌, ℕ, zero, suc, List, [], ◌∷◌, Bool, true, false, Some, arith, refl, sym, ap, subst, cond, length, map}
+use Rattle.std.proofs.lemmas.Bool.Decides.{nat_tests}
+use Rattle.std.specs.List.{AllByRecursion, IsDistinct, filter, list_any, range_with_len}
 use Rattle.std.specs.Prelude.{All, nat_eq, slice_index_or}
 use Rattle.law_runs.proofs.RollLemmas.{among, number_same, same_number}
 use Rattle.sdr_core.specs.CoreKept.{LoggedLock, RunStart}
@@ -10,9 +11,46 @@ use Rattle.sdr_machine.specs.declared.daemon.Daemon.{Daemon}
 use Rattle.sdr_machine.specs.declared.has_ground.HasGround.{Ghosts}
 use Rattle.sdr_model.specs.declared.journal.Entry.{Entry}
 use Rattle.sdr_model.specs.declared.script.ScriptStep.{ScriptStep}
+use Rattle.sdr_words.specs.Daemons.{all_daemons, daemons_of}
 use Rattle.sdr_daemon.specs.Progressing.{IsFresh, IsScriptedRun, ProgressHolds, first_progress}
 use Rattle.sdr_daemon.specs.Turns.{at_start}
 use Rattle.sdr_daemon.specs.declared.script_place.ScriptPlace.{ScriptPlace}
+
+-- what holds of each of some numbers holds of each of those that are picked
+each_picked : (P : ℕ → Type 0) (p : ℕ → Bool) (numbers : List ℕ) → AllByRecursion P numbers → AllByRecursion P (filter p numbers)
+each_picked P p [] each = tt
+each_picked P p (n ∷ numbers) each = by (p n) (each_picked P p numbers each.1)
+  where
+    by : (b : Bool) → AllByRecursion P (filter p numbers) → AllByRecursion P (cond b (n ∷ filter p numbers) (filter p numbers))
+    by true rest = (each.0, rest)
+    by false rest = rest
+
+-- of distinct numbers those that are picked are distinct
+picked_apart : (p : ℕ → Bool) (numbers : List ℕ) → IsDistinct nat_eq numbers → IsDistinct nat_eq (filter p numbers)
+unfolding IsDistinct
+picked_apart p [] apart = tt
+picked_apart p (n ∷ numbers) apart = by (p n) (picked_apart p numbers apart.1)
+  where
+    by : (b : Bool) → IsDistinct nat_eq (filter p numbers) → IsDistinct nat_eq (cond b (n ∷ filter p numbers) (filter p numbers))
+    by true rest = (each_picked (λ m. nat_eq n m ≡ false) p numbers apart.0, rest)
+    by false rest = rest
+
+-- a number isn't among those above it
+above_other : (n from len : ℕ) → n < from → AllByRecursion (λ m. nat_eq n m ≡ false) (range_with_len from len)
+above_other n from zero above = tt
+above_other n from (suc len) above =
+    let other : nat_eq n from ≡ false = grind (arith, nat_tests) in
+    (other, above_other n (from + 1) len (omega (arith, above)))
+
+-- numbers in order are distinct
+range_apart : (from len : ℕ) → IsDistinct nat_eq (range_with_len from len)
+unfolding IsDistinct
+range_apart from zero = tt
+range_apart from (suc len) = (above_other from (from + 1) len (omega arith), range_apart (from + 1) len)
+
+-- the daemons that a script names are distinct
+named_apart : (script : List ScriptStep) → IsDistinct nat_eq (daemons_of script)
+named_apart script = picked_apart (λ daemon. list_any (λ (step : ScriptStep). step.daemon == daemon) script) all_daemons (range_apart 1 16)
 
 -- newcomers hold no number
 none_hold : (ids : List ℕ) → hold_none (map newcomer ids) ≡ true
@@ -77,9 +115,9 @@ first_holds b script ids id found = record {
 }
 
 -- before any turn
-pub fresh_run : {T : Type 0} (g : Ghosts T) (b : RunStart) (script : List ScriptStep) (k : LoggedLock T) → IsFresh g b k → IsDistinct nat_eq b.daemons
+pub fresh_run : {T : Type 0} (g : Ghosts T) (b : RunStart) (script : List ScriptStep) (k : LoggedLock T) → IsFresh g b k → b.daemons ≡ daemons_of script
     → IsScriptedRun g b script k (map first_progress b.daemons)
-fresh_run g b script k fresh apart = record {
+fresh_run g b script k fresh named = record {
   free = ap (λ (r : Roll). hold_none r.daemons) fresh.roll ∙ none_hold b.daemons;
   unsaid = fresh.works;
   holds =
@@ -87,7 +125,8 @@ fresh_run g b script k fresh apart = record {
       (subst (λ (journal : List Entry). All (ProgressHolds b script (first_roll b.daemons) journal) (map first_progress b.daemons)) (sym fresh.journal)
       (all_first (ProgressHolds b script (first_roll b.daemons) []) (IsNewcomer b.daemons) (first_holds b script b.daemons) b.daemons (each_newcomer b.daemons)));
   ids = ids_of-first b.daemons;
-  apart = apart;
+  named = named;
+  apart = subst (IsDistinct nat_eq) (sym named) (named_apart script);
   drawn = let none = ap (λ (r : Roll). r.drawn) fresh.roll in omega (arith, none);
   lasts = fresh.lasts;
 }

@@ -1,4 +1,4 @@
--- A daemon without a line has no entry but its leave: a journal with one more of it doesn't keep to the script.
+-- A daemon that keeps to no lines has no entry but its leave: with one more entry it doesn't.
 use Rattle.std.proofs.Common.{◌≡◌, ◌∙◌, ℕ, List, [], ◌∷◌, ◌++◌, true≢false, refl, sym, ap, subst}
 use Rattle.std.specs.List.{flat_map}
 use Rattle.sdr_model.specs.declared.journal.Entry.{Entry}

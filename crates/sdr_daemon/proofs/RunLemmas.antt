@@ -3,9 +3,9 @@ use Rattle.std.proofs.Common.{◌≡◌, ◌∙◌, ◌<◌, ◌≤◌, ◌≢�
 use Rattle.std.proofs.Math.Seq.{map-set_same}
 use Rattle.std.proofs.lemmas.List.{get_or-set_other, get_or-set_same, get_or_default, length-map, length-set}
 use Rattle.std.proofs.lemmas.List.Sums.{sum_by-cons, sum_by-set}
-use Rattle.std.specs.List.{AllByRecursion, IsDistinct}
+use Rattle.std.specs.List.{AllByRecursion, IsDistinct, list_any}
 use Rattle.std.specs.Option.{option_map_or}
-use Rattle.std.specs.Prelude.{length, map, slice_index_or, slice_set, sum_by, is_some, nat_eq, slice_get}
+use Rattle.std.specs.Prelude.{All, length, map, slice_index_or, slice_set, sum_by, is_some, nat_eq, slice_get}
 use Rattle.std.proofs.lemmas.List.Folds.{list_all_at}
 use Rattle.law_runs.proofs.RollLemmas.{among, found_number, number_same, other_put, same_number, turned}
 use Rattle.law_runs.proofs.RunLemmas.{run_keeps, run_members}
@@ -116,6 +116,7 @@ module _ {T : Type 0} (g : Ghosts T) (b : RunStart) (script : List ScriptStep) (
     unsaid = e.over.unsaid;
     holds = λ i d inside. by i d (i == place) refl (subst (λ n. i < n) len inside);
     ids = map-set_same (λ (z : ScriptPlace). z.daemon) these place s' s' same_here ∙ l.ids;
+    named = l.named;
     apart = l.apart;
     drawn =
         (let sum = sum_by-set (λ (z : ScriptPlace). z.drawn) these place s' s' within in
@@ -149,20 +150,24 @@ each_script P (s ∷ these) all = (all 0 s (omega arith), each_script P these (�
 
 -- all have left: the journal keeps to the scripts
 pub all_left : {T : Type 0} (g : Ghosts T) (b : RunStart) (script : List ScriptStep) (k : LoggedLock T) (these : List ScriptPlace) → KeepsRun g b k → IsScriptedRun g b script k these
-    → have_left k.lock.roll these ≡ true → KeepsToScripts b.told b.daemons b.first script k.log.journal
+    → have_left k.lock.roll these ≡ true → KeepsToScripts b.told b.first script k.log.journal
 all_left g b script k these run l left = record {
-  each = subst (AllByRecursion P) l.ids (each_script P these (λ i d inside. of (slice_index_or these i d) (l.holds i d inside) (left_at i d inside (has_left k.lock.roll (slice_index_or these i d).daemon) refl)));
-  others = run_members b.told b.daemons b.first run.made (core_at k run.for) run.runs;
+  each =
+      subst (λ ds. AllByRecursion (P ds) ds) l.named
+      (subst (AllByRecursion (P b.daemons)) l.ids (each_script (P b.daemons) these (λ i d inside. of (slice_index_or these i d) (l.holds i d inside) (left_at i d inside (has_left k.lock.roll (slice_index_or these i d).daemon) refl))));
+  others =
+      subst (λ ds. All (λ (e : Entry). list_any (λ id. id == e.daemon) ds ≡ true) k.log.journal) l.named
+      (run_members b.told b.daemons b.first run.made (core_at k run.for) run.runs);
 }
   where
     left_at : (i : ℕ) (d : ScriptPlace) → i < length these → (c : Bool) → has_left k.lock.roll (slice_index_or these i d).daemon ≡ c → has_left k.lock.roll (slice_index_or these i d).daemon ≡ true
     left_at i d inside true is = is
     left_at i d inside false is = absurd (true≢false (sym left ∙ list_all_at (λ (s : ScriptPlace). has_left k.lock.roll s.daemon) these i d inside is))
 
-    P : ℕ → Type 0
-    P id = DaemonKeepsToScript (IsLookRefused b.told b.daemons b.first k.log.journal) k.log.journal (steps_by id script) (entries_by id k.log.journal)
+    P : List ℕ → ℕ → Type 0
+    P ds id = DaemonKeepsToScript (IsLookRefused b.told ds b.first k.log.journal) k.log.journal (steps_by id script) (entries_by id k.log.journal)
 
-    of : (s : ScriptPlace) → ProgressHolds b script k.lock.roll k.log.journal s → has_left k.lock.roll s.daemon ≡ true → P s.daemon
+    of : (s : ScriptPlace) → ProgressHolds b script k.lock.roll k.log.journal s → has_left k.lock.roll s.daemon ≡ true → P b.daemons s.daemon
     of s seated gone =
         let is : seated.daemon.left ≡ true = ap (λ o. option_map_or (λ (d : Daemon). d.left) o false) (sym seated.found) ∙ gone in
         let keeps = subst (λ c. MatchBool c (DaemonKeepsToScript (WasLookRefused b k.lock.roll.drawn k.log.journal) k.log.journal (steps_by s.daemon script) (entries_by s.daemon k.log.journal))

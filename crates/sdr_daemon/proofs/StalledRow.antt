@@ -316,7 +316,7 @@ daemons_only (suc (suc (suc (suc (suc (suc (suc (suc (suc (suc (suc (suc (suc (s
 daemons_only (suc (suc (suc (suc (suc (suc (suc (suc (suc (suc (suc (suc (suc (suc (suc k))))))))))))))) d within = absurd (omega (arith, within))
 
 -- the journal keeps to both scripts
-pub stalled_daemons_go_on : (told : Option Told) (first : State) → KeepsToScripts told (1 ∷ 2 ∷ []) first script journal
+pub stalled_daemons_go_on : (told : Option Told) (first : State) → KeepsToScripts told first script journal
 stalled_daemons_go_on told first = record {
   each = (first_keeps (IsLookRefused told (1 ∷ 2 ∷ []) first journal), (second_keeps (IsLookRefused told (1 ∷ 2 ∷ []) first journal), tt));
   others = daemons_only;

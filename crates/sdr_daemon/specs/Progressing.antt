@@ -12,6 +12,7 @@ use Rattle.sdr_model.specs.declared.event.Leave.TheVariants as leaves
 use Rattle.sdr_model.specs.declared.event.Leave.{Leave}
 use Rattle.sdr_model.specs.declared.journal.Entry.{Entry}
 use Rattle.sdr_model.specs.declared.script.ScriptStep.{ScriptStep}
+use Rattle.sdr_words.specs.Daemons.{daemons_of}
 use Rattle.sdr_daemon.specs.Scripts.{HasKeptSoFar, IsLookRefused, DaemonKeepsToScript}
 use Rattle.sdr_daemon.specs.Turns.{Phase, Reached, entries_by, steps_by}
 use Rattle.sdr_daemon.specs.declared.script_place.ScriptPlace.{ScriptPlace}
@@ -68,6 +69,7 @@ pub record IsScriptedRun {T : Type 0} (g : Ghosts T) (b : RunStart) (script : Li
   pub unsaid : k.log.works ≡ []
   pub holds : All (ProgressHolds b script k.lock.roll k.log.journal) these
   pub ids : map (λ (s : ScriptPlace). s.daemon) these ≡ b.daemons
+  pub named : b.daemons ≡ daemons_of script
   pub apart : IsDistinct nat_eq b.daemons
   pub drawn : k.lock.roll.drawn ≤ sum_by (λ (s : ScriptPlace). s.drawn) these
   pub lasts : LastsOn g k.lock.base

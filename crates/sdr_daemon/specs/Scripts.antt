@@ -12,6 +12,7 @@ use Rattle.sdr_model.specs.declared.journal.Entry.{Entry}
 use Rattle.sdr_model.specs.declared.journal.What.TheVariants as whats
 use Rattle.sdr_model.specs.declared.script.ScriptStep.{ScriptStep}
 use Rattle.sdr_words.specs.Bindings.{Binding, event_of}
+use Rattle.sdr_words.specs.Daemons.{daemons_of}
 use Rattle.sdr_daemon.specs.Turns.{DaemonTurn, Phase, Reached, TakeTurns, after_turns, at_start, entries_by, steps_by}
 
 -- a daemon that waits for a ticket looks next at that ticket
@@ -69,7 +70,9 @@ pub record IsLookRefused (told : Option Told) (daemons : List ℕ) (first : Stat
   pub after : Lead told daemons [] first (filter (λ (e : Entry). nat_lt e.number number) journal) before
   pub none : pending_of before.world ticket ≡ Option.None
 
--- The journal keeps to the scripts of these daemons: the entries of each keep to its lines, and there are no others.
-pub record KeepsToScripts (told : Option Told) (daemons : List ℕ) (first : State) (script : List ScriptStep) (journal : List Entry) : Type 0 where
-  pub each : AllByRecursion (λ id. DaemonKeepsToScript (IsLookRefused told daemons first journal) journal (steps_by id script) (entries_by id journal)) daemons
-  pub others : All (λ (e : Entry). list_any (λ id. id == e.daemon) daemons ≡ true) journal
+-- The journal keeps to the scripts of the daemons that the script names: the entries of each keep to its lines, and no other has one.
+pub record KeepsToScripts (told : Option Told) (first : State) (script : List ScriptStep) (journal : List Entry) : Type 0 where
+  pub each :
+      AllByRecursion (λ id. DaemonKeepsToScript (IsLookRefused told (daemons_of script) first journal) journal (steps_by id script) (entries_by id journal))
+      (daemons_of script)
+  pub others : All (λ (e : Entry). list_any (λ id. id == e.daemon) (daemons_of script) ≡ true) journal

@@ -11,7 +11,8 @@
 //! whatever order daemons take turns. A turn says what it adds to the journal, and that all other daemons stay as they were (`turns`),
 //! whatever comes in it: a disk fault, no memory for a line or for what its name holds, a refused look, the last lock number. Each turn
 //! draws a number, or brings the daemon further in the script, or makes it mean to leave (`BringsOn`); that all leave after some turns
-//! isn't said. Once all have left, the journal keeps to the scripts (`keeps`).
+//! isn't said. Once all have left, the journal keeps to the scripts of the daemons that the script names (`keeps`), and no other daemon
+//! has an entry.
 //!
 //! Small journals are computed to keep to scripts (`proofs/BundleRow.antt`, `AwardedRow`, `StalledRow`, `EmptyRow`). Others are shown not
 //! to: a daemon without a line that has an entry beside its leave (`InventedRow`), a daemon that begins and leaves as done with no other

@@ -1,11 +1,11 @@
 // A core, and the progress of its daemons in their scripts.
-ghost use Rattle.std.specs.Prelude.{◌≡◌, ◌≤◌, IfErr, IfOk, false, is_some, length, map, nat_eq, not, true};
-ghost use Rattle.std.specs.List.{IsDistinct};
+ghost use Rattle.std.specs.Prelude.{◌≡◌, ◌≤◌, IfErr, IfOk, false, is_some, length, map, not, true};
 ghost use Rattle.sdr_core.specs.CoreKept.{IsRunOf, KeepsRun};
 ghost use Rattle.sdr_daemon.specs.Progressing.{IsFresh, first_progress, have_left};
 ghost use Rattle.sdr_daemon.specs.Scripts.{KeepsToScripts};
 ghost use Rattle.sdr_daemon.specs.TakingTurns.{TurnsAt, is_gone};
 ghost use Rattle.sdr_machine.specs.Crash.{is_sound};
+ghost use Rattle.sdr_words.specs.Daemons.{daemons_of};
 
 use crate::script_place::{ScriptPlace, Scripted, first_progress};
 use crate::turn::turn;
@@ -58,7 +58,7 @@ impl<T: Tells, J: Origin, S: Scripted> ScriptedRun<T, J, S> {
     ) -> Result<ScriptedRun<T, J, S>, (NoMemory, Core<T, J>)>
         requires fresh { IsFresh T.HasGround J.begins core }
         requires script { script ≡ S.script }
-        requires apart { IsDistinct nat_eq J.begins.daemons }
+        requires named { J.begins.daemons ≡ daemons_of S.script }
         ensures made { IfOk result (λ run. run ≡ record {
           core = core;
           progress = map first_progress J.begins.daemons;
@@ -124,7 +124,7 @@ impl<T: Tells, J: Origin, S: Scripted> ScriptedRun<T, J, S> {
         ensures journal { result.0 ≡ self.core.log.journal }
         ensures base { result.1 ≡ self.core.lock.base }
         ensures run { IsRunOf T.HasGround J.begins result.0 result.1 }
-        ensures keeps { KeepsToScripts J.begins.told J.begins.daemons J.begins.first S.script
+        ensures keeps { KeepsToScripts J.begins.told J.begins.first S.script
             result.0 }
     {
         let ScriptedRun {

@@ -18,7 +18,8 @@ use Rattle.sdr_base.specs.Media.{Told}
 use Rattle.sdr_words.specs.Bindings.{Binding, bound, event_of}
 use Rattle.sdr_core.proofs.CausedLemmas.{caused_later, caused_more, failed_refl}
 use Rattle.sdr_core.specs.Caused.{AreCaused, HaveFailed, IsCaused, MediaChange, SeenMedia, from_to}
-use Rattle.sdr_run.specs.Schedule.{StepAnswered, FollowsScript, MakesEvent, RunsDry, RunsTo, RunsWhole, SomeAnswer, SomeRun, answer_line, bindings_after, run_text, daemons_of}
+use Rattle.sdr_run.specs.Schedule.{StepAnswered, FollowsScript, MakesEvent, RunsDry, RunsTo, RunsWhole, SomeAnswer, SomeRun, answer_line, bindings_after, run_text}
+use Rattle.sdr_words.specs.Daemons.{daemons_of}
 use Rattle.sdr_text.proofs.TextLemmas.{part_later}
 use Rattle.sdr_text.specs.Text.{line_text}
 use Rattle.sdr_model.specs.declared.script.ScriptStep.{ScriptStep}

@@ -8,7 +8,7 @@ pub invariant_of-result : goal.invariant_of-result
 invariant_of-result g c =
     let is = fresh_progress g.T.HasGround g.J.Origin.begins c.args.core c.roll.result.now c.in-Ok.progress.items c.requires.fresh c.roll.ensures.roll c.in-Ok.ensures in (
       subst (IsScriptedRun g.T.HasGround g.J.Origin.begins g.S.Scripted.script c.args.core) (sym is)
-          (fresh_run g.T.HasGround g.J.Origin.begins g.S.Scripted.script c.args.core c.requires.fresh c.requires.apart),
+          (fresh_run g.T.HasGround g.J.Origin.begins g.S.Scripted.script c.args.core c.requires.fresh c.requires.named),
       c.requires.script,
     )
 
