@@ -10,7 +10,8 @@ use Rattle.sdr_core.specs.Leaving.{RunLeads}
 use Rattle.sdr_core.proofs.CausedLemmas.{answer_caused, caused_later, caused_more, failed_refl, media_later}
 use Rattle.sdr_run.proofs.ScheduleLemmas.{bindings_after-push, follows-push, run_text-push, runs-push}
 use Rattle.sdr_core.specs.Caused.{AreCaused, HaveFailed, IsCaused, from_to}
-use Rattle.sdr_run.specs.Schedule.{MakesEvent, bindings_after, daemons_of, run_text}
+use Rattle.sdr_run.specs.Schedule.{MakesEvent, bindings_after, run_text}
+use Rattle.sdr_words.specs.Daemons.{daemons_of}
 use Rattle.sdr_machine.specs.Core.{CoreStep, RunsCore, first_core}
 use Rattle.sdr_machine.specs.Crash.{is_sound}
 use Rattle.sdr_machine.specs.Leaving.{AllLeave}

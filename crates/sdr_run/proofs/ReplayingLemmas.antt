@@ -8,7 +8,7 @@ use Rattle.sdr_disk.specs.Moments.{AtEach}
 use Rattle.sdr_disk.specs.Told.{Both, IfTold}
 use Rattle.sdr_disk.specs.declared.disk.Disk.{Ghosts as DiskGhosts}
 use Rattle.sdr_core.specs.Caused.{SeenMedia, from_to, media_change, seen_media}
-use Rattle.sdr_run.specs.Schedule.{daemons_of}
+use Rattle.sdr_words.specs.Daemons.{daemons_of}
 use Rattle.sdr_image.specs.Opening.{MayBeOpened}
 use Rattle.sdr_machine.specs.Legal.{IsLegal}
 use Rattle.sdr_machine.specs.Standing.{standing_at}

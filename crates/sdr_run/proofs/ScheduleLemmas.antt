@@ -21,7 +21,8 @@ use Rattle.sdr_core.specs.Caused.{AreCaused, HaveFailed, IsCaused, MediaChange, 
 use Rattle.sdr_run.specs.Asking.{AsksAlong, outside_along, outside_asked, outside_of_run}
 use Rattle.sdr_run.specs.declared.running.RunError.{RunError}
 use Rattle.sdr_run.specs.declared.running.RunError.TheVariants as errors
-use Rattle.sdr_run.specs.Schedule.{StepAnswered, FollowsScript, MakesEvent, RunsDry, RunsTo, RunsWhole, SomeAnswer, SomeRun, answer_line, bindings_after, run_text, daemons_of}
+use Rattle.sdr_run.specs.Schedule.{StepAnswered, FollowsScript, MakesEvent, RunsDry, RunsTo, RunsWhole, SomeAnswer, SomeRun, answer_line, bindings_after, run_text}
+use Rattle.sdr_words.specs.Daemons.{daemons_of}
 use Rattle.sdr_text.proofs.TextLemmas.{part_later}
 use Rattle.sdr_text.specs.Text.{line_text}
 use Rattle.sdr_model.specs.declared.script.ScriptStep.{ScriptStep}

@@ -14,7 +14,8 @@ use Rattle.sdr_model.specs.World.{empty_world}
 use Rattle.sdr_model.specs.declared.event.Event.{Event}
 use Rattle.sdr_model.specs.declared.event.Event.TheVariants as events
 use Rattle.sdr_model.specs.declared.script.ScriptStep.{ScriptStep}
-use Rattle.sdr_run.specs.Schedule.{RunsDry, bindings_after, daemons_of, run_text}
+use Rattle.sdr_run.specs.Schedule.{RunsDry, bindings_after, run_text}
+use Rattle.sdr_words.specs.Daemons.{daemons_of}
 use Rattle.sdr_run.specs.declared.running.RunError.{RunError}
 use Rattle.sdr_run.specs.declared.running.RunError.TheVariants as errors
 use Rattle.sdr_words.specs.Bindings.{Binding, event_of}

@@ -5,7 +5,8 @@ use Rattle.sdr_base.specs.Causes.{Rose}
 use Rattle.sdr_base.specs.Written.{AppendsPart}
 use Rattle.sdr_core.specs.CoreKept.{RunStart, IsRunOf}
 use Rattle.sdr_core.specs.Caused.{AreCaused, MediaChange, from_to, media_on}
-use Rattle.sdr_run.specs.Schedule.{FollowsScript, daemons_of, run_text}
+use Rattle.sdr_run.specs.Schedule.{FollowsScript, run_text}
+use Rattle.sdr_words.specs.Daemons.{daemons_of}
 use Rattle.sdr_machine.specs.Core.{Core, RunsCore, first_core}
 use Rattle.sdr_machine.specs.Crash.{is_sound}
 use Rattle.sdr_machine.specs.Ground.{State}

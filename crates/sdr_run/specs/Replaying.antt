@@ -9,7 +9,7 @@ use Rattle.sdr_disk.specs.Pending.{IsSynced}
 use Rattle.sdr_disk.specs.Told.{Both, IfTold}
 use Rattle.sdr_disk.specs.declared.disk.Disk.{Ghosts as DiskGhosts}
 use Rattle.sdr_core.specs.Caused.{media_change}
-use Rattle.sdr_run.specs.Schedule.{daemons_of}
+use Rattle.sdr_words.specs.Daemons.{daemons_of}
 use Rattle.sdr_image.specs.Opening.{MayBeOpened}
 use Rattle.sdr_machine.specs.Crash.{IsCrashSafe, OpensAfter, OpensTo, done_by, is_sound}
 use Rattle.sdr_machine.specs.Ground.{State}

@@ -2,7 +2,8 @@
 use Rattle.std.specs.Prelude.{◌≡◌, ℕ, List, [], ◌++◌, true}
 use Rattle.sdr_core.specs.CoreKept.{RunStart, LoggedLock, MakesCoreStep, core_at}
 use Rattle.sdr_core.specs.Caused.{AreCaused, from_to, media_on}
-use Rattle.sdr_run.specs.Schedule.{FollowsScript, bindings_after, daemons_of, run_text}
+use Rattle.sdr_run.specs.Schedule.{FollowsScript, bindings_after, run_text}
+use Rattle.sdr_words.specs.Daemons.{daemons_of}
 use Rattle.sdr_machine.specs.Core.{RunsCore, first_core}
 use Rattle.sdr_machine.specs.Machine.{Made}
 use Rattle.sdr_machine.specs.Serving.{IsInState}

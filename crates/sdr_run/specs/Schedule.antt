@@ -1,6 +1,5 @@
 -- A dry run of a script: which events its steps make, and what is printed of them.
-use Rattle.std.specs.Prelude.{◌≡◌, ℕ, ◌+◌, ◌-◌, List, [], ◌∷◌, ◌++◌, ◌==◌, filter, Option}
-use Rattle.std.specs.List.{list_any, range_with_len}
+use Rattle.std.specs.Prelude.{◌≡◌, ℕ, ◌+◌, ◌-◌, List, [], ◌∷◌, ◌++◌, Option}
 use Rattle.sdr_base.specs.Media.{Told}
 use Rattle.sdr_core.specs.Caused.{AreCaused, IsCaused, MediaChange}
 use Rattle.sdr_machine.specs.Agreeing.{AgreesWith}
@@ -15,16 +14,9 @@ use Rattle.sdr_model.specs.declared.answer.Answer.TheVariants as answers
 use Rattle.sdr_model.specs.declared.event.Event.{Event}
 use Rattle.sdr_model.specs.declared.event.Leave.TheVariants as leaves
 use Rattle.sdr_words.specs.Bindings.{Binding, event_of, bound}
+use Rattle.sdr_words.specs.Daemons.{daemons_of}
 use Rattle.sdr_text.specs.Text.{line_text}
 use Rattle.sdr_model.specs.declared.script.ScriptStep.{ScriptStep}
-
--- the numbers that daemons may have, from 1 to 16
-abbrev pub all_daemons : List ℕ
-all_daemons = range_with_len 1 16
-
--- the daemons that a script names
-abbrev pub daemons_of : List ScriptStep → List ℕ
-daemons_of script = filter (λ daemon. list_any (λ step. step.daemon == daemon) script) all_daemons
 
 -- the step makes this event, under what the names hold
 pub record MakesEvent (bindings : List Binding) (step : ScriptStep) (e : Made) : Type 0 where

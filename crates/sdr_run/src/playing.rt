@@ -3,7 +3,7 @@ ghost use Rattle.std.specs.Prelude.{◌≡◌, ◌≤◌, ◌<◌, ◌^◌, ◌�
 ghost use Rattle.std.specs.Prelude.{IfErr, IfOk, OnErr, OnOk};
 ghost use Rattle.sdr_core.specs.CoreKept.{BeginsOn, MakesCoreStep};
 ghost use Rattle.sdr_core.specs.Leaving.{LastsOn, RunLeads};
-ghost use Rattle.sdr_run.specs.Schedule.{daemons_of};
+ghost use Rattle.sdr_words.specs.Daemons.{daemons_of};
 ghost use Rattle.sdr_machine.specs.Crash.{is_sound};
 ghost use Rattle.sdr_machine.specs.Leaving.{AllLeave};
 ghost use Rattle.sdr_machine.specs.Legal.{is_fault};

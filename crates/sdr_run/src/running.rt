@@ -11,8 +11,9 @@ ghost use Rattle.sdr_model.specs.Pieces.{pieces_told};
 ghost use Rattle.sdr_model.specs.declared.event.Event.{Event};
 ghost use Rattle.sdr_core.specs.Caused.{HaveFailed, IsCaused, media_change};
 ghost use Rattle.sdr_run.specs.Asking.{AsksAlong, outside_asked};
-ghost use Rattle.sdr_run.specs.Schedule.{StepAnswered, Responds, RunsTo, RunsWhole, SomeAnswer, SomeLine, SomeRun, SomeStep, all_daemons, answer_line, daemons_of};
+ghost use Rattle.sdr_run.specs.Schedule.{StepAnswered, Responds, RunsTo, RunsWhole, SomeAnswer, SomeLine, SomeRun, SomeStep, answer_line};
 ghost use Rattle.sdr_words.specs.Bindings.{event_of};
+ghost use Rattle.sdr_words.specs.Daemons.{all_daemons, daemons_of};
 
 use mem_machine::Plain;
 use sdr_base::{Media, NoMemory, Refusal, Sink, SinkFault};

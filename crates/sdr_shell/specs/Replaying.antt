@@ -8,7 +8,7 @@ use Rattle.sdr_base.specs.Written.{AppendsPart}
 use Rattle.sdr_base.specs.declared.media.Media.{Ghosts as MediaGhosts}
 use Rattle.sdr_disk.specs.declared.disk.Disk.{Ghosts as DiskGhosts}
 use Rattle.sdr_core.specs.Caused.{media_change}
-use Rattle.sdr_run.specs.Schedule.{daemons_of}
+use Rattle.sdr_words.specs.Daemons.{daemons_of}
 use Rattle.sdr_machine.specs.Crash.{is_sound}
 use Rattle.sdr_machine.specs.Legal.{IsLegal}
 use Rattle.sdr_log.specs.Log.{put_back_of}

@@ -1,0 +1,5 @@
+pub mod Progressing
+pub mod Scripts
+pub mod TakingTurns
+pub mod TurnEvents
+pub mod Turns

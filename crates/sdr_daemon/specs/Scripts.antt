@@ -1,0 +1,78 @@
+-- When a journal keeps to the scripts: each daemon's entries are its lines in order.
+use Rattle.std.specs.Prelude.{◌≡◌, ◌<◌, ◌≤◌, ◌⊎◌, ◌^◌, ◌&&◌, ℕ, List, [], ◌∷◌, ◌++◌, ◌==◌, All, true, not, filter, flat_map, nat_lt, Option, None, Some, ⊤}
+use Rattle.std.specs.List.{AllByRecursion, list_all, list_any}
+use Rattle.sdr_base.specs.Media.{Told}
+use Rattle.sdr_machine.specs.Ground.{State}
+use Rattle.sdr_machine.specs.Legal.{Lead, is_fault}
+use Rattle.sdr_model.specs.AccountSteps.{pending_of}
+use Rattle.sdr_model.specs.declared.event.Event.TheVariants as events
+use Rattle.sdr_model.specs.declared.event.Leave.TheVariants as leaves
+use Rattle.sdr_model.specs.declared.event.Leave.{Leave}
+use Rattle.sdr_model.specs.declared.journal.Entry.{Entry}
+use Rattle.sdr_model.specs.declared.journal.What.TheVariants as whats
+use Rattle.sdr_model.specs.declared.script.ScriptStep.{ScriptStep}
+use Rattle.sdr_words.specs.Bindings.{Binding, event_of}
+use Rattle.sdr_words.specs.Daemons.{daemons_of}
+use Rattle.sdr_daemon.specs.Turns.{DaemonTurn, Phase, Reached, TakeTurns, after_turns, at_start, entries_by, steps_by}
+
+-- a daemon that waits for a ticket looks next at that ticket
+abbrev pub LooksNext : Phase → List Binding → List ScriptStep → Type 0
+LooksNext (Phase.waiting ticket) names [] = ⊥
+LooksNext (Phase.waiting ticket) names (step ∷ rest) = event_of names step ≡ events.Look ticket
+LooksNext phase names rest = ⊤
+
+-- The lines but these last ones gave these entries, turn by turn, and the daemon has come so far.
+pub record HasKeptSoFar (R : ℕ → ℕ → Type 0) (steps rest : List ScriptStep) (entries : List Entry) (at : Reached) : Type 0 where
+  pub turns : List DaemonTurn
+  pub taken : TakeTurns R at_start turns
+  pub at_is : at ≡ after_turns at_start turns
+  pub steps_are : steps ≡ flat_map (λ (t : DaemonTurn). t.lines) turns ++ rest
+  pub entries_are : entries ≡ flat_map (λ (t : DaemonTurn). t.entries) turns
+  pub next : LooksNext at.phase at.names rest
+
+-- A leave has its cause: it is done behind the last line, for a fault behind an entry in which the disk failed, for memory at any
+-- time, and spent with a number of 2 ^ 40 or more.
+abbrev pub HasLeaveCause : List Entry → ℕ → List ScriptStep → Leave → Type 0
+HasLeaveCause journal number rest leaves.Done = rest ≡ []
+HasLeaveCause journal number rest leaves.Fault = list_any (λ (e : Entry). is_fault e.what && nat_lt e.number number) journal ≡ true
+HasLeaveCause journal number rest leaves.Memory = ⊤
+HasLeaveCause journal number rest leaves.Spent = 2 ^ 40 ≤ number
+
+-- the leave that a daemon is to make, where one has closed its transaction
+abbrev pub leave_due : Phase → Option Leave
+leave_due (Phase.leaving leave) = Some leave
+leave_due phase = None
+
+-- a daemon that is to make a leave makes that one, or leaves for a fault
+abbrev pub IsLeaveDue : Option Leave → Leave → Type 0
+IsLeaveDue None leave = ⊤
+IsLeaveDue (Some due) leave = (leave ≡ due) ⊎ (leave ≡ leaves.Fault)
+
+-- A daemon's entries are those of its lines in order, of all of them unless it left early, and a leave.
+pub record DaemonKeepsToScript (R : ℕ → ℕ → Type 0) (journal : List Entry) (steps : List ScriptStep) (entries : List Entry) : Type 0 where
+  pub rest : List ScriptStep
+  pub before : List Entry
+  pub at : Reached
+  pub kept : HasKeptSoFar R steps rest before at
+  pub last : Entry
+  pub all : entries ≡ before ++ last ∷ []
+  pub leave : Leave
+  pub leaves : last.what ≡ whats.Leaves leave
+  pub due : IsLeaveDue (leave_due at.phase) leave
+  pub higher : at.number < last.number
+  pub cause : HasLeaveCause journal last.number rest leave
+
+-- A look at the ticket was refused under the number: no entry has this number, and the ticket isn't there after the entries with lower
+-- ones.
+pub record IsLookRefused (told : Option Told) (daemons : List ℕ) (first : State) (journal : List Entry) (number ticket : ℕ) : Type 0 where
+  pub unused : list_all (λ (e : Entry). not (e.number == number)) journal ≡ true
+  pub before : State
+  pub after : Lead told daemons [] first (filter (λ (e : Entry). nat_lt e.number number) journal) before
+  pub none : pending_of before.world ticket ≡ Option.None
+
+-- The journal keeps to the scripts of the daemons that the script names: the entries of each keep to its lines, and no other has one.
+pub record KeepsToScripts (told : Option Told) (first : State) (script : List ScriptStep) (journal : List Entry) : Type 0 where
+  pub each :
+      AllByRecursion (λ id. DaemonKeepsToScript (IsLookRefused told (daemons_of script) first journal) journal (steps_by id script) (entries_by id journal))
+      (daemons_of script)
+  pub others : All (λ (e : Entry). list_any (λ id. id == e.daemon) (daemons_of script) ≡ true) journal

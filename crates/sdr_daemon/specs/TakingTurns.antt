@@ -1,0 +1,149 @@
+-- What a turn of a daemon does to a core and to the daemon's progress.
+use Rattle.std.specs.Prelude.{◌≡◌, ◌<◌, ◌≤◌, ◌⊎◌, ◌^◌, ◌+◌, ◌++◌, ℕ, List, [], ◌∷◌, Bool, false, not, true, Option, None, Some, IsSome, is_some, length, slice_get, slice_index_or, slice_set, ⊤}
+use Rattle.std.specs.Option.{option_map_or}
+use Rattle.sdr_core.specs.CoreKept.{KeepsRun, LoggedLock, MakesCoreStep, RunStart}
+use Rattle.sdr_daemon.specs.declared.turn.LineOutcome.TheVariants as outcomes
+use Rattle.sdr_machine.specs.Core.{closed_by, has_left}
+use Rattle.sdr_machine.specs.Crash.{is_sound}
+use Rattle.sdr_machine.specs.Holders.{hold_none}
+use Rattle.sdr_machine.specs.Roll.{Roll, daemon_of}
+use Rattle.sdr_machine.specs.declared.came.Came.{Came}
+use Rattle.sdr_machine.specs.declared.daemon.Daemon.{Daemon}
+use Rattle.sdr_machine.specs.declared.has_ground.HasGround.{Ghosts}
+use Rattle.sdr_model.specs.declared.answer.Answer.{Answer}
+use Rattle.sdr_model.specs.declared.event.Event.{Event}
+use Rattle.sdr_model.specs.declared.event.Leave.TheVariants as leaves
+use Rattle.sdr_model.specs.declared.event.Leave.{Leave}
+use Rattle.sdr_model.specs.declared.journal.Entry.{Entry}
+use Rattle.sdr_model.specs.declared.journal.Said.{Said}
+use Rattle.sdr_model.specs.declared.script.ScriptStep.{ScriptStep}
+use Rattle.sdr_words.specs.Bindings.{bound}
+use Rattle.sdr_daemon.specs.Progressing.{IsOnWay, ProgressHolds, ScriptedCore, WasLookRefused, steps_ahead}
+use Rattle.sdr_daemon.specs.Scripts.{HasKeptSoFar}
+use Rattle.sdr_daemon.specs.TurnEvents.{BeforeTurn, HasSaid, IsOver, before_of}
+use Rattle.sdr_daemon.specs.Turns.{Phase, Reached, SayLines, entries_by, names_after, opens_work, steps_by}
+use Rattle.sdr_daemon.specs.declared.script_place.ScriptPlace.{ScriptPlace}
+use Rattle.sdr_daemon.specs.declared.turn.LineOutcome.{LineOutcome}
+
+-- A daemon that hasn't left, and is this in the roll, is about to take a turn. No number is held, and no transaction is open.
+pub record IsBeforeTurn {T : Type 0} (g : Ghosts T) (b : RunStart) (script : List ScriptStep) (x : Daemon) (k : LoggedLock T) (s : ScriptPlace) : Type 0 where
+  pub run : KeepsRun g b k
+  pub found : daemon_of k.lock.roll s.daemon ≡ Some x
+  pub stays : x.left ≡ false
+  pub free : hold_none k.lock.roll.daemons ≡ true
+  pub unsaid : k.log.works ≡ []
+  pub way : IsOnWay b script k.lock.roll k.log.journal x s
+  pub failed : is_some k.lock.roll.failed ≡ not (is_sound k.log.journal)
+  pub drawn : s.drawn ≤ k.lock.roll.drawn
+  pub within : s.place ≤ length script
+
+-- none of these entries, or one of the daemon, with its next number
+pub data AddsAtMostOne (o : BeforeTurn) (entries : List Entry) : Type 0 where
+  none : entries ≡ [] → AddsAtMostOne o entries
+  one : (e : Entry) → entries ≡ e ∷ [] → e.number ≡ o.roll.drawn + 1 → e.daemon ≡ o.daemon.id → AddsAtMostOne o entries
+
+-- The turn brings the daemon on: it draws a number, or the daemon comes further in the script, or it means from then on to leave.
+pub data BringsOn (o : BeforeTurn) (drawn : ℕ) (s s' : ScriptPlace) : Type 0 where
+  draws : o.roll.drawn < drawn → BringsOn o drawn s s'
+  further : s.place < s'.place → BringsOn o drawn s s'
+  starves : s.leaving ≡ None → s'.leaving ≡ Some leaves.Memory → BringsOn o drawn s s'
+
+-- The turn was taken: it is over with at most one entry and one number more, it brought the daemon on, the daemon's progress holds again,
+-- and each number that was drawn is counted there.
+pub record EndsTurn {T : Type 0} (b : RunStart) (script : List ScriptStep) (o : BeforeTurn) (k : LoggedLock T) (s s' : ScriptPlace) : Type 0 where
+  pub entries : List Entry
+  pub after : Daemon
+  pub drawn : ℕ
+  pub over : IsOver o entries after drawn k.lock.roll k.log
+  pub next : AddsAtMostOne o entries
+  pub more : o.roll.drawn ≤ drawn
+  pub few : drawn ≤ o.roll.drawn + 1
+  pub goes_on : BringsOn o drawn s s'
+  pub holds : ProgressHolds b script k.lock.roll k.log.journal s'
+  pub same : s'.daemon ≡ s.daemon
+  pub counted : drawn + s.drawn ≤ o.roll.drawn + s'.drawn
+
+-- whatever the daemon was before, it has taken a turn
+abbrev pub TakesTurn : {T : Type 0} → Ghosts T → RunStart → List ScriptStep → LoggedLock T → LoggedLock T → ScriptPlace → ScriptPlace → Type 0
+TakesTurn g b script old new s s' = (x : Daemon) → IsBeforeTurn g b script x old s → EndsTurn b script (before_of old x) new s s'
+
+-- whether no daemon at a place takes turns: there is none, or it has left
+abbrev pub is_gone : {T : Type 0} → ℕ → ScriptedCore T → Bool
+is_gone place v = option_map_or (λ (s : ScriptPlace). has_left v.core.lock.roll s.daemon) (slice_get v.progress place) true
+
+-- The daemon at a place has taken a turn, by which its progress has come to this. That of all others is as it was.
+pub record TurnsAt {T : Type 0} (b : RunStart) (script : List ScriptStep) (place : ℕ) (old new : ScriptedCore T) : Type 0 where
+  pub daemon : Daemon
+  pub own : ScriptPlace
+  pub found : daemon_of old.core.lock.roll (slice_index_or old.progress place own).daemon ≡ Some daemon
+  pub ends : EndsTurn b script (before_of old.core daemon) new.core (slice_index_or old.progress place own) own
+  pub others : new.progress ≡ slice_set old.progress place own
+
+-- a daemon may leave so
+abbrev pub MayDepart : Roll → List ScriptStep → ScriptPlace → Leave → Type 0
+MayDepart r script s leaves.Done = steps_ahead script s.daemon s.place ≡ []
+MayDepart r script s leaves.Fault = IsSome r.failed
+MayDepart r script s leaves.Memory = ⊤
+MayDepart r script s leaves.Spent = 2 ^ 40 ≤ s.drawn + 1
+
+-- A line is done: its place is left behind, and its name holds what the answer gave it, or there was no memory for that.
+pub record DoesLine (step : ScriptStep) (after : ℕ) (answer : Answer) (s s' : ScriptPlace) : Type 0 where
+  pub place : s'.place ≡ after
+  pub daemon : s'.daemon ≡ s.daemon
+  pub drawn : s'.drawn ≡ s.drawn
+  pub names : ((s'.leaving ≡ s.leaving) × (s'.names ≡ bound s.names step answer)) ⊎ (s'.leaving ≡ Some leaves.Memory)
+
+-- what came of a line that was answered so, where the daemon meant to leave or not, and means to leave then or not
+abbrev pub GoesBy : LineOutcome → Answer → Option Leave → Option Leave → Type 0
+GoesBy outcomes.On answer was leaving = (closed_by answer ≡ None) × (leaving ≡ was)
+GoesBy outcomes.Closed answer was leaving = IsSome (closed_by answer)
+GoesBy outcomes.Starved answer was leaving = (closed_by answer ≡ None) × (leaving ≡ Some leaves.Memory)
+GoesBy outcomes.Unsaid answer was leaving = ⊥
+
+-- A line was said, and its answer noted; or there was no memory to say it.
+pub data SaysLine {T : Type 0} (g : Ghosts T) (step : ScriptStep) (after : ℕ) (event : Event) (old new : LoggedLock T) (s s' : ScriptPlace) (outcome : LineOutcome) : Type 0 where
+  unsaid : outcome ≡ outcomes.Unsaid → new ≡ old → s' ≡ s → SaysLine g step after event old new s s' outcome
+  said : (came : Came) → MakesCoreStep g s.daemon step.line event came old.lock old.log new.lock new.log → DoesLine step after came.answer s s'
+      → GoesBy outcome came.answer s.leaving s'.leaving → SaysLine g step after event old new s s' outcome
+
+-- A daemon is in the transaction of a turn, in which it has said these lines.
+pub record IsInWork {T : Type 0} (g : Ghosts T) (b : RunStart) (script : List ScriptStep) (o : BeforeTurn) (k : LoggedLock T) (first s : ScriptPlace) : Type 0 where
+  pub run : KeepsRun g b k
+  pub lines : List ScriptStep
+  pub said : List Said
+  pub within : HasSaid o said k.lock.roll k.log
+  pub at : Reached
+  pub kept : HasKeptSoFar (WasLookRefused b o.roll.drawn o.journal) (steps_by first.daemon script) (lines ++ steps_ahead script first.daemon s.place) (entries_by first.daemon o.journal) at
+  pub ready : at.phase ≡ Phase.ready
+  pub below : at.number ≤ o.roll.drawn
+  pub say : SayLines at.names lines said
+  pub names : s.leaving ≡ None → s.names ≡ names_after at.names lines said
+  pub opens : opens_work said ≡ true
+  pub daemon : s.daemon ≡ first.daemon
+  pub drawn : s.drawn ≡ first.drawn + 1
+  pub place : s.place ≤ length script
+
+-- whatever the daemon was before, it is in work now
+abbrev pub ComesToWork : {T : Type 0} → Ghosts T → RunStart → List ScriptStep → LoggedLock T → LoggedLock T → ScriptPlace → ScriptPlace → Type 0
+ComesToWork g b script old new s s' = (x : Daemon) → IsBeforeTurn g b script x old s → IsInWork g b script (before_of old x) new s s'
+
+-- A daemon may take a turn: some daemon of the roll is about to.
+pub record MayTakeTurn {T : Type 0} (g : Ghosts T) (b : RunStart) (script : List ScriptStep) (k : LoggedLock T) (s : ScriptPlace) : Type 0 where
+  pub daemon : Daemon
+  pub at : IsBeforeTurn g b script daemon k s
+
+-- What a begin comes to: a transaction in which the daemon goes on, or from which it leaves; or none, for want of memory. The core was `old`
+-- and the daemon at `s` before it; they are `new` and `s'` behind it.
+abbrev pub BeginComesTo : {T : Type 0} → LineOutcome → Ghosts T → RunStart → List ScriptStep → LoggedLock T → LoggedLock T → ScriptPlace → ScriptPlace → Type 0
+BeginComesTo outcomes.On g b script old new s s' = ComesToWork g b script old new s s' × (s'.leaving ≡ None)
+BeginComesTo outcomes.Starved g b script old new s s' = ComesToWork g b script old new s s'
+BeginComesTo outcomes.Closed g b script old new s s' = (x : Daemon) → IsBeforeTurn g b script x old s → ⊥
+BeginComesTo outcomes.Unsaid g b script old new s s' = (new ≡ old) × (s' ≡ s)
+
+-- What a line of a transaction comes to: the daemon goes on, or its turn is over, or it leaves for want of memory. The core was `old` and the
+-- daemon at `s` before the turn; they were `k` and `sa` before the line, and are `new` and `sb` behind it.
+abbrev pub LineComesTo : {T : Type 0} → LineOutcome → Ghosts T → RunStart → List ScriptStep → ℕ → LoggedLock T → LoggedLock T → LoggedLock T → ScriptPlace → ScriptPlace → ScriptPlace → Type 0
+LineComesTo outcomes.On g b script after old k new s sa sb = ComesToWork g b script old new s sb × (sb.leaving ≡ None) × (sb.place ≡ after)
+LineComesTo outcomes.Closed g b script after old k new s sa sb = TakesTurn g b script old new s sb
+LineComesTo outcomes.Starved g b script after old k new s sa sb = ComesToWork g b script old new s sb
+LineComesTo outcomes.Unsaid g b script after old k new s sa sb = (new ≡ k) × (sb ≡ sa)
