@@ -5,13 +5,14 @@ ghost use Rattle.sdr_shell.specs.Answers.{Wrote, seen};
 ghost use Rattle.sdr_shell.specs.Form.{OnFormat, form_of};
 ghost use Rattle.sdr_shell.specs.declared.form.Form.{Form};
 ghost use Rattle.sdrtool.specs.Answered.{IsAnswered};
+ghost use Rattle.sdrtool.specs.Ending.{ComesBy, ComesHeld, EndsUsage, IsEmpty, IsStatusOf, IsStatusOnFile};
 
 use crate::CANNOT_OPEN;
 use crate::notes::{note_forms, note_loss, note_no_heap, note_unopened};
 use sdr_base::{Media, NoGate, Sink, Source, write_all};
 use sdr_disk::{Disk, MemoryDisk};
 use sdr_shell::{Form, NO_MEMORY, NOT_FORMATTED, USAGE, top};
-use sdr_system::{FileDisk, Place, hold, make_disk, open_disk, place_of, view_disk};
+use sdr_system::{FileDisk, HeldSource, Place, hold, make_disk, open_disk, place_of, view_disk};
 use sdr_words::{ScriptError, read_script};
 use std::fs::File;
 use std::io;
@@ -61,6 +62,8 @@ fn answer_in_memory<
     K: Sink,
 >(rt: &R, words: &[RcStr], media: M, input: &mut S, output: &mut K) -> u8
     ensures usage { (result ≡ USAGE) ↔ (form_of words.now ≡ None) }
+    ensures ends { IsStatusOf ⟦<MemoryDisk as Disk>⟧ (IsEmpty ⟦<MemoryDisk as Disk>⟧) M.Media
+        S.Source K.Sink words.now media input.old input.new output.old output.new result }
 {
     let disk = MemoryDisk::new(Vec::new(rt.alloc()), Vec::new(rt.alloc()));
     answer(rt, words, disk, media, input, output).status
@@ -74,7 +77,8 @@ pub fn answer_usage<
     K: Sink,
 >(rt: &R, words: &[RcStr], media: M, input: &mut S, output: &mut K) -> u8
     requires none { form_of words.now ≡ None }
-    ensures { result ≡ USAGE }
+    ensures { EndsUsage ⟦<MemoryDisk as Disk>⟧ M.Media S.Source K.Sink words.now media
+        input.old input.new output.old output.new result }
 {
     note_forms(rt);
     answer_in_memory(rt, words, media, input, output)
@@ -110,6 +114,8 @@ fn answer_on_file<
     output: &mut K,
 ) -> u8
     requires limits { OnFormat (Some asked.form) IsInLimits }
+    ensures ends { IsStatusOnFile ⟦<FileDisk<File> as Disk>⟧ M.Media S.Source K.Sink
+        asked.entry.words.now media input.old input.new output.old output.new result }
 {
     let mut disk = match open_for(rt, asked.form, path, bytes) {
         Ok(disk) => disk,
@@ -122,11 +128,11 @@ fn answer_on_file<
     if let Form::Format { frame } = asked.form {
         let _ = note_loss(rt, path, frame, &mut disk);
     }
-    let mut answered = answer(rt, asked.words, disk, media, input, output);
-    if answered.status == NOT_FORMATTED {
-        let _ = note_no_heap(rt, path, &mut answered.disk);
+    let Answered { status, mut disk } = answer(rt, asked.words, disk, media, input, output);
+    if status == NOT_FORMATTED {
+        let _ = note_no_heap(rt, path, &mut disk);
     }
-    answered.status
+    status
 }
 
 // The status where there is no memory for the input.
@@ -156,14 +162,23 @@ fn replay_on_file<
     output: &mut K,
 ) -> u8
     requires limits { OnFormat (Some asked.form) IsInLimits }
+    ensures ends { ComesHeld ⟦<MemoryDisk as Disk>⟧ ⟦<FileDisk<File> as Disk>⟧ M.Media S.Source
+        ⟦<HeldSource<'static> as Source>⟧ K.Sink asked.entry.words.now media
+        input.old input.new output.old output.new result }
 {
     let Ok(held) = hold(rt.alloc(), input) else {
         return answer_starved(output);
     };
+    if held.failed {
+        return answer_in_memory(rt, asked.words, media, &mut held.source(), output);
+    }
     match read_script(rt.alloc(), &mut held.source()) {
         Ok(_) => answer_on_file(rt, asked, path, bytes, media, &mut held.source(), output),
-        Err(ScriptError::NoMemory) => answer_starved(output),
-        Err(_) => answer_in_memory(rt, asked.words, media, &mut held.source(), output),
+        Err(ScriptError::Line { .. }) => {
+            answer_in_memory(rt, asked.words, media, &mut held.source(), output)
+        }
+        // What is held of an input that didn't fail doesn't fail.
+        Err(ScriptError::NoMemory | ScriptError::Input) => answer_starved(output),
     }
 }
 
@@ -175,6 +190,10 @@ pub fn answer_form<
     K: Sink,
 >(rt: &R, asked: Asked<'_>, media: M, input: &mut S, output: &mut K) -> u8
     requires limits { OnFormat (Some asked.form) IsInLimits }
+    requires form { form_of asked.words.now ≡ Some asked.form }
+    ensures ends { ComesBy ⟦<MemoryDisk as Disk>⟧ ⟦<FileDisk<File> as Disk>⟧ M.Media S.Source
+        ⟦<HeldSource<'static> as Source>⟧ K.Sink asked.entry.disk.now asked.entry.words.now media
+        input.old input.new output.old output.new result }
 {
     let (path, bytes) = match place_of(asked.disk) {
         Place::Memory => return answer_in_memory(rt, asked.words, media, input, output),

@@ -12,14 +12,22 @@
 //! 6. The words, the disk and the input go to the top call, whose status the program ends with.
 //! 7. Files and bulk items are those of the current folder.
 //!
-//! Proved: what `top` answers to the words stands, and its status and disk are given on (`IsAnswered`, a clause of the private
-//! `answer`); it asks nothing of the disk. That the program ends with this status is not proved.
-//! `--help` and `--version` are printed whole, or the output failed (`done`, `cause`). What is told of a disk is read alone.
+//! Proved: the exit code is the status that `top` gave to the words, on an empty disk in memory or on a file (`EndsWith`, the clause of
+//! `exit_code`, whose result `main` returns): words that are no form end with 2, and an input that tells its bytes and spells no script
+//! with 3, 8 or 9, unless it failed. It is 1 only where something couldn't be opened, and then nothing is printed. `--help` and
+//! `--version` are printed whole, or the output failed (`done`, `cause`). What is told of a disk is read alone. That `main` hands on
+//! the words, the streams and the result of `exit_code` as they are is no clause.
 //!
 //! Only tested: that words are tried before a file is opened, that `dry` and a refused script open none, what standard error
 //! says, and each of the descriptors 0 to 2 closed, with each form (`tests/starters`); the program on files (`tests/run`),
 //! power loss after each write of a replay (`tests/crash`), a fault at each call on media (`tests/faults`).
 #![tactic(auto)]
+
+ghost use Rattle.std.specs.Prelude.{◌≡◌, None, Some};
+ghost use Rattle.std.specs.Process.{exit_status};
+ghost use Rattle.sdr_shell.specs.Form.{form_of};
+ghost use Rattle.sdr_shell.specs.declared.form.Form.{Form};
+ghost use Rattle.sdrtool.specs.Ending.{EndsForm, EndsUsage, EndsWith, is_alone};
 
 mod about;
 mod answering;
@@ -29,9 +37,10 @@ use crate::about::{HELP, VERSION, print};
 use crate::answering::{Asked, answer_form, answer_usage};
 use crate::notes::{note_no_text, note_unopened};
 use sdr_base::{Media, NoMemory, Sink, Source};
+use sdr_disk::{Disk, MemoryDisk};
 use sdr_media::FolderMedia;
 use sdr_shell::{NO_MEMORY, form_of};
-use sdr_system::{StdSink, StdSource, take_streams};
+use sdr_system::{FileDisk, HeldSource, StdSink, StdSource, take_streams};
 use std::alloc::Global;
 use std::env;
 use std::env::{Args, Env};
@@ -77,19 +86,31 @@ fn shared(alloc: Global, args: Skip<Args<Global>>) -> Result<Vec<RcStr>, NoMemor
     Ok(words)
 }
 
-// The status of a command line.
-fn run<
+// Whether the words are this one alone.
+fn is_alone(words: &[RcStr], text: &str) -> bool
+    ensures { result ≡ is_alone text.now words.now }
+{
+    match words {
+        [word] => word.as_str() == text,
+        _ => false,
+    }
+}
+
+// The status of the words behind the one that names the disk.
+fn answer_words<
     R: Threads + Wait + Sync + AllocGlobal + Eprint + Files<File = File>,
     M: Media + Send + Drop,
     S: Source,
     K: Sink,
->(rt: &R, words: &[RcStr], media: M, input: &mut S, output: &mut K) -> u8 {
-    let (disk, words) = match words {
-        [] => return answer_usage(rt, words, media, input, output),
-        [word] if word.as_str() == "--help" => return print(output, HELP),
-        [word] if word.as_str() == "--version" => return print(output, VERSION),
-        [disk, words @ ..] => (disk.as_str(), words),
-    };
+>(rt: &R, disk: &str, words: &[RcStr], media: M, input: &mut S, output: &mut K) -> u8
+    ensures usage { form_of words.now ≡ None →
+        EndsUsage ⟦<MemoryDisk as Disk>⟧ M.Media S.Source K.Sink words.now media
+        input.old input.new output.old output.new result }
+    ensures form { (f : Form) → form_of words.now ≡ Some f →
+        EndsForm ⟦<MemoryDisk as Disk>⟧ ⟦<FileDisk<File> as Disk>⟧ M.Media S.Source
+        ⟦<HeldSource<'static> as Source>⟧ K.Sink disk.now words.now media
+        input.old input.new output.old output.new result }
+{
     let Some(form) = form_of(words) else {
         return answer_usage(rt, words, media, input, output);
     };
@@ -101,6 +122,43 @@ fn run<
             CANNOT_OPEN
         }
     }
+}
+
+// The status of a command line.
+fn run<
+    R: Threads + Wait + Sync + AllocGlobal + Eprint + Files<File = File>,
+    M: Media + Send + Drop,
+    S: Source,
+    K: Sink,
+>(rt: &R, words: &[RcStr], media: M, input: &mut S, output: &mut K) -> u8
+    ensures { EndsWith ⟦<MemoryDisk as Disk>⟧ ⟦<FileDisk<File> as Disk>⟧ M.Media S.Source
+        ⟦<HeldSource<'static> as Source>⟧ K.Sink HELP.now VERSION.now words.now media
+        input.old input.new output.old output.new result }
+{
+    if is_alone(words, "--help") {
+        return print(output, HELP);
+    }
+    if is_alone(words, "--version") {
+        return print(output, VERSION);
+    }
+    match words.split_first() {
+        Some((disk, rest)) => answer_words(rt, disk.as_str(), rest, media, input, output),
+        None => answer_usage(rt, words, media, input, output),
+    }
+}
+
+// What the program ends with: the status of a command line.
+fn exit_code<
+    R: Threads + Wait + Sync + AllocGlobal + Eprint + Files<File = File>,
+    M: Media + Send + Drop,
+    S: Source,
+    K: Sink,
+>(rt: &R, words: &[RcStr], media: M, input: &mut S, output: &mut K) -> ExitCode
+    ensures { EndsWith ⟦<MemoryDisk as Disk>⟧ ⟦<FileDisk<File> as Disk>⟧ M.Media S.Source
+        ⟦<HeldSource<'static> as Source>⟧ K.Sink HELP.now VERSION.now words.now media
+        input.old input.new output.old output.new (exit_status result) }
+{
+    ExitCode::from(run(rt, words, media, input, output))
 }
 
 fn main(rt: HostRuntime) -> ExitCode {
@@ -116,5 +174,5 @@ fn main(rt: HostRuntime) -> ExitCode {
     let mut output = StdSink::new(rt.stdout(), rt);
     // Files and items are those of the current folder.
     let media = FolderMedia::new(rt, PathBuf::new(rt.alloc()));
-    ExitCode::from(run(&rt, words.as_slice(), media, &mut input, &mut output))
+    exit_code(&rt, words.as_slice(), media, &mut input, &mut output)
 }
