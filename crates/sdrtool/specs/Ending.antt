@@ -1,5 +1,5 @@
 -- How the program comes to the status that it ends with.
-use Rattle.std.specs.Prelude.{◌≡◌, ◌≢◌, ◌⊎◌, ◌&&◌, not, ℕ, Bool, true, false, List, [], ◌∷◌, None, Some, IsErr, IsOk, codes, nat_eq}
+use Rattle.std.specs.Prelude.{◌≡◌, ◌≢◌, ◌⊎◌, ℕ, Bool, true, false, List, [], ◌∷◌, None, Some, IsErr, IsOk, codes, nat_eq, if◌then◌else◌}
 use Rattle.std.specs.Io.KnownBytes.{Appends}
 use Rattle.std.specs.declared.alloc.Global.{Global}
 use Rattle.std.specs.declared.option.Option.{Option}
@@ -12,18 +12,22 @@ use Rattle.sdr_base.specs.declared.media.Media.{Ghosts as MediaGhosts}
 use Rattle.sdr_base.specs.declared.sink.Sink.{Ghosts as SinkGhosts}
 use Rattle.sdr_base.specs.declared.source.Source.{Ghosts as SourceGhosts}
 use Rattle.sdr_disk.specs.declared.disk.Disk.{Ghosts as DiskGhosts}
+use Rattle.sdr_log.specs.Frame.{IsInLimits}
 use Rattle.sdr_shell.specs.Answers.{Wrote, seen}
-use Rattle.sdr_shell.specs.Form.{form_of}
+use Rattle.sdr_shell.specs.Form.{OnFormat, form_of}
 use Rattle.sdr_shell.specs.Words.{AnswersWords}
 use Rattle.sdr_shell.specs.declared.form.Form.{Form}
 use Rattle.sdr_shell.specs.declared.form.Form.TheVariants as forms
 use Rattle.sdr_shell.specs.declared.outcome.RunOutcome.{RunOutcome}
-use Rattle.sdr_shell.specs.declared.status.TheConstants.{DONE, INPUT_FAULT, NO_MEMORY, OUTPUT_FAULT, REFUSED_LINE, USAGE}
+use Rattle.sdr_shell.specs.declared.status.TheConstants.{DONE, NO_MEMORY, OUTPUT_FAULT, USAGE}
 use Rattle.sdr_system.specs.Held.{HoldsInput}
 use Rattle.sdr_system.specs.HeldFeed.{HeldFeed}
 use Rattle.sdr_system.specs.declared.held.Held.{Held}
 use Rattle.sdr_words.specs.Script.{input_script}
 use Rattle.sdrtool.specs.declared.TheConstants.{CANNOT_OPEN}
+use Rattle.sdrtool.specs.declared.about.TheConstants.{HELP, VERSION}
+use Rattle.sdrtool.specs.declared.command.Command.{Command}
+use Rattle.sdrtool.specs.declared.command.Command.TheVariants as commands
 
 -- The top call was made with these words on such a disk, and this is its status.
 pub record IsStatusOf {D M S K : Type 0} (d : DiskGhosts D) (On : D → Type 0) (m : MediaGhosts M) (s : SourceGhosts S) (k : SinkGhosts K)
@@ -58,38 +62,84 @@ IsStatusOnFile d m s k words files input input' output output' status =
 abbrev pub feed_of : Held → HeldFeed
 feed_of held = record { left = held.bytes; failed = held.failed; faults = 0; reads = 0 }
 
+-- the input that is held didn't fail, and it spells a script
+abbrev pub SpellsScript : Held → Type 0
+SpellsScript held = (held.failed ≡ false) × IsOk (input_script held.bytes)
+
+-- it failed, or it spells no script
+abbrev pub SpellsNone : Held → Type 0
+SpellsNone held = (held.failed ≡ true) ⊎ IsErr (input_script held.bytes)
+
 -- How a replay on a file, before which the input is held, comes to its status.
 pub data ComesHeld {D E M S K : Type 0} (d : DiskGhosts D) (e : DiskGhosts E) (m : MediaGhosts M) (s : SourceGhosts S) (h : SourceGhosts HeldFeed)
     (k : SinkGhosts K) (words : List (RcStr Global)) (files : M) (input input' : S) (output output' : K) (status : ℕ) : Type 0 where
   -- there is no memory for the input
   starved : status ≡ NO_MEMORY → Wrote (seen k.taken k.faults output) (seen k.taken k.faults output') (codes "no memory\n")
       → ComesHeld d e m s h k words files input input' output output' status
-  -- the input failed, or it spells no script: the top call was made with what is held on an empty disk in memory
-  unread : (held : Held) → HoldsInput (s.left input) (s.left input') (s.faults input) (s.faults input') held
-      → (held.failed ≡ true) ⊎ IsErr (input_script held.bytes) → (last : HeldFeed)
+  -- the input failed or spells no script: the top call was made with what is held, on an empty disk in memory
+  unread : (held : Held) → HoldsInput (s.left input) (s.left input') (s.faults input) (s.faults input') held → SpellsNone held → (last : HeldFeed)
       → IsStatusOf d (IsEmpty d) m h k words files (feed_of held) last output output' status
       → ComesHeld d e m s h k words files input input' output output' status
   -- it spells a script, for which the file is opened
-  read : (held : Held) → HoldsInput (s.left input) (s.left input') (s.faults input) (s.faults input') held → held.failed ≡ false
-      → IsOk (input_script held.bytes) → (last : HeldFeed) → IsStatusOnFile e m h k words files (feed_of held) last output output' status
+  read : (held : Held) → HoldsInput (s.left input) (s.left input') (s.faults input) (s.faults input') held → SpellsScript held → (last : HeldFeed)
+      → IsStatusOnFile e m h k words files (feed_of held) last output output' status
       → ComesHeld d e m s h k words files input input' output output' status
+
+-- the form takes no file, or the word that names the disk names none
+abbrev pub TakesNoFile : List ℕ → Form → Type 0
+TakesNoFile word form = (word ≡ codes "-") ⊎ (form ≡ forms.Dry)
+
+-- it takes the file that the word names
+abbrev pub TakesFile : List ℕ → Form → Type 0
+TakesFile word form = (word ≢ codes "-") × (form ≢ forms.Dry)
 
 -- How a form comes to its status, by the word that names the disk: on an empty disk in memory for `-` and for `dry`, else on a file, and
 -- for `replay` behind an input that is held.
 pub data ComesBy {D E M S K : Type 0} (d : DiskGhosts D) (e : DiskGhosts E) (m : MediaGhosts M) (s : SourceGhosts S) (h : SourceGhosts HeldFeed)
-    (k : SinkGhosts K) (word : List ℕ) (words : List (RcStr Global)) (files : M) (input input' : S) (output output' : K) (status : ℕ) : Type 0 where
-  in_memory : (word ≡ codes "-") ⊎ (form_of words ≡ Some forms.Dry) → IsStatusOf d (IsEmpty d) m s k words files input input' output output' status
-      → ComesBy d e m s h k word words files input input' output output' status
-  on_file : word ≢ codes "-" → (form_of words ≢ Some forms.Dry) → (form_of words ≢ Some forms.Replay)
-      → IsStatusOnFile e m s k words files input input' output output' status
-      → ComesBy d e m s h k word words files input input' output output' status
-  held : word ≢ codes "-" → form_of words ≡ Some forms.Replay → ComesHeld d e m s h k words files input input' output output' status
-      → ComesBy d e m s h k word words files input input' output output' status
+    (k : SinkGhosts K) (word : List ℕ) (form : Form) (words : List (RcStr Global)) (files : M) (input input' : S) (output output' : K) (status : ℕ)
+    : Type 0 where
+  in_memory : TakesNoFile word form → IsStatusOf d (IsEmpty d) m s k words files input input' output output' status
+      → ComesBy d e m s h k word form words files input input' output output' status
+  on_file : TakesFile word form → form ≢ forms.Replay → IsStatusOnFile e m s k words files input input' output output' status
+      → ComesBy d e m s h k word form words files input input' output output' status
+  held : TakesFile word form → form ≡ forms.Replay → ComesHeld d e m s h k words files input input' output output' status
+      → ComesBy d e m s h k word form words files input input' output output' status
 
--- whether the words are this one alone
-abbrev pub is_alone : List ℕ → List (RcStr Global) → Bool
-is_alone text (word ∷ []) = pointwise nat_eq (rc_str_bytes word) text
-is_alone text words = false
+-- the text about the program that the words of a command line ask for, if they ask for one
+abbrev pub about_text : List (RcStr Global) → Option (List ℕ)
+about_text (word ∷ []) =
+    if pointwise nat_eq (rc_str_bytes word) (codes "--help") then Some HELP.now
+    else (if pointwise nat_eq (rc_str_bytes word) (codes "--version") then Some VERSION.now else None)
+about_text words = None
+
+-- the bytes of the word that names the disk
+abbrev pub disk_word : List (RcStr Global) → List ℕ
+disk_word [] = []
+disk_word (disk ∷ words) = rc_str_bytes disk
+
+-- the words behind it
+abbrev pub behind_disk : List (RcStr Global) → List (RcStr Global)
+behind_disk [] = []
+behind_disk (disk ∷ words) = words
+
+-- the words of a command line ask for no text, and behind their first, if there is one, these are no form
+pub record AsksNothing (words others : List (RcStr Global)) : Type 0 where
+  pub no_text : about_text words ≡ None
+  pub behind : others ≡ behind_disk words
+  pub no_form : form_of others ≡ None
+
+-- the words of a command line are one that names the disk and these behind it, which are the form
+pub record AsksForm (words : List (RcStr Global)) (word : List ℕ) (others : List (RcStr Global)) (form : Form) : Type 0 where
+  pub named : word ≡ disk_word words
+  pub behind : others ≡ behind_disk words
+  pub is_form : form_of others ≡ Some form
+  pub limits : OnFormat (Some form) IsInLimits
+
+-- what the words of a command line ask for
+abbrev pub IsCommand : List (RcStr Global) → Command → Type 0
+IsCommand words (commands.About text) = about_text words ≡ Some text.now
+IsCommand words (commands.Usage others) = AsksNothing words others.now
+IsCommand words (commands.Form asked) = AsksForm words asked.disk.now asked.words.now asked.form
 
 -- the text was printed whole, or a part of it where the output failed, and the status says which; no input was read
 pub record PrintsText {S K : Type 0} (k : SinkGhosts K) (text : List ℕ) (input input' : S) (output output' : K) (status : ℕ) : Type 0 where
@@ -99,48 +149,20 @@ pub record PrintsText {S K : Type 0} (k : SinkGhosts K) (text : List ℕ) (input
   pub cause : status ≡ OUTPUT_FAULT → Rose (k.faults output) (k.faults output')
   pub unread : input' ≡ input
 
--- whether the words of a command line are neither the one that asks for the help nor the one that asks for the version
-abbrev pub asks_other : List (RcStr Global) → Bool
-asks_other words = not (is_alone (codes "--help") words) && not (is_alone (codes "--version") words)
-
--- the words of a command line behind the one that names the disk
-abbrev pub behind_disk : List (RcStr Global) → List (RcStr Global)
-behind_disk [] = []
-behind_disk (disk ∷ words) = words
-
--- the status of the words behind the one that names the disk, which are no form: that of the top call, which says so
-pub record EndsUsage {D M S K : Type 0} (d : DiskGhosts D) (m : MediaGhosts M) (s : SourceGhosts S) (k : SinkGhosts K) (words : List (RcStr Global))
-    (files : M) (input input' : S) (output output' : K) (status : ℕ) : Type 0 where
-  pub is_usage : status ≡ USAGE
-  pub top : IsStatusOf d (IsEmpty d) m s k words files input input' output output' status
-
--- The status of the words behind the one that names the disk, which are a form: that of the form, unless the descriptors of the standard
--- streams couldn't be taken.
-abbrev pub EndsForm : {D E M S K : Type 0} → DiskGhosts D → DiskGhosts E → MediaGhosts M → SourceGhosts S → SourceGhosts HeldFeed
-    → SinkGhosts K → List ℕ → List (RcStr Global) → M → S → S → K → K → ℕ → Type 0
-EndsForm d e m s h k word words files input input' output output' status =
-    IsUnopened input input' output output' status ⊎ ComesBy d e m s h k word words files input input' output output' status
-
--- the form takes the script of the input
-abbrev pub TakesScript : Option Form → Type 0
-TakesScript form = (form ≡ Some forms.Dry) ⊎ (form ≡ Some forms.Replay)
-
--- the status tells that no script was run: the input failed, one of its lines is refused, or memory was wanting
-abbrev pub IsUnrun : ℕ → Type 0
-IsUnrun status = (status ≡ INPUT_FAULT) ⊎ (status ≡ REFUSED_LINE) ⊎ (status ≡ NO_MEMORY)
-
--- What the program ends with, by the words of its command line: those that ask for the help or the version, those that are no form
--- behind their first, and those that are one, on the disk that their first names.
-pub record EndsWith {D E M S K : Type 0} (d : DiskGhosts D) (e : DiskGhosts E) (m : MediaGhosts M) (s : SourceGhosts S) (h : SourceGhosts HeldFeed)
-    (k : SinkGhosts K) (help version : List ℕ) (words : List (RcStr Global)) (files : M) (input input' : S) (output output' : K) (status : ℕ)
-    : Type 0 where
-  pub helps : is_alone (codes "--help") words ≡ true → PrintsText k help input input' output output' status
-  pub versions : is_alone (codes "--help") words ≡ false → is_alone (codes "--version") words ≡ true → PrintsText k version input input' output output' status
-  pub usage : asks_other words ≡ true → form_of (behind_disk words) ≡ None
-      → EndsUsage d m s k (behind_disk words) files input input' output output' status
-  pub form : (word : RcStr Global) (others : List (RcStr Global)) (f : Form) → words ≡ word ∷ others → form_of others ≡ Some f
-      → EndsForm d e m s h k (rc_str_bytes word) others files input input' output output' status
-  -- an input that tells its bytes, didn't fail and spells no script ends with a status that tells so
-  pub refused :
-      TakesScript (form_of (behind_disk words)) → (bytes : List ℕ) → s.left input ≡ Some bytes → IsErr (input_script bytes)
-      → ¬ Rose (s.faults input) (s.faults input') → (status ≡ CANNOT_OPEN) ⊎ IsUnrun status
+-- How the program comes to the status that it ends with, by the words of its command line.
+pub data EndsWith {D E M S K : Type 0} (d : DiskGhosts D) (e : DiskGhosts E) (m : MediaGhosts M) (s : SourceGhosts S) (h : SourceGhosts HeldFeed)
+    (k : SinkGhosts K) (words : List (RcStr Global)) (files : M) (input input' : S) (output output' : K) (status : ℕ) : Type 0 where
+  -- they ask for a text, which is printed
+  prints : (text : List ℕ) → about_text words ≡ Some text → PrintsText k text input input' output output' status
+      → EndsWith d e m s h k words files input input' output output' status
+  -- they are no form: the top call, made on an empty disk in memory, says so
+  usage : (others : List (RcStr Global)) → AsksNothing words others → status ≡ USAGE
+      → IsStatusOf d (IsEmpty d) m s k others files input input' output output' status
+      → EndsWith d e m s h k words files input input' output output' status
+  -- they are a form, and the descriptors of the standard streams couldn't be taken
+  unopened : (word : List ℕ) (others : List (RcStr Global)) (form : Form) → AsksForm words word others form
+      → IsUnopened input input' output output' status → EndsWith d e m s h k words files input input' output output' status
+  -- they are a form, which was answered
+  answered : (word : List ℕ) (others : List (RcStr Global)) (form : Form) → AsksForm words word others form
+      → ComesBy d e m s h k word form others files input input' output output' status
+      → EndsWith d e m s h k words files input input' output output' status

@@ -13,33 +13,31 @@
 //! 7. Files and bulk items are those of the current folder.
 //!
 //! Proved: the exit code is the status that `top` gave to the words, on an empty disk in memory or on a file (`EndsWith`, the clause of
-//! `exit_code`, whose result `main` returns): words that are no form end with 2, and an input that tells its bytes and spells no script
-//! with 3, 8 or 9, unless it failed. It is 1 only where something couldn't be opened, and then nothing is printed. `--help` and
-//! `--version` are printed whole, or the output failed (`done`, `cause`). What is told of a disk is read alone. That `main` hands on
-//! the words, the streams and the result of `exit_code` as they are is no clause.
+//! `exit_code`, whose result `main` returns). Besides, it may be 1, and then nothing is printed; 9, for a replay on a file that prints
+//! `no memory`; and 0 or 4 for `--help` and `--version`, which are printed whole, or the output failed. `top` asks nothing of the disk.
+//! What is told of a disk is read alone. No clause says what `main` hands to `exit_code`, nor that it returns what that gives.
 //!
 //! Only tested: that words are tried before a file is opened, that `dry` and a refused script open none, what standard error
 //! says, and each of the descriptors 0 to 2 closed, with each form (`tests/starters`); the program on files (`tests/run`),
 //! power loss after each write of a replay (`tests/crash`), a fault at each call on media (`tests/faults`).
 #![tactic(auto)]
 
-ghost use Rattle.std.specs.Prelude.{◌≡◌, None, Some};
 ghost use Rattle.std.specs.Process.{exit_status};
-ghost use Rattle.sdr_shell.specs.Form.{form_of};
-ghost use Rattle.sdr_shell.specs.declared.form.Form.{Form};
-ghost use Rattle.sdrtool.specs.Ending.{EndsForm, EndsUsage, EndsWith, is_alone};
+ghost use Rattle.sdrtool.specs.Ending.{EndsWith};
 
 mod about;
 mod answering;
+mod command;
 mod notes;
 
-use crate::about::{HELP, VERSION, print};
-use crate::answering::{Asked, answer_form, answer_usage};
+use crate::about::print;
+use crate::answering::{answer_form, answer_usage};
+use crate::command::{Command, command_of};
 use crate::notes::{note_no_text, note_unopened};
 use sdr_base::{Media, NoMemory, Sink, Source};
 use sdr_disk::{Disk, MemoryDisk};
 use sdr_media::FolderMedia;
-use sdr_shell::{NO_MEMORY, form_of};
+use sdr_shell::NO_MEMORY;
 use sdr_system::{FileDisk, HeldSource, StdSink, StdSource, take_streams};
 use std::alloc::Global;
 use std::env;
@@ -86,44 +84,6 @@ fn shared(alloc: Global, args: Skip<Args<Global>>) -> Result<Vec<RcStr>, NoMemor
     Ok(words)
 }
 
-// Whether the words are this one alone.
-fn is_alone(words: &[RcStr], text: &str) -> bool
-    ensures { result ≡ is_alone text.now words.now }
-{
-    match words {
-        [word] => word.as_str() == text,
-        _ => false,
-    }
-}
-
-// The status of the words behind the one that names the disk.
-fn answer_words<
-    R: Threads + Wait + Sync + AllocGlobal + Eprint + Files<File = File>,
-    M: Media + Send + Drop,
-    S: Source,
-    K: Sink,
->(rt: &R, disk: &str, words: &[RcStr], media: M, input: &mut S, output: &mut K) -> u8
-    ensures usage { form_of words.now ≡ None →
-        EndsUsage ⟦<MemoryDisk as Disk>⟧ M.Media S.Source K.Sink words.now media
-        input.old input.new output.old output.new result }
-    ensures form { (f : Form) → form_of words.now ≡ Some f →
-        EndsForm ⟦<MemoryDisk as Disk>⟧ ⟦<FileDisk<File> as Disk>⟧ M.Media S.Source
-        ⟦<HeldSource<'static> as Source>⟧ K.Sink disk.now words.now media
-        input.old input.new output.old output.new result }
-{
-    let Some(form) = form_of(words) else {
-        return answer_usage(rt, words, media, input, output);
-    };
-    match take_streams(rt) {
-        // Kept until the form is answered.
-        Ok(_streams) => answer_form(rt, Asked { disk, words, form }, media, input, output),
-        Err(error) => {
-            note_unopened(rt, ".", &error);
-            CANNOT_OPEN
-        }
-    }
-}
-
 // The status of a command line.
 fn run<
     R: Threads + Wait + Sync + AllocGlobal + Eprint + Files<File = File>,
@@ -132,18 +92,20 @@ fn run<
     K: Sink,
 >(rt: &R, words: &[RcStr], media: M, input: &mut S, output: &mut K) -> u8
     ensures { EndsWith ⟦<MemoryDisk as Disk>⟧ ⟦<FileDisk<File> as Disk>⟧ M.Media S.Source
-        ⟦<HeldSource<'static> as Source>⟧ K.Sink HELP.now VERSION.now words.now media
+        ⟦<HeldSource<'static> as Source>⟧ K.Sink words.now media
         input.old input.new output.old output.new result }
 {
-    if is_alone(words, "--help") {
-        return print(output, HELP);
-    }
-    if is_alone(words, "--version") {
-        return print(output, VERSION);
-    }
-    match words.split_first() {
-        Some((disk, rest)) => answer_words(rt, disk.as_str(), rest, media, input, output),
-        None => answer_usage(rt, words, media, input, output),
+    match command_of(words) {
+        Command::About { text } => print(output, text),
+        Command::Usage { words } => answer_usage(rt, words, media, input, output),
+        Command::Form { asked } => match take_streams(rt) {
+            // Kept until the form is answered.
+            Ok(_streams) => answer_form(rt, asked, media, input, output),
+            Err(error) => {
+                note_unopened(rt, ".", &error);
+                CANNOT_OPEN
+            }
+        },
     }
 }
 
@@ -155,7 +117,7 @@ fn exit_code<
     K: Sink,
 >(rt: &R, words: &[RcStr], media: M, input: &mut S, output: &mut K) -> ExitCode
     ensures { EndsWith ⟦<MemoryDisk as Disk>⟧ ⟦<FileDisk<File> as Disk>⟧ M.Media S.Source
-        ⟦<HeldSource<'static> as Source>⟧ K.Sink HELP.now VERSION.now words.now media
+        ⟦<HeldSource<'static> as Source>⟧ K.Sink words.now media
         input.old input.new output.old output.new (exit_status result) }
 {
     ExitCode::from(run(rt, words, media, input, output))
