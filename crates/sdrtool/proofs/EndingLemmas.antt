@@ -9,12 +9,10 @@ use Rattle.sdr_base.specs.declared.sink.Sink.{Ghosts as SinkGhosts}
 use Rattle.sdr_base.specs.declared.source.Source.{Ghosts as SourceGhosts}
 use Rattle.sdr_disk.specs.declared.disk.Disk.{Ghosts as DiskGhosts}
 use Rattle.sdr_log.specs.Frame.{IsInLimits}
-use Rattle.sdr_model.specs.declared.script.ScriptStep.{ScriptStep}
 use Rattle.sdr_shell.specs.Form.{OnFormat, form_of}
 use Rattle.sdr_shell.specs.declared.form.Form.{Form}
 use Rattle.sdr_system.specs.HeldFeed.{HeldFeed}
 use Rattle.sdr_system.specs.declared.held.Held.{Held}
-use Rattle.sdr_words.specs.Script.{input_script}
 use Rattle.sdrtool.specs.Answered.{IsAnswered}
 use Rattle.sdrtool.specs.Ending.{AsksForm, AsksNothing, IsStatusOf, about_text, behind_disk, disk_word, feed_of}
 use Rattle.sdrtool.specs.declared.answering.Answered.{Answered}
@@ -41,17 +39,15 @@ pub on_false : {P Q : Type 0} (b : Bool) → b ≡ false → MatchBool b P Q →
 on_false true is fact = absurd (true≢false is)
 on_false false is fact = fact
 
--- a script that is read from what is held is the script of what is held
-pub held_ok : (feed : HeldFeed) (held : Held) (steps : List ScriptStep) → feed ≡ feed_of held → input_script feed.left ≡ Ok steps
-    → IsOk (input_script held.bytes)
-held_ok feed held steps is spells =
-    subst (λ (f : HeldFeed). IsOk (input_script f.left)) is (subst (λ (r : Result (List ScriptStep) ℕ). IsOk r) (sym spells) refl)
+-- what a reading of what is held gives, it gives of the bytes that are held
+module _ {A : Type 0} (reading : List ℕ → Result A ℕ) (feed : HeldFeed) (held : Held) (is : feed ≡ feed_of held) where
+  pub held_ok : (steps : A) → reading feed.left ≡ Ok steps → IsOk (reading held.bytes)
+  held_ok steps spells =
+      subst (λ (f : HeldFeed). IsOk (reading f.left)) is (subst (λ (r : Result A ℕ). IsOk r) (sym spells) refl)
 
--- so is a line that is refused
-pub held_err : (feed : HeldFeed) (held : Held) (line : ℕ) → feed ≡ feed_of held → input_script feed.left ≡ Err line
-    → IsErr (input_script held.bytes)
-held_err feed held line is spells =
-    subst (λ (f : HeldFeed). IsErr (input_script f.left)) is (subst (λ (r : Result (List ScriptStep) ℕ). IsErr r) (sym spells) refl)
+  pub held_err : (line : ℕ) → reading feed.left ≡ Err line → IsErr (reading held.bytes)
+  held_err line refused =
+      subst (λ (f : HeldFeed). IsErr (reading f.left)) is (subst (λ (r : Result A ℕ). IsErr r) (sym refused) refl)
 
 -- a word that ends in a size isn't `-`
 pub sized_apart : (path digits : List ℕ) → path ++ codes "=" ++ digits ≢ codes "-"

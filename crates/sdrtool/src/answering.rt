@@ -10,7 +10,7 @@ ghost use Rattle.sdrtool.specs.Ending.{SpellsNone, SpellsScript, TakesFile, Take
 use crate::CANNOT_OPEN;
 use crate::command::Asked;
 use crate::notes::{note_forms, note_loss, note_no_heap, note_unopened};
-use sdr_base::{Media, NoGate, NoMemory, Sink, Source, write_all};
+use sdr_base::{Media, NoGate, Sink, Source, write_all};
 use sdr_disk::{Disk, MemoryDisk};
 use sdr_shell::{Form, NO_MEMORY, NOT_FORMATTED, USAGE, top};
 use sdr_system::{
@@ -143,7 +143,7 @@ fn answer_starved<K: Sink>(output: &mut K) -> u8
 }
 
 // Whether an input that is held spells a script. One that failed spells none.
-fn spells_script(alloc: Global, held: &Held) -> Result<bool, NoMemory>
+fn spells_script(alloc: Global, held: &Held) -> Result<bool, ScriptError>
     ensures { IfOk result
         (λ spells. MatchBool spells (SpellsScript held.now) (SpellsNone held.now)) }
 {
@@ -153,8 +153,8 @@ fn spells_script(alloc: Global, held: &Held) -> Result<bool, NoMemory>
     match read_script(alloc, &mut held.source()) {
         Ok(_) => Ok(true),
         Err(ScriptError::Line { .. }) => Ok(false),
-        // What is held of an input that didn't fail doesn't fail.
-        Err(_) => Err(NoMemory),
+        // What is held of an input that didn't fail doesn't fail: there is no memory.
+        Err(error) => Err(error),
     }
 }
 

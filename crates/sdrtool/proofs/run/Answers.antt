@@ -15,8 +15,8 @@ returns-in-About g c =
 pub returns-in-Usage : goal.returns-in-Usage
 returns-in-Usage g c = EndsWith.usage _ c.in-Usage.ensures c.answer_usage.ensures.usage c.answer_usage.ensures.ends
 
-pub returns-in-Form-Ok : goal.returns-in-Form-Ok
-returns-in-Form-Ok g c = EndsWith.answered _ _ _ c.in-Form.ensures c.answer_form.ensures
+pub returns-in-Ok : goal.returns-in-Ok
+returns-in-Ok g c = EndsWith.answered _ _ _ c.in-Form.ensures c.answer_form.ensures
 
-pub returns-in-Form-Err : goal.returns-in-Form-Err
-returns-in-Form-Err g c = EndsWith.unopened _ _ _ c.in-Form.ensures (record { status_is = refl; unread = refl; unprinted = refl })
+pub returns-in-Err : goal.returns-in-Err
+returns-in-Err g c = EndsWith.unopened _ _ _ c.in-Form.ensures (record { status_is = refl; unread = refl; unprinted = refl })
