@@ -8,5 +8,5 @@ returns-in_default g c = ComesBy.in_memory c.in_default.ensures c.answer_in_memo
 pub returns-in-Replay : goal.returns-in-Replay
 returns-in-Replay g c = ComesBy.held c.in-Some.ensures c.in-Replay.is c.replay_on_file.ensures
 
-pub returns-in_default-2 : goal.returns-in_default-2
-returns-in_default-2 g c = ComesBy.on_file c.in-Some.ensures c.in_default-2.not-Replay c.answer_on_file.ensures
+pub returns-in_default-form : goal.returns-in_default-form
+returns-in_default-form g c = ComesBy.on_file c.in-Some.ensures c.in_default-form.not-Replay c.answer_on_file.ensures
