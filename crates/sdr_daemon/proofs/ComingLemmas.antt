@@ -2,7 +2,7 @@
 use Rattle.std.proofs.Common.{◌≡◌, ◌∙◌, ◌==◌, ◌+◌, ◌&&◌, ◌||◌, ℕ, List, [], ◌∷◌, ◌++◌, Bool, true, false, true≢false, not, Option, None, Some, MatchBool, MatchOption, inl, inr, refl, sym, ap, subst}
 use Rattle.std.specs.Option.{option_map_or}
 use Rattle.std.specs.Prelude.{if◌then◌else◌}
-use Rattle.law_runs.proofs.RollLemmas.{among, found_number, found_put, same_number, number_same}
+use Rattle.sdr_machine.proofs.RollLemmas.{among, found_number, found_put, same_number, number_same}
 use Rattle.sdr_base.specs.Media.{Told}
 use Rattle.sdr_base.specs.declared.refusal.Refusal.TheVariants as refusals
 use Rattle.sdr_machine.proofs.HolderLemmas.{none_least}

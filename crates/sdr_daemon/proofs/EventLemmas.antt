@@ -3,7 +3,7 @@ use Rattle.std.proofs.Common.{◌≡◌, ◌∙◌, ◌==◌, ◌&&◌, ℕ, Lis
 use Rattle.std.specs.Option.{option_map, option_map_or, option_to_list}
 use Rattle.std.specs.List.{filter, flat_map}
 use Rattle.std.specs.Prelude.{if◌then◌else◌, is_none}
-use Rattle.law_runs.proofs.RollLemmas.{among, put_here, put_later, number_same}
+use Rattle.sdr_machine.proofs.RollLemmas.{among, put_here, put_later, number_same}
 use Rattle.sdr_base.specs.Media.{Told}
 use Rattle.sdr_base.specs.declared.refusal.Refusal.TheVariants as refusals
 use Rattle.sdr_machine.proofs.HolderLemmas.{none_least}

@@ -3,7 +3,7 @@ use Rattle.std.proofs.Common.{◌≡◌, ◌∙◌, ◌<◌, ◌+◌, ◌==◌, 
 use Rattle.std.proofs.lemmas.Bool.Decides.{nat_tests}
 use Rattle.std.specs.List.{AllByRecursion, IsDistinct, filter, list_any, range_with_len}
 use Rattle.std.specs.Prelude.{All, nat_eq, slice_index_or}
-use Rattle.law_runs.proofs.RollLemmas.{among, number_same, same_number}
+use Rattle.sdr_machine.proofs.RollLemmas.{among, number_same, same_number}
 use Rattle.sdr_core.specs.CoreKept.{LoggedLock, RunStart}
 use Rattle.sdr_machine.specs.Holders.{hold_none}
 use Rattle.sdr_machine.specs.Roll.{Roll, first_roll, newcomer}

@@ -1,6 +1,6 @@
 -- What a line and a leave of a daemon in its transaction come to, where no other daemon holds a number.
 use Rattle.std.proofs.Common.{◌≡◌, ◌∙◌, ◌⊎◌, ◌==◌, ◌+◌, ◌||◌, List, [], ◌∷◌, ◌++◌, true, false, Option, None, Some, MatchBool, inl, inr, refl, sym, ap, subst}
-use Rattle.law_runs.proofs.RollLemmas.{found_put, number_same}
+use Rattle.sdr_machine.proofs.RollLemmas.{found_put, number_same}
 use Rattle.law_runs.proofs.TransactLemmas.{asking_inside, closing_inside, transacts_open, transacts_within}
 use Rattle.sdr_base.specs.Media.{Told}
 use Rattle.sdr_base.specs.declared.refusal.Refusal.TheVariants as refusals

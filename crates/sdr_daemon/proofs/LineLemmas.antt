@@ -3,7 +3,7 @@ use Rattle.std.proofs.Common.{◌≡◌, ◌∙◌, ◌≤◌, ◌==◌, ◌-◌
 use Rattle.std.proofs.lemmas.List.{take-append-drop, take_all, length-take-le}
 use Rattle.std.proofs.Math.Seq.{drop-append_seam}
 use Rattle.std.specs.Prelude.{is_some}
-use Rattle.law_runs.proofs.RollLemmas.{same_number}
+use Rattle.sdr_machine.proofs.RollLemmas.{same_number}
 use Rattle.sdr_model.specs.declared.script.ScriptStep.{ScriptStep}
 use Rattle.sdr_daemon.specs.Progressing.{steps_ahead}
 use Rattle.sdr_daemon.specs.Turns.{steps_by}

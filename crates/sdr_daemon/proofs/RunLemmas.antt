@@ -7,7 +7,7 @@ use Rattle.std.specs.List.{AllByRecursion, IsDistinct, list_any}
 use Rattle.std.specs.Option.{option_map_or}
 use Rattle.std.specs.Prelude.{All, length, map, slice_index_or, slice_set, sum_by, is_some, nat_eq, slice_get}
 use Rattle.std.proofs.lemmas.List.Folds.{list_all_at}
-use Rattle.law_runs.proofs.RollLemmas.{among, found_number, number_same, other_put, same_number, turned}
+use Rattle.sdr_machine.proofs.RollLemmas.{among, found_number, number_same, other_put, same_number, turned}
 use Rattle.law_runs.proofs.RunLemmas.{run_keeps, run_members}
 use Rattle.sdr_core.specs.CoreKept.{RunStart, LoggedLock, core_at, KeepsRun}
 use Rattle.sdr_core.specs.Leaving.{LastsOn}

@@ -5,7 +5,7 @@ use Rattle.std.proofs.lemmas.List.Folds.{list_any-append}
 use Rattle.std.specs.List.{list_all, list_any, filter}
 use Rattle.std.specs.Prelude.{All, nat_lt}
 use Rattle.law_runs.proofs.CoreLemmas.{KeepsCore}
-use Rattle.law_runs.proofs.RollLemmas.{among, number_same, put_here, put_later}
+use Rattle.sdr_machine.proofs.RollLemmas.{among, number_same, put_here, put_later}
 use Rattle.law_runs.proofs.RunLemmas.{run_drawn, run_keeps}
 use Rattle.sdr_core.proofs.RunLemmas.{keeps_after}
 use Rattle.sdr_core.specs.CoreKept.{RunStart, LoggedLock, MakesCoreStep, core_at, KeepsRun}

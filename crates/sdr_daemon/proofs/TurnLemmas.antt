@@ -2,7 +2,7 @@
 use Rattle.std.proofs.Common.{◌≡◌, ◌∙◌, ◌<◌, ◌≤◌, ◌⊎◌, ◌+◌, ◌^◌, ◌&&◌, ℕ, List, [], ◌∷◌, ◌++◌, MatchBool, Bool, true, false, true≢false, not, Option, None, Some, inl, inr, arith, refl, sym, ap, subst, append-nil}
 use Rattle.std.specs.List.{list_any}
 use Rattle.std.specs.Prelude.{All, nat_lt, length}
-use Rattle.law_runs.proofs.RollLemmas.{among, found_number, found_put, same_number}
+use Rattle.sdr_machine.proofs.RollLemmas.{among, found_number, found_put, same_number}
 use Rattle.sdr_base.specs.declared.refusal.Refusal.TheVariants as refusals
 use Rattle.sdr_core.specs.CoreKept.{RunStart, LoggedLock, MakesCoreStep}
 use Rattle.sdr_machine.specs.Crash.{is_sound}

@@ -1,5 +1,5 @@
 use Rattle.std.proofs.Common.{◌≡◌, ◌∷◌, ap}
-use Rattle.law_runs.proofs.RollLemmas.{number_same}
+use Rattle.sdr_machine.proofs.RollLemmas.{number_same}
 use Rattle.sdr_daemon.proofs.LineLemmas.{front_is, other_number, rest_is, same_passed, step_found, step_passed}
 use Rattle.sdr_daemon.specs.Turns.{steps_by}
 use Rattle.sdr_daemon.proofs.script_place.next_step.Goals as goal
