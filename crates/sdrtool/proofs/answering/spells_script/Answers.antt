@@ -1,4 +1,6 @@
-use Rattle.std.proofs.Common.{Bool, IfOk, MatchBool, Result, inl, inr, subst, sym}
+use Rattle.std.proofs.Common.{Bool, IfErr, IfOk, MatchBool, Result, Some, inl, inr, subst, sym}
+use Rattle.sdr_words.specs.Reading.{NamesLine}
+use Rattle.sdr_words.specs.declared.error.ScriptError.TheVariants as errors
 use Rattle.sdr_words.specs.Script.{input_script}
 use Rattle.sdr_words.specs.declared.error.ScriptError.{ScriptError}
 use Rattle.sdrtool.proofs.EndingLemmas.{held_err, held_ok}
@@ -18,6 +20,9 @@ returns c =
           subst Tells (sym w.result-is)
           (c.if-held.false, held_ok input_script _ _ c.source.ensures _ w.in-Ok.ensures.script.whole)
       | in-Err-Line w ↦
-          subst Tells (sym w.result-is) (inr (held_err input_script _ _ c.source.ensures _ w.in-Err-Line.ensures.line.whole))
+          let line : NamesLine (Some c.source.result.left) (Some c.read_script.new.source.left) (errors.Line w.in-Err-Line.line) =
+          subst (λ r. IfErr r (NamesLine (Some c.source.result.left) (Some c.read_script.new.source.left)))
+          w.in-Err-Line.was c.read_script.ensures.line in
+          subst Tells (sym w.result-is) (inr (held_err input_script _ _ c.source.ensures _ line.whole))
       | in-Err w ↦ subst Tells (sym w.result-is) tt
     ]
