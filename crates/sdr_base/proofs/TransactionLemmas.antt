@@ -2,8 +2,8 @@
 use Rattle.std.proofs.Common.{◌≡◌, ◌+◌, ◌≤◌, ℕ, true, false, length, ap, sym, ◌∙◌, arith}
 use Rattle.std.specs.Prelude.{Result, Ok, Err}
 use Rattle.sdr_base.specs.Transaction.{Transaction, HasReason, Explains, TouchesAtMost, TouchesNone, IfRefused}
-use Rattle.sdr_base.specs.Transaction.{IsFullBelow}
-use Rattle.sdr_base.specs.declared.refusal.Refusal.TheVariants.{LogFull}
+use Rattle.sdr_base.specs.Transaction.{IsFullBelow, LeavesTouched, OnlyWanting}
+use Rattle.sdr_base.specs.declared.refusal.Refusal.TheVariants.{LogFull, NoBlock}
 use Rattle.sdr_base.specs.declared.stop.Stop.{Stop}
 use Rattle.sdr_base.specs.declared.stop.Stop.TheVariants.{Refused, DiskFault, MediaFault, Failed}
 
@@ -18,14 +18,43 @@ full_then i j a b c v (Err (Refused (LogFull lines room))) f s = (
 full_then i j a b c v (Err (Refused refusal)) f s = s.full
 full_then i j a b c v (Err stop) f s = s.full
 
--- the lines of two calls
+-- a refusal behind a call that may have touched lines is for want of a block or of log room
+wanting_left : {T : Type 0} (a c : Transaction) (r : Result T Stop) → OnlyWanting r → IfRefused r (LeavesTouched a c)
+wanting_left a c (Ok w) only = tt
+wanting_left a c (Err (Refused (NoBlock need))) only = tt
+wanting_left a c (Err (Refused (LogFull lines room))) only = tt
+wanting_left a c (Err (Refused refusal)) only = absurd only
+wanting_left a c (Err stop) only = search rules
+
+-- a refusal behind a call that left the touched lines leaves what it does itself
+left_then : {T : Type 0} (a b c : Transaction) (r : Result T Stop) → b.touched ≡ a.touched → IfRefused r (LeavesTouched b c) →
+    IfRefused r (LeavesTouched a c)
+left_then a b c (Ok w) same l = l
+left_then a b c (Err (Refused (NoBlock need))) same l = l
+left_then a b c (Err (Refused (LogFull lines room))) same l = l
+left_then a b c (Err (Refused refusal)) same l = l ∙ same
+left_then a b c (Err stop) same l = search rules
+
+-- the lines of two calls, of which the second stops for want of a block or of log room or by a fault alone
 pub touches_then : {T U : Type 0} {i j : ℕ} {a b c : Transaction} {v : U} {r : Result T Stop} →
-    TouchesAtMost i a b (Ok v) → TouchesAtMost j b c r → TouchesAtMost (i + j) a c r
-touches_then {T} {U} {i} {j} {a} {b} {c} {v} {r} f s = record {
+    TouchesAtMost i a b (Ok v) → TouchesAtMost j b c r → OnlyWanting r → TouchesAtMost (i + j) a c r
+touches_then {T} {U} {i} {j} {a} {b} {c} {v} {r} f s only = record {
   room = s.room ∙ f.room;
   kept = let k = f.kept in let l = s.kept in omega (arith, k, l);
   most = let k = f.most in let l = s.most in omega (arith, k, l);
   full = full_then i j a b c v r f s;
+  left = wanting_left a c r only;
+}
+
+-- the lines of a call behind one that touched none
+pub touches_behind : {T U : Type 0} {j : ℕ} {a b c : Transaction} {v : U} {r : Result T Stop} → b.touched ≡ a.touched →
+    TouchesAtMost 0 a b (Ok v) → TouchesAtMost j b c r → TouchesAtMost j a c r
+touches_behind {T} {U} {j} {a} {b} {c} {v} {r} same f s = record {
+  room = s.room ∙ f.room;
+  kept = let k = f.kept in let l = s.kept in omega (arith, k, l);
+  most = let k = f.most in let l = s.most in omega (arith, k, l);
+  full = full_then 0 j a b c v r f s;
+  left = left_then a b c r same s.left;
 }
 
 full_more : {T : Type 0} (room most more : ℕ) (r : Result T Stop) → most ≤ more → IfRefused r (IsFullBelow room most) →
@@ -43,6 +72,7 @@ touches_more {T} {i} {j} {a} {b} {r} t le = record {
   kept = t.kept;
   most = let k = t.most in omega (arith, k, le);
   full = full_more a.room (length a.touched + i) (length a.touched + j) r (omega (arith, le)) t.full;
+  left = t.left;
 }
 
 none_full : {T : Type 0} (room most : ℕ) (r : Result T Stop) → IfRefused r (λ _. ⊥) → IfRefused r (IsFullBelow room most)
@@ -52,6 +82,13 @@ none_full room most (Err DiskFault) none = none
 none_full room most (Err MediaFault) none = none
 none_full room most (Err Failed) none = none
 
+none_left : {T : Type 0} (a b : Transaction) (r : Result T Stop) → IfRefused r (λ _. ⊥) → IfRefused r (LeavesTouched a b)
+none_left a b (Ok w) none = none
+none_left a b (Err (Refused refusal)) none = absurd none
+none_left a b (Err DiskFault) none = none
+none_left a b (Err MediaFault) none = none
+none_left a b (Err Failed) none = none
+
 -- no line is none at most
 pub touches_none : {T : Type 0} {a b : Transaction} {r : Result T Stop} → TouchesNone a b r → TouchesAtMost 0 a b r
 touches_none {T} {a} {b} {r} t = record {
@@ -59,20 +96,21 @@ touches_none {T} {a} {b} {r} t = record {
   kept = omega (arith, ap length t.touched);
   most = omega (arith, ap length t.touched);
   full = none_full a.room (length a.touched + 0) r t.answered;
+  left = none_left a b r t.answered;
 }
 
 -- a call that goes on from the stop of a call within touches what that has touched
 pub touches_stopped : {T U : Type 0} (i : ℕ) (a b : Transaction) (stop : Stop) → TouchesAtMost {T = T} i a b (Err stop) →
     TouchesAtMost {T = U} i a b (Err stop)
-touches_stopped i a b (Refused refusal) t = record { room = t.room; kept = t.kept; most = t.most; full = t.full }
-touches_stopped i a b DiskFault t = record { room = t.room; kept = t.kept; most = t.most; full = t.full }
-touches_stopped i a b MediaFault t = record { room = t.room; kept = t.kept; most = t.most; full = t.full }
-touches_stopped i a b Failed t = record { room = t.room; kept = t.kept; most = t.most; full = t.full }
+touches_stopped i a b (Refused refusal) t = record { room = t.room; kept = t.kept; most = t.most; full = t.full; left = t.left }
+touches_stopped i a b DiskFault t = record { room = t.room; kept = t.kept; most = t.most; full = t.full; left = t.left }
+touches_stopped i a b MediaFault t = record { room = t.room; kept = t.kept; most = t.most; full = t.full; left = t.left }
+touches_stopped i a b Failed t = record { room = t.room; kept = t.kept; most = t.most; full = t.full; left = t.left }
 
 -- so does one that has an answer of its own, which isn't for want of log room
 pub touches_answer : {T U : Type 0} {i : ℕ} {a b : Transaction} {v : T} (r : Result U Stop) →
-    IfRefused r (IsFullBelow a.room (length a.touched + i)) → TouchesAtMost i a b (Ok v) → TouchesAtMost i a b r
-touches_answer r full t = record { room = t.room; kept = t.kept; most = t.most; full = full }
+    IfRefused r (IsFullBelow a.room (length a.touched + i)) → IfRefused r (LeavesTouched a b) → TouchesAtMost i a b (Ok v) → TouchesAtMost i a b r
+touches_answer r full left t = record { room = t.room; kept = t.kept; most = t.most; full = full; left = left }
 
 explained_then : {T U : Type 0} (a b c : Transaction) (v : U) (r : Result T Stop) → HasReason a b (Ok v) →
     HasReason b c r → Explains a c r

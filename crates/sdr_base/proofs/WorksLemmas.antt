@@ -2,21 +2,22 @@
 use Rattle.std.proofs.Common.{◌+◌, ◌≤◌, ℕ, ◌∙◌, rules, arith}
 use Rattle.std.specs.Prelude.{Result, Ok, Err}
 use Rattle.sdr_base.specs.Objects.{Settled}
+use Rattle.sdr_base.specs.Transaction.{OnlyWanting}
 use Rattle.sdr_base.specs.Works.{Looks, Spends}
 use Rattle.sdr_base.specs.declared.has_heap.HasHeap.{Ghosts}
 use Rattle.sdr_base.specs.declared.refusal.Refusal.TheVariants.{LogFull}
 use Rattle.sdr_base.specs.declared.stop.Stop.{Stop}
 use Rattle.sdr_base.specs.declared.stop.Stop.TheVariants.{Refused}
 use Rattle.sdr_base.proofs.ObjectsLemmas.{Settled-then}
-use Rattle.sdr_base.proofs.TransactionLemmas.{reason_stopped, reason_then, touches_more, touches_stopped, touches_then}
+use Rattle.sdr_base.proofs.TransactionLemmas.{reason_stopped, reason_then, touches_behind, touches_more, touches_stopped, touches_then}
 
--- a call after another
+-- a call after another, which stops for want of a block or of log room or by a fault alone
 pub works_then : {S T U : Type 0} {m : Ghosts S} {i j : ℕ} {a b c : S} {v : U} {r : Result T Stop} →
-    Spends m i a b (Ok v) → Spends m j b c r → Spends m (i + j) a c r
-works_then {S} {T} {U} {m} {i} {j} {a} {b} {c} {v} {r} f s = record {
+    Spends m i a b (Ok v) → Spends m j b c r → OnlyWanting r → Spends m (i + j) a c r
+works_then {S} {T} {U} {m} {i} {j} {a} {b} {c} {v} {r} f s only = record {
   kept = s.kept;
   moved = Settled-then r (λ go begin led. go begin (f.moved begin led)) s.moved;
-  room = touches_then f.room s.room;
+  room = touches_then f.room s.room only;
   cause = reason_then f.cause s.cause;
   quiet = λ begin q. s.quiet begin (f.quiet begin q);
 }
@@ -51,14 +52,20 @@ works_more {S} {T} {m} {i} {j} {a} {b} {r} w le = record {
 -- a call after one that only read
 pub looks_then : {S T U : Type 0} {m : Ghosts S} {j : ℕ} {a b c : S} {v : U} {r : Result T Stop} →
     Looks m a b (Ok v) → Spends m j b c r → Spends m j a c r
-looks_then l w = works_more (works_then (looks_works l) w) (omega arith)
+looks_then {S} {T} {U} {m} {j} {a} {b} {c} {v} {r} l w = record {
+  kept = w.kept;
+  moved = Settled-then r (λ go begin led. go begin (l.moved begin led)) w.moved;
+  room = touches_behind l.touched l.room w.room;
+  cause = reason_then l.cause w.cause;
+  quiet = λ begin q. w.quiet begin (l.quiet begin q);
+}
 
 -- an answer's value doesn't matter
 pub works_ok : {S T U : Type 0} {m : Ghosts S} {lines : ℕ} {a b : S} {v : T} {u : U} → Spends m lines a b (Ok v) → Spends m lines a b (Ok u)
 works_ok w = record {
   kept = w.kept;
   moved = w.moved;
-  room = record { room = w.room.room; kept = w.room.kept; most = w.room.most; full = w.room.full };
+  room = record { room = w.room.room; kept = w.room.kept; most = w.room.most; full = w.room.full; left = w.room.left };
   cause = record { later = w.cause.later; explained = w.cause.explained };
   quiet = w.quiet;
 }
@@ -70,7 +77,7 @@ looks_looks f s = record {
   kept = s.kept;
   moved = λ begin led. s.moved begin (f.moved begin led);
   touched = s.touched ∙ f.touched;
-  room = touches_then f.room s.room;
+  room = touches_behind f.touched f.room s.room;
   cause = reason_then f.cause s.cause;
   quiet = λ begin q. s.quiet begin (f.quiet begin q);
 }
@@ -82,7 +89,7 @@ looks_ok l = record {
   kept = l.kept;
   moved = l.moved;
   touched = l.touched;
-  room = record { room = l.room.room; kept = l.room.kept; most = l.room.most; full = l.room.full };
+  room = record { room = l.room.room; kept = l.room.kept; most = l.room.most; full = l.room.full; left = l.room.left };
   cause = record { later = l.cause.later; explained = l.cause.explained };
   quiet = l.quiet;
 }

@@ -50,3 +50,7 @@ with_grant heap addr left = with_bytes heap addr 56 (grant_bytes left)
 -- the ticket, granted, with so much left
 abbrev pub granted_with : Ticket → Amounts → Ticket
 granted_with t left = record t { left = left; granted = true }
+
+-- the lines of what is left of a ticket's grant, and of whether it is granted: at most two
+abbrev pub grant_lines : ℕ → List ℕ
+grant_lines addr = lines_of (addr + 56) 32

@@ -6,7 +6,8 @@ ghost use Rattle.sdr_base.specs.Works.{Looks, Spends};
 ghost use Rattle.sdr_model.specs.Amounts.{amount, minus};
 ghost use Rattle.zco_acct.specs.Changes.{MaximumStops, SetsMaximum};
 ghost use Rattle.zco_acct.specs.Words.{begin_of, first_word, last_word, maxima_in, maximum_word};
-ghost use Rattle.zco_acct.specs.Words.{occupancy_word, occupied_in, space_place, with_occupied};
+ghost use Rattle.sdr_base.specs.Cells.{TouchesWithin};
+ghost use Rattle.zco_acct.specs.Words.{occupancy_word, occupied_in, occupied_lines, space_place, with_occupied};
 
 use sdr_base::control::{
     CONTROL_WORDS, FILE_MAXIMUM, FILE_OCCUPANCY, FIRST_NAME, FIRST_TICKET, INBOUND, LAST_TICKET,
@@ -148,6 +149,8 @@ pub fn set_occupied<O: Objects>(o: &mut O, acct: Acct, amounts: &Amounts) -> Res
     ensures set { OnOk result (O.heap o.new ≡ with_occupied (O.heap o.old) acct amounts.now) }
     ensures refused { IfErr result (OnlyUnmoved (O.heap o.old) (O.heap o.new)) }
     ensures works { Spends O.HasHeap 3 o.old o.new result }
+    ensures lines { TouchesWithin (occupied_lines acct) (O.transaction o.old)
+        (O.transaction o.new) result }
 {
     o.set_root(occupancy_word(acct, Space::File), amounts.file)?;
     o.set_root(occupancy_word(acct, Space::Bulk), amounts.bulk)?;

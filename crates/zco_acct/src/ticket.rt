@@ -82,6 +82,8 @@ pub fn put_grant<O: Objects>(o: &mut O, addr: Addr, left: &Amounts) -> Result<()
     ensures granted { OnOk result (O.heap o.new ≡ with_grant (O.heap o.old) addr left.now) }
     ensures refused { IfErr result (OnlyUnmoved (O.heap o.old) (O.heap o.new)) }
     ensures works { Spends O.HasHeap 2 o.old o.new result }
+    ensures lines { TouchesWithin (grant_lines addr) (O.transaction o.old)
+        (O.transaction o.new) result }
 {
     let mut bytes = [0; 32];
     BigEndian::write_u64_into(&[left.file, left.bulk, left.heap, 1], &mut bytes);

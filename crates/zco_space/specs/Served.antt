@@ -52,3 +52,14 @@ pub record ServesQueue (acct : Acct) (old new : Heap) (count : ℕ) : Type 0 whe
 pub record GrantsTicket (acct : Acct) (ticket : Ticket) (taken : Amounts) (old new : Heap) (after : Amounts) : Type 0 where
   pub sum : after ≡ plus taken ticket.asked
   pub granted : new ≡ with_occupied (with_grant old ticket.block ticket.asked) acct after
+
+-- the blocks of the tickets of a queue that were granted
+abbrev pub granted_anew : List Ticket → List Ticket → List ℕ
+granted_anew [] now = []
+granted_anew tickets [] = []
+granted_anew (t ∷ ts) (n ∷ ns) = if not t.granted && n.granted then n.block ∷ granted_anew ts ns else granted_anew ts ns
+
+-- the lines that the service of a queue touches at most: those of what is occupied, and of each grant; none where none was granted
+abbrev pub serving_lines : Acct → List Ticket → List Ticket → List ℕ
+serving_lines acct tickets now =
+    if is_empty (granted_anew tickets now) then [] else occupied_lines acct ++ flat_map grant_lines (granted_anew tickets now)

@@ -29,6 +29,9 @@ pub fn serve<O: Objects, F: Notify>(o: &mut O, acct: Acct, notice: &Notice<F>) -
     ensures works { (tickets : List GhostTicket) → KeepsQueue (O.heap o.old) acct tickets →
         Spends O.HasHeap (32 * newly_granted tickets (queue_served (O.heap o.old) acct tickets))
         o.old o.new result }
+    ensures lines { (tickets : List GhostTicket) → KeepsQueue (O.heap o.old) acct tickets →
+        TouchesWithin (serving_lines acct tickets (queue_served (O.heap o.old) acct tickets))
+        (O.transaction o.old) (O.transaction o.new) result }
 {
     let most = maxima(o, acct)?;
     let mut taken = occupied(o, acct)?;
@@ -67,6 +70,8 @@ fn grant<O: Objects>(
         (GrantsTicket acct ticket.now taken.now (O.heap o.old) (O.heap o.new)) }
     ensures refused { IfErr result (OnlyUnmoved (O.heap o.old) (O.heap o.new)) }
     ensures works { Spends O.HasHeap 5 o.old o.new result }
+    ensures lines { TouchesWithin (occupied_lines acct ++ grant_lines ticket.now.block)
+        (O.transaction o.old) (O.transaction o.new) result }
 {
     put_grant(o, ticket.block, &ticket.asked)?;
     let after = plus(taken, &ticket.asked);
