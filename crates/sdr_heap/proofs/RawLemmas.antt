@@ -1,15 +1,15 @@
--- Raw objects that were made.
-use Rattle.std.proofs.Common.{◌≡◌, ℕ, ◌+◌, Option, None, refl, sym, ap, ◌∙◌, arith, subst}
+-- Raw objects that were made, and that are given back.
+use Rattle.std.proofs.Common.{◌≡◌, ℕ, ◌+◌, Option, None, sym, ap, ◌∙◌, arith, subst}
 use Rattle.std.specs.Prelude.{Some, replicate}
 use Rattle.std.proofs.lemmas.List.{length-replicate}
 use Rattle.sdr_base.specs.Blocks.{Block, IsKind, IsOther}
-use Rattle.sdr_base.specs.Objects.{Heap, TakesZeros}
+use Rattle.sdr_base.specs.Objects.{Heap, OnlyUnmoved, TakesZeros}
 use Rattle.sdr_base.specs.declared.kind.Kind.TheVariants as kinds
 use Rattle.sdr_base.specs.declared.refusal.Refusal.TheVariants as refusals
 use Rattle.sdr_base.specs.declared.stop.Stop.{Stop}
 use Rattle.sdr_base.specs.declared.stop.Stop.TheVariants as stops
 use Rattle.sdr_base.proofs.ObjectsLemmas.{with_block-here}
-use Rattle.sdr_heap.specs.Raw.{FreeStops, HasNoSource, HasSourceWord}
+use Rattle.sdr_heap.specs.Raw.{FreeStops, HasNoSource, HasSourceWord, IsRawOrText}
 use Rattle.zco_ref.specs.Naming.{RawStops}
 
 -- a block that was taken stands at its address
@@ -30,18 +30,29 @@ pub text_unnamed : (found : Option Block) → IsKind found kinds.Text → HasNoS
 text_unnamed None text raw = absurd raw
 text_unnamed (Some block) text raw = cc
 
+-- a raw object or a string that no source names stays for want of log room alone, or by a fault
+pub free_unmoved : (addr : ℕ) (old new : Heap) (stop : Stop) → IsRawOrText (old.blocks addr) → HasNoSource (old.blocks addr) →
+    OnlyUnmoved old new stop → FreeStops addr old new stop
+free_unmoved addr old new (stops.Refused (refusals.LogFull lines room)) found none m = (found, none, m)
+free_unmoved addr old new (stops.Refused refusal) found none m = absurd m
+free_unmoved addr old new stops.MediaFault found none m = m
+free_unmoved addr old new stops.DiskFault found none m = m
+free_unmoved addr old new stops.Failed found none m = m
+
+pub ruleset freeing = (text_unnamed, free_unmoved)
+
 -- why a raw object that is there is refused: a source names it
-pub free_named : (addr : ℕ) (heap : Heap) (stop : Stop) → IsKind (heap.blocks addr) kinds.Raw → RawStops heap.blocks addr stop →
-    FreeStops addr heap heap stop
-free_named addr heap (stops.Refused (refusals.BadAddress bad)) kind m =
+pub free_named : (addr : ℕ) (old new : Heap) (stop : Stop) → new ≡ old → IsKind (old.blocks addr) kinds.Raw → RawStops old.blocks addr stop →
+    FreeStops addr old new stop
+free_named addr old new (stops.Refused (refusals.BadAddress bad)) same kind m =
     absurd (subst (λ (f : Option Block). IsKind f kinds.Raw) m.1 kind)
-free_named addr heap (stops.Refused (refusals.WrongKind bad number)) kind m = absurd (other (heap.blocks addr) kind m.1)
+free_named addr old new (stops.Refused (refusals.WrongKind bad number)) same kind m = absurd (other (old.blocks addr) kind m.1)
   where
     other : (f : Option Block) → IsKind f kinds.Raw → IsOther f kinds.Raw number → ⊥
     other None kind o = kind
     other (Some block) kind o = o.1 kind
-free_named addr heap (stops.Refused (refusals.InUse bad count)) kind m = (m.0, m.1, refl)
-free_named addr heap (stops.Refused refusal) kind m = absurd m
-free_named addr heap stops.MediaFault kind m = m
-free_named addr heap stops.DiskFault kind m = m
-free_named addr heap stops.Failed kind m = m
+free_named addr old new (stops.Refused (refusals.InUse bad count)) same kind m = (m.0, m.1, same)
+free_named addr old new (stops.Refused refusal) same kind m = absurd m
+free_named addr old new stops.MediaFault same kind m = m
+free_named addr old new stops.DiskFault same kind m = m
+free_named addr old new stops.Failed same kind m = m

@@ -1,5 +1,6 @@
 // The calls on raw objects, over any `Objects`.
 ghost use Rattle.std.specs.Prelude.{◌≡◌, ◌+◌, ◌/◌, ◌≤◌, ◌<◌, length, IfOk, IfErr, OnErr, OnOk};
+ghost use Rattle.sdr_base.specs.Blocks.{IsKind};
 ghost use Rattle.sdr_base.specs.Moves.{KeepsSome};
 ghost use Rattle.sdr_base.specs.Objects.{with_mark};
 ghost use Rattle.sdr_base.specs.Works.{Looks, Spends};
@@ -34,6 +35,7 @@ pub fn malloc<O: Objects>(o: &mut O, bytes: u64) -> Result<Addr, Stop>
 
 /// Gives a raw object or a string back. It is refused `InUse` where a source names the raw object,
 /// with how many extents of both accounts name that.
+#[tactic(auto, using(crate::proofs::RawLemmas::freeing))]
 pub fn free<O: Objects>(o: &mut O, addr: Addr) -> Result<(), Stop>
     requires kept { KeepsSome (O.keeps o.old) }
     requires spare { 1 ≤ (O.heap o.old).spare }
@@ -44,16 +46,27 @@ pub fn free<O: Objects>(o: &mut O, addr: Addr) -> Result<(), Stop>
 {
     match o.kind(addr)? {
         None => Err(Stop::Refused(Refusal::BadAddress { addr })),
-        Some((Kind::Raw, _)) => {
-            expect_unnamed(o, addr)?;
-            o.give(addr)
-        }
+        Some((Kind::Raw, _)) => free_raw(o, addr),
         Some((Kind::Text, _)) => o.give(addr),
         Some((kind, _)) => Err(Stop::Refused(Refusal::WrongKind {
             addr,
             kind: kind.number(),
         })),
     }
+}
+
+// Gives a raw object back, unless a source names it.
+fn free_raw<O: Objects>(o: &mut O, addr: Addr) -> Result<(), Stop>
+    requires kept { KeepsSome (O.keeps o.old) }
+    requires spare { 1 ≤ (O.heap o.old).spare }
+    requires raw { IsRaw (O.heap o.old).blocks addr }
+    requires kind { IsKind ((O.heap o.old).blocks addr) Kind.Raw }
+    ensures given { OnOk result (Frees addr (O.heap o.old) (O.heap o.new)) }
+    ensures refused { IfErr result (FreeStops addr (O.heap o.old) (O.heap o.new)) }
+    ensures works { Spends O.HasHeap 24 o.old o.new result }
+{
+    expect_unnamed(o, addr)?;
+    o.give(addr)
 }
 
 /// The length of a block in bytes: of a raw object those that it was made with, of any other all

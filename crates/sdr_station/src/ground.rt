@@ -198,7 +198,7 @@ impl<D: Disk, M: Media, F: Notify + Drop> HeapGround<D, M, F> {
 
     /// Makes a call, in a transaction in which none was stopped. Where a changing call is refused, the
     /// transaction can only be put back; one that media fail, or that gets too few bytes of them, changes nothing.
-    /// It makes no call of the disk, and one that reads alone touches no line.
+    /// It makes no call of the disk, and a reading call touches no line.
     pub fn serve(&mut self, call: &Call) -> Reply
         requires going { self.old.stopped ≡ false }
         ensures memory { Brings StandsInMemory self.old self.new

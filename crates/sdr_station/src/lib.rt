@@ -12,7 +12,7 @@
 //! Proved: a heap on an image is a ground of the lock (`Backing for HeapGround`): each call is a step of the
 //! machine, and a crash at any moment leaves the world before the transaction or, in its end, that or the new
 //! one. Opening takes exactly the heaps that stand for a world (`opened`, `why`). `Station` nests transactions.
-//! A call makes no call of the disk, and one that reads alone touches no line (`quiet`, `lines`).
+//! A call makes no call of the disk, and a reading call touches no line (`quiet`, `lines`).
 //! No byte outside the disk's regions changes (`inside`), and unless it failed a disk that wasn't opened may be
 //! handed in again (`again`).
 //! That the lock never asks to keep a transaction with a stopped call is not proved.

@@ -188,7 +188,7 @@ impl<D: Disk, M: Media, F: Notify + Drop> Station<D, M, F> {
     /// In a doomed transaction it is refused `Doomed`, and after a disk fault it answers `Failed`. Else it is refused as its
     /// row has it, or for want of a block (`NoBlock`) or of log room (`LogFull`), which dooms where it is a change. A fault of
     /// media, or too few bytes of them (`SourceShort`), dooms nothing.
-    /// It makes no call of the disk, and one that reads alone touches no line.
+    /// It makes no call of the disk, and a reading call touches no line.
     pub fn call(&mut self, call: &Call, into: &mut [u8; PAGE]) -> Reply
         requires begun { 0 < self.old.nesting.depth }
         ensures says { SaysOr ⟦<HeapGround<D, M, F> as HasGround>⟧ call.now result

@@ -7,8 +7,8 @@
 //!
 //! Proved: `answer`: each call, on blocks that stand for a whole world, is a step of the machine (`comes`), or is
 //! refused as its row has it, or for want of a block or of log room. It touches at most the lines of `call_lines`
-//! (`works`), and one that reads alone leaves those that were touched (`lines`). Media are read only by a call that asks an
-//! object's bytes (`unread`).
+//! (`works`), and a reading call leaves those that were touched (`lines`). Media are read only by a call that asks an object's
+//! bytes (`unread`).
 //!
 //! Only tested: each call's answers (`tests/cases`).
 #![tactic(auto)]

@@ -162,7 +162,6 @@ free_refused addr old new w was (refusals.WrongKind bad number) unmoved small s 
       λ is. n.2 (subst (λ f. IsKind f kinds.Text) here is),
       λ i. refusals.WrongKind (m.0 i) ((n.0 ∙ ap kind_number (ap kind_in same)) i),
     )
-
 -- a source names the raw object, and it stays
 free_refused addr old new w was (refusals.InUse bad count) unmoved small s served m =
     let r = named_is_at old w addr s served m.1.kind in

@@ -123,7 +123,7 @@ abbrev pub dooms : Call → Reply → Bool
 dooms call (replies.Refused refusal) = not (is_reading call)
 dooms call reply = false
 
--- a call that reads alone leaves the lines touched as they were, however it is answered
+-- a reading call leaves the lines touched as they were, however it is answered
 abbrev pub LeavesLines : {S : Type 0} → Ghosts S → Call → S → S → Type 0
 LeavesLines m call old new = is_reading call ≡ true → (m.transaction new).touched ≡ (m.transaction old).touched
 

@@ -1,6 +1,6 @@
 -- What an object that goes leaves of the sources that its extents name.
 use Rattle.std.proofs.Common.{◌≡◌, ◌≢◌, ◌+◌, ◌-◌, ◌≤◌, ℕ, Bool, List, [], ◌∷◌, ◌++◌, true, false, cond, eqb, Option, Some, None, refl, sym, ap, ◌∙◌, subst, arith, append_assoc, eq-eqb}
-use Rattle.std.specs.Prelude.{◌==◌, ◌&&◌, All, nat_lt, if◌then◌else◌}
+use Rattle.std.specs.Prelude.{◌==◌, ◌&&◌, All, filter, flat_map, map, nat_lt, not, if◌then◌else◌}
 use Rattle.std.proofs.lemmas.Bool.{eqb-true, ne_eqb}
 use Rattle.std.proofs.lemmas.List.Elements.{All-cons, All-head, All-nil, All-tail}
 use Rattle.std.proofs.lemmas.List.Sums.{sum_by-cons}
@@ -13,24 +13,28 @@ use Rattle.sdr_base.specs.declared.account.Acct.TheVariants as accts
 use Rattle.sdr_base.proofs.StandingLemmas.{moved}
 use Rattle.sdr_model.specs.Accounts.{is_same_account}
 use Rattle.zco_obj.specs.Destroying.{ObjectGone}
-use Rattle.zco_obj.specs.Gone.{NamedSource, goes_with, less_uses, naming, source_at, sources_entries, sources_left}
-use Rattle.zco_obj.specs.Leaving.{LeavesSources, less_source, raws_left, sources_kept, together}
+use Rattle.zco_obj.specs.Gone.{NamedSource, goes_with, less_source, less_uses, naming, source_at, sources_entries, sources_left}
+use Rattle.zco_obj.specs.Leaving.{LeavesSources, raws_left, sources_staying, together}
 use Rattle.zco_obj.specs.Uses.{AreNamed, CountsUses, IsThere}
 use Rattle.zco_obj.proofs.CountLemmas.{names, naming-append}
 use Rattle.zco_obj.proofs.SpotLemmas.{less_fits}
 use Rattle.zco_ref.specs.Going.{blocks_left, is_passing}
 use Rattle.zco_ref.specs.Kept.{tied_entries, uses_of}
 
+-- the sources that stay of a first one that goes or not, and of others
+abbrev staying_if : Acct → List ExtentRow → Bool → NamedSource → List NamedSource → List NamedSource
+staying_if acct extents goes s ss =
+    let others = filter (λ t. not (goes_with extents t)) ss in map (less_source acct extents) (cond (not goes) (s ∷ others) others)
+
 -- the blocks of the sources that stay, and of what is left of the others, are those that are left of all
 module _ (blocks : Blocks) (acct : Acct) (extents : List ExtentRow) where
   abbrev stay : List NamedSource → Entries
-  stay ss = sources_entries (sources_kept acct extents ss)
+  stay ss = sources_entries (sources_staying acct extents ss)
 
-  abbrev raws_if : Bool → NamedSource → Entries
-  raws_if goes s = if goes then blocks_left s.source.row.medium s.source.row.subject s.bytes else []
-
-  abbrev kept_if : Bool → NamedSource → List NamedSource → List NamedSource
-  kept_if goes s ss = if goes then sources_kept acct extents ss else less_source acct extents s ∷ sources_kept acct extents ss
+  abbrev raws_if : Bool → NamedSource → List NamedSource → Entries
+  raws_if goes s ss =
+      let others = filter (goes_with extents) ss in
+      flat_map (λ (t : NamedSource). blocks_left t.source.row.medium t.source.row.subject t.bytes) (cond goes (s ∷ others) others)
 
   abbrev left_if : Bool → NamedSource → Entries
   left_if goes s =
@@ -41,7 +45,7 @@ module _ (blocks : Blocks) (acct : Acct) (extents : List ExtentRow) where
   stands_if : (goes : Bool) (s : NamedSource) (ss : List NamedSource) →
       ((rest : Entries) → BlocksAre blocks (sources_left acct extents ss ++ rest) → BlocksAre blocks (stay ss ++ (raws_left extents ss ++ rest))) →
       (rest : Entries) → BlocksAre blocks ((left_if goes s ++ sources_left acct extents ss) ++ rest) →
-      BlocksAre blocks (sources_entries (kept_if goes s ss) ++ ((raws_if goes s ++ raws_left extents ss) ++ rest))
+      BlocksAre blocks (sources_entries (staying_if acct extents goes s ss) ++ (raws_if goes s ss ++ rest))
   stands_if true s ss others rest b =
       let R = blocks_left s.source.row.medium s.source.row.subject s.bytes in
       let L = sources_left acct extents ss in
@@ -121,13 +125,13 @@ module _ (acct other : Acct) (extents more : List ExtentRow) where
   abbrev counts_all : NamedSource → Type 0
   counts_all = CountsUses other (together acct extents other more)
 
-  all_if : (goes : Bool) (s : NamedSource) (ss : List NamedSource) → counts_all s → All (CountsUses other more) (sources_kept acct extents ss) →
-      All (CountsUses other more) (if goes then sources_kept acct extents ss else less_source acct extents s ∷ sources_kept acct extents ss)
+  all_if : (goes : Bool) (s : NamedSource) (ss : List NamedSource) → counts_all s → All (CountsUses other more) (sources_staying acct extents ss) →
+      All (CountsUses other more) (staying_if acct extents goes s ss)
   all_if true s ss c all = all
   all_if false s ss c all =
-      All-cons (CountsUses other more) (less_source acct extents s) (sources_kept acct extents ss) (counts_more extents more s acct other c) all
+      All-cons (CountsUses other more) (less_source acct extents s) (sources_staying acct extents ss) (counts_more extents more s acct other c) all
 
-  all_count : (ss : List NamedSource) → All counts_all ss → All (CountsUses other more) (sources_kept acct extents ss)
+  all_count : (ss : List NamedSource) → All counts_all ss → All (CountsUses other more) (sources_staying acct extents ss)
   all_count [] c = All-nil (CountsUses other more)
   all_count (s ∷ ss) c =
       all_if (goes_with extents s) s ss (All-head counts_all s ss c) (all_count ss (All-tail counts_all s ss c))
@@ -135,10 +139,10 @@ module _ (acct other : Acct) (extents more : List ExtentRow) where
   -- a source that more extents name stays
   abbrev found_if : Bool → ℕ → NamedSource → List NamedSource → Option NamedSource
   found_if goes addr s ss =
-      source_at addr (if goes then sources_kept acct extents ss else less_source acct extents s ∷ sources_kept acct extents ss)
+      source_at addr (staying_if acct extents goes s ss)
 
   stays : (addr : ℕ) (ss : List NamedSource) → 1 ≤ naming addr more → All (CountsUses acct extents) ss → All counts_all ss →
-      IsThere (source_at addr ss) → IsThere (source_at addr (sources_kept acct extents ss))
+      IsThere (source_at addr ss) → IsThere (source_at addr (sources_staying acct extents ss))
   stays addr [] one own all t = t
   stays addr (s ∷ ss) one own all t =
       elim (eqb s.addr addr) as (λ v. eqb s.addr addr ≡ v → IsThere (cond v (Some s) (source_at addr ss)) →
@@ -148,12 +152,12 @@ module _ (acct other : Acct) (extents more : List ExtentRow) where
             let last = counts_last extents more s acct other (subst (λ a. 1 ≤ naming a more) (sym at) one) (All-head (CountsUses acct extents) s ss own)
             (All-head counts_all s ss all) in
             subst (λ v. IsThere (found_if v addr s ss)) (sym (no_last extents s last))
-            (subst (λ v. IsThere (cond v (Some (less_source acct extents s)) (source_at addr (sources_kept acct extents ss)))) (sym e) tt)
+            (subst (λ v. IsThere (cond v (Some (less_source acct extents s)) (source_at addr (sources_staying acct extents ss)))) (sym e) tt)
         | false ↦ λ e t.
             let rest = stays addr ss one (All-tail (CountsUses acct extents) s ss own) (All-tail counts_all s ss all) t in
             elim (goes_with extents s) as (λ v. IsThere (found_if v addr s ss)) [
               | true ↦ rest
-              | false ↦ subst (λ v. IsThere (cond v (Some (less_source acct extents s)) (source_at addr (sources_kept acct extents ss)))) (sym e) rest
+              | false ↦ subst (λ v. IsThere (cond v (Some (less_source acct extents s)) (source_at addr (sources_staying acct extents ss)))) (sym e) rest
             ]
       ] refl t
 
@@ -199,7 +203,7 @@ destroy_leaves {object} {row} {sources} {old} {new} gone own rest stands = recor
   stands = stands_kept new.blocks row.account row.extents sources rest (gone.changes.kept rest stands);
   named = λ other more n. record {
     there =
-        all_there (λ addr. IsThere (source_at addr sources)) (λ addr. IsThere (source_at addr (sources_kept row.account row.extents sources))) more more
+        all_there (λ addr. IsThere (source_at addr sources)) (λ addr. IsThere (source_at addr (sources_staying row.account row.extents sources))) more more
         (λ addr. omega arith) (λ addr one t. stays row.account other row.extents more addr sources one own.counted n.counted t)
         (more_there row.account other row.extents more (λ (e : ExtentRow). IsThere (source_at e.source sources)) n.there);
     counted = all_count row.account other row.extents more sources n.counted;

@@ -41,11 +41,15 @@ goes_with extents s =
 abbrev pub less_uses : Acct → ℕ → CountedSource → CountedSource
 less_uses acct n source = with_count acct (count_in acct source - n) source
 
+-- the source, which counts these extents of an account no more
+abbrev pub less_source : Acct → List ExtentRow → NamedSource → NamedSource
+less_source acct extents s = record s { source = less_uses acct (naming s.addr extents) s.source }
+
 -- the blocks that are left of a source once these extents of an account are gone
 abbrev pub left_of : Acct → List ExtentRow → NamedSource → Entries
 left_of acct extents s =
     if goes_with extents s then blocks_left s.source.row.medium s.source.row.subject s.bytes
-    else tied_entries s.addr (less_uses acct (naming s.addr extents) s.source) s.bytes
+    else tied_entries s.addr (less_source acct extents s).source s.bytes
 
 -- the blocks that are left of these sources
 abbrev pub sources_left : Acct → List ExtentRow → List NamedSource → Entries
