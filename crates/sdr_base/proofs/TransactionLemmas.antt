@@ -1,5 +1,5 @@
 -- The lines that calls touch, and the causes of their answers, one call after another.
-use Rattle.std.proofs.Common.{◌≡◌, ◌+◌, ◌≤◌, ℕ, true, false, length, ap, sym, ◌∙◌, arith}
+use Rattle.std.proofs.Common.{◌≡◌, ◌+◌, ◌≤◌, ℕ, true, false, length, ap, sym, ◌∙◌, arith, rules}
 use Rattle.std.specs.Prelude.{Result, Ok, Err}
 use Rattle.sdr_base.specs.Transaction.{Transaction, HasReason, Explains, TouchesAtMost, TouchesNone, IfRefused}
 use Rattle.sdr_base.specs.Transaction.{IsFullBelow, LeavesTouched, OnlyWanting}
@@ -46,17 +46,6 @@ touches_then {T} {U} {i} {j} {a} {b} {c} {v} {r} f s only = record {
   left = wanting_left a c r only;
 }
 
--- the lines of a call behind one that touched none
-pub touches_behind : {T U : Type 0} {j : ℕ} {a b c : Transaction} {v : U} {r : Result T Stop} → b.touched ≡ a.touched →
-    TouchesAtMost 0 a b (Ok v) → TouchesAtMost j b c r → TouchesAtMost j a c r
-touches_behind {T} {U} {j} {a} {b} {c} {v} {r} same f s = record {
-  room = s.room ∙ f.room;
-  kept = let k = f.kept in let l = s.kept in omega (arith, k, l);
-  most = let k = f.most in let l = s.most in omega (arith, k, l);
-  full = full_then 0 j a b c v r f s;
-  left = left_then a b c r same s.left;
-}
-
 full_more : {T : Type 0} (room most more : ℕ) (r : Result T Stop) → most ≤ more → IfRefused r (IsFullBelow room most) →
     IfRefused r (IsFullBelow room more)
 full_more room most more (Ok w) le f = f
@@ -73,6 +62,17 @@ touches_more {T} {i} {j} {a} {b} {r} t le = record {
   most = let k = t.most in omega (arith, k, le);
   full = full_more a.room (length a.touched + i) (length a.touched + j) r (omega (arith, le)) t.full;
   left = t.left;
+}
+
+-- the lines of a call behind one that touched none
+pub touches_behind : {T U : Type 0} {j : ℕ} {a b c : Transaction} {v : U} {r : Result T Stop} → b.touched ≡ a.touched →
+    TouchesAtMost 0 a b (Ok v) → TouchesAtMost j b c r → TouchesAtMost j a c r
+touches_behind {T} {U} {j} {a} {b} {c} {v} {r} same f s = record {
+  room = s.room ∙ f.room;
+  kept = let k = f.kept in let l = s.kept in omega (arith, k, l);
+  most = let k = f.most in let l = s.most in omega (arith, k, l);
+  full = full_more a.room (length a.touched + (0 + j)) (length a.touched + j) r (omega arith) (full_then 0 j a b c v r f s);
+  left = left_then a b c r same s.left;
 }
 
 none_full : {T : Type 0} (room most : ℕ) (r : Result T Stop) → IfRefused r (λ _. ⊥) → IfRefused r (IsFullBelow room most)
