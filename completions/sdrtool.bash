@@ -19,7 +19,7 @@ _sdrtool() {
     case ${COMP_WORDS[1]} in
       --help | --version) ;;
       -) mapfile -t COMPREPLY < <(compgen -W dry -- "$word") ;;
-      *) mapfile -t COMPREPLY < <(compgen -W 'format replay inspect recover dry' -- "$word") ;;
+      *) mapfile -t COMPREPLY < <(compgen -W 'format replay run inspect recover dry' -- "$word") ;;
     esac
   fi
 }

@@ -16,6 +16,8 @@ puts it back after a power loss.
     sdrtool DISK format L H      makes an empty heap of the disk: L lines of log
                                  (2 to 65536), H lines of heap (32 to 262144)
     sdrtool DISK replay < SCRIPT runs the script on the heap of the disk
+    sdrtool DISK run < SCRIPT    runs the daemons of the script side by side on the
+                                 heap of the disk, and prints the journal
     sdrtool DISK inspect         prints the world that the disk keeps: accounts,
                                  tickets, names and things; the disk is only read
     sdrtool DISK recover         puts back what a power loss cut short, and says
@@ -41,7 +43,8 @@ Status    When                                           Last line printed
 3         the input failed                               input fault
 4         the output failed
 5         the disk failed                                disk fault, or behind
-                                                         answers no last line
+                                                         answers or a journal no
+                                                         last line
 6         the disk has no heap                           not formatted
 7         the heap of the disk isn't taken               damaged PLACE WHY
 8         line N of the script is refused                line N
@@ -75,6 +78,7 @@ pub const FORMS: &str = "\
 sdrtool: the words are none of these forms:
     sdrtool DISK format L H        L is 2 to 65536, H is 32 to 262144
     sdrtool DISK replay < SCRIPT
+    sdrtool DISK run < SCRIPT
     sdrtool DISK inspect
     sdrtool DISK recover
     sdrtool DISK dry < SCRIPT
