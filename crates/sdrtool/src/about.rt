@@ -1,11 +1,13 @@
 // What the program says of itself.
-ghost use Rattle.std.specs.Prelude.{◌≡◌, ◌≢◌, ◌⊎◌};
+ghost use Rattle.std.specs.Prelude.{◌≡◌, ◌≢◌, ◌⊎◌, MatchOption, None, Some};
 ghost use Rattle.std.specs.Io.KnownBytes.{Appends};
 ghost use Rattle.sdr_base.specs.Causes.{Rose};
 ghost use Rattle.sdr_base.specs.Written.{AppendsPart};
+ghost use Rattle.sdrtool.specs.Ending.{about_text};
 
 use sdr_base::{Sink, write_all};
 use sdr_shell::{DONE, OUTPUT_FAULT};
+use std::rc::RcStr;
 
 pub const VERSION: &str = "sdrtool 0.1.0 (disk format 1, script format 1)\n";
 
@@ -84,6 +86,18 @@ sdrtool: the words are none of these forms:
     sdrtool DISK dry < SCRIPT
     sdrtool --help
     sdrtool --version";
+
+/// The text about the program that the words of a command line ask for, if they ask for one.
+pub fn about_text(words: &[RcStr]) -> Option<&'static str>
+    ensures { MatchOption result (about_text words.now ≡ None)
+        (λ text. about_text words.now ≡ Some text.now) }
+{
+    match words {
+        [word] if word.as_str() == "--help" => Some(HELP),
+        [word] if word.as_str() == "--version" => Some(VERSION),
+        _ => None,
+    }
+}
 
 /// Prints a text, and gives the status.
 pub fn print<K: Sink>(output: &mut K, text: &str) -> u8

@@ -1,32 +1,29 @@
 // The call of `top` that answers a form.
-ghost use Rattle.std.specs.Prelude.{◌≡◌, ◌↔◌, Some, None, codes};
+ghost use Rattle.std.specs.Prelude.{◌≡◌, ◌↔◌, IfOk, MatchBool, MatchOption, Some, None, codes};
 ghost use Rattle.sdr_log.specs.Frame.{IsInLimits};
 ghost use Rattle.sdr_shell.specs.Answers.{Wrote, seen};
 ghost use Rattle.sdr_shell.specs.Form.{OnFormat, form_of};
-ghost use Rattle.sdr_shell.specs.declared.form.Form.{Form};
 ghost use Rattle.sdrtool.specs.Answered.{IsAnswered};
+ghost use Rattle.sdrtool.specs.Ending.{ComesBy, ComesHeld, IsEmpty, IsStatusOf, IsStatusOnFile};
+ghost use Rattle.sdrtool.specs.Ending.{SpellsNone, SpellsScript, TakesFile, TakesNoFile};
 
 use crate::CANNOT_OPEN;
+use crate::command::Asked;
 use crate::notes::{note_forms, note_loss, note_no_heap, note_unopened};
 use sdr_base::{Media, NoGate, Sink, Source, write_all};
 use sdr_disk::{Disk, MemoryDisk};
 use sdr_shell::{Form, NO_MEMORY, NOT_FORMATTED, USAGE, top};
-use sdr_system::{FileDisk, Place, hold, make_disk, open_disk, place_of, view_disk};
+use sdr_system::{
+    FileDisk, Held, HeldSource, Place, hold, make_disk, open_disk, place_of, view_disk,
+};
 use sdr_words::{ScriptError, read_script};
+use std::alloc::Global;
 use std::fs::File;
 use std::io;
 use std::rc::RcStr;
 use std::rt::Files;
 use std::sync::Wait;
 use std::thread::Threads;
-
-/// What a command line asks for: a form, by its words, on the disk that a word names.
-#[derive(Clone, Copy)]
-pub struct Asked<'a> {
-    pub disk: &'a str,
-    pub words: &'a [RcStr],
-    pub form: Form,
-}
 
 /// What the top call gave: the status, and the disk back.
 #[derive(Drop)]
@@ -61,6 +58,8 @@ fn answer_in_memory<
     K: Sink,
 >(rt: &R, words: &[RcStr], media: M, input: &mut S, output: &mut K) -> u8
     ensures usage { (result ≡ USAGE) ↔ (form_of words.now ≡ None) }
+    ensures ends { IsStatusOf ⟦<MemoryDisk as Disk>⟧ (IsEmpty ⟦<MemoryDisk as Disk>⟧) M.Media
+        S.Source K.Sink words.now media input.old input.new output.old output.new result }
 {
     let disk = MemoryDisk::new(Vec::new(rt.alloc()), Vec::new(rt.alloc()));
     answer(rt, words, disk, media, input, output).status
@@ -74,7 +73,9 @@ pub fn answer_usage<
     K: Sink,
 >(rt: &R, words: &[RcStr], media: M, input: &mut S, output: &mut K) -> u8
     requires none { form_of words.now ≡ None }
-    ensures { result ≡ USAGE }
+    ensures usage { result ≡ USAGE }
+    ensures ends { IsStatusOf ⟦<MemoryDisk as Disk>⟧ (IsEmpty ⟦<MemoryDisk as Disk>⟧) M.Media
+        S.Source K.Sink words.now media input.old input.new output.old output.new result }
 {
     note_forms(rt);
     answer_in_memory(rt, words, media, input, output)
@@ -110,6 +111,8 @@ fn answer_on_file<
     output: &mut K,
 ) -> u8
     requires limits { OnFormat (Some asked.form) IsInLimits }
+    ensures { IsStatusOnFile ⟦<FileDisk<File> as Disk>⟧ M.Media S.Source K.Sink
+        asked.entry.words.now media input.old input.new output.old output.new result }
 {
     let mut disk = match open_for(rt, asked.form, path, bytes) {
         Ok(disk) => disk,
@@ -122,11 +125,11 @@ fn answer_on_file<
     if let Form::Format { frame } = asked.form {
         let _ = note_loss(rt, path, frame, &mut disk);
     }
-    let mut answered = answer(rt, asked.words, disk, media, input, output);
-    if answered.status == NOT_FORMATTED {
-        let _ = note_no_heap(rt, path, &mut answered.disk);
+    let Answered { status, mut disk } = answer(rt, asked.words, disk, media, input, output);
+    if status == NOT_FORMATTED {
+        let _ = note_no_heap(rt, path, &mut disk);
     }
-    answered.status
+    status
 }
 
 // The status where there is no memory for the input.
@@ -137,6 +140,22 @@ fn answer_starved<K: Sink>(output: &mut K) -> u8
 {
     let _ = write_all(output, b"no memory\n");
     NO_MEMORY
+}
+
+// Whether an input that is held spells a script. One that failed spells none.
+fn spells_script(alloc: Global, held: &Held) -> Result<bool, ScriptError>
+    ensures { IfOk result
+        (λ spells. MatchBool spells (SpellsScript held.now) (SpellsNone held.now)) }
+{
+    if held.failed {
+        return Ok(false);
+    }
+    match read_script(alloc, &mut held.source()) {
+        Ok(_) => Ok(true),
+        Err(ScriptError::Line { .. }) => Ok(false),
+        // What is held of an input that didn't fail doesn't fail: there is no memory.
+        Err(error) => Err(error),
+    }
 }
 
 // The status of a replay on the file of a path. The input is read whole before the file is opened, and a
@@ -156,14 +175,35 @@ fn replay_on_file<
     output: &mut K,
 ) -> u8
     requires limits { OnFormat (Some asked.form) IsInLimits }
+    ensures { ComesHeld ⟦<MemoryDisk as Disk>⟧ ⟦<FileDisk<File> as Disk>⟧ M.Media S.Source
+        ⟦<HeldSource<'static> as Source>⟧ K.Sink asked.entry.words.now media
+        input.old input.new output.old output.new result }
 {
     let Ok(held) = hold(rt.alloc(), input) else {
         return answer_starved(output);
     };
-    match read_script(rt.alloc(), &mut held.source()) {
-        Ok(_) => answer_on_file(rt, asked, path, bytes, media, &mut held.source(), output),
-        Err(ScriptError::NoMemory) => answer_starved(output),
-        Err(_) => answer_in_memory(rt, asked.words, media, &mut held.source(), output),
+    let Ok(spells) = spells_script(rt.alloc(), &held) else {
+        return answer_starved(output);
+    };
+    if spells {
+        answer_on_file(rt, asked, path, bytes, media, &mut held.source(), output)
+    } else {
+        answer_in_memory(rt, asked.words, media, &mut held.source(), output)
+    }
+}
+
+// The file that a form takes: its path, and how many bytes it is to have where the word says so.
+fn file_of(asked: Asked<'_>) -> Option<(&str, Option<u64>)>
+    ensures { MatchOption result (TakesNoFile asked.entry.disk.now asked.entry.form)
+        (λ file. TakesFile asked.entry.disk.now asked.entry.form) }
+{
+    if let Form::Dry = asked.form {
+        return None;
+    }
+    match place_of(asked.disk) {
+        Place::Memory => None,
+        Place::File { path } => Some((path, None)),
+        Place::Sized { path, bytes } => Some((path, Some(bytes))),
     }
 }
 
@@ -175,14 +215,14 @@ pub fn answer_form<
     K: Sink,
 >(rt: &R, asked: Asked<'_>, media: M, input: &mut S, output: &mut K) -> u8
     requires limits { OnFormat (Some asked.form) IsInLimits }
+    ensures { ComesBy ⟦<MemoryDisk as Disk>⟧ ⟦<FileDisk<File> as Disk>⟧ M.Media S.Source
+        ⟦<HeldSource<'static> as Source>⟧ K.Sink asked.entry.disk.now asked.entry.form
+        asked.entry.words.now media input.old input.new output.old output.new result }
 {
-    let (path, bytes) = match place_of(asked.disk) {
-        Place::Memory => return answer_in_memory(rt, asked.words, media, input, output),
-        Place::File { path } => (path, None),
-        Place::Sized { path, bytes } => (path, Some(bytes)),
+    let Some((path, bytes)) = file_of(asked) else {
+        return answer_in_memory(rt, asked.words, media, input, output);
     };
     match asked.form {
-        Form::Dry => answer_in_memory(rt, asked.words, media, input, output),
         Form::Replay => replay_on_file(rt, asked, path, bytes, media, input, output),
         _ => answer_on_file(rt, asked, path, bytes, media, input, output),
     }

@@ -12,26 +12,33 @@
 //! 6. The words, the disk and the input go to the top call, whose status the program ends with.
 //! 7. Files and bulk items are those of the current folder.
 //!
-//! Proved: what `top` answers to the words stands, and its status and disk are given on (`IsAnswered`, a clause of the private
-//! `answer`); it asks nothing of the disk. That the program ends with this status is not proved.
-//! `--help` and `--version` are printed whole, or the output failed (`done`, `cause`). What is told of a disk is read alone.
+//! Proved: the exit code is the status that `top` gave to the words, on an empty disk in memory or on a file (`EndsWith`, the clause of
+//! `exit_code`, whose result `main` returns). Besides, it may be 1, and then nothing is printed; 9, for a replay on a file that prints
+//! `no memory`; and 0 or 4 for `--help` and `--version`, which are printed whole, or the output failed. `top` asks nothing of the disk.
+//! What is told of a disk is read alone. No clause says what `main` hands to `exit_code`, nor that it returns what that gives.
 //!
 //! Only tested: that words are tried before a file is opened, that `dry` and a refused script open none, what standard error
 //! says, and each of the descriptors 0 to 2 closed, with each form (`tests/starters`); the program on files (`tests/run`),
 //! power loss after each write of a replay (`tests/crash`), a fault at each call on media (`tests/faults`).
 #![tactic(auto)]
 
+ghost use Rattle.std.specs.Process.{exit_status};
+ghost use Rattle.sdrtool.specs.Ending.{EndsWith};
+
 mod about;
 mod answering;
+mod command;
 mod notes;
 
-use crate::about::{HELP, VERSION, print};
-use crate::answering::{Asked, answer_form, answer_usage};
+use crate::about::print;
+use crate::answering::{answer_form, answer_usage};
+use crate::command::{Command, command_of};
 use crate::notes::{note_no_text, note_unopened};
 use sdr_base::{Media, NoMemory, Sink, Source};
+use sdr_disk::{Disk, MemoryDisk};
 use sdr_media::FolderMedia;
-use sdr_shell::{NO_MEMORY, form_of};
-use sdr_system::{StdSink, StdSource, take_streams};
+use sdr_shell::NO_MEMORY;
+use sdr_system::{FileDisk, HeldSource, StdSink, StdSource, take_streams};
 use std::alloc::Global;
 use std::env;
 use std::env::{Args, Env};
@@ -83,24 +90,37 @@ fn run<
     M: Media + Send + Drop,
     S: Source,
     K: Sink,
->(rt: &R, words: &[RcStr], media: M, input: &mut S, output: &mut K) -> u8 {
-    let (disk, words) = match words {
-        [] => return answer_usage(rt, words, media, input, output),
-        [word] if word.as_str() == "--help" => return print(output, HELP),
-        [word] if word.as_str() == "--version" => return print(output, VERSION),
-        [disk, words @ ..] => (disk.as_str(), words),
-    };
-    let Some(form) = form_of(words) else {
-        return answer_usage(rt, words, media, input, output);
-    };
-    match take_streams(rt) {
-        // Kept until the form is answered.
-        Ok(_streams) => answer_form(rt, Asked { disk, words, form }, media, input, output),
-        Err(error) => {
-            note_unopened(rt, ".", &error);
-            CANNOT_OPEN
-        }
+>(rt: &R, words: &[RcStr], media: M, input: &mut S, output: &mut K) -> u8
+    ensures { EndsWith ⟦<MemoryDisk as Disk>⟧ ⟦<FileDisk<File> as Disk>⟧ M.Media S.Source
+        ⟦<HeldSource<'static> as Source>⟧ K.Sink words.now media
+        input.old input.new output.old output.new result }
+{
+    match command_of(words) {
+        Command::About { text } => print(output, text),
+        Command::Usage { words } => answer_usage(rt, words, media, input, output),
+        Command::Form { asked } => match take_streams(rt) {
+            // Kept until the form is answered.
+            Ok(_streams) => answer_form(rt, asked, media, input, output),
+            Err(error) => {
+                note_unopened(rt, ".", &error);
+                CANNOT_OPEN
+            }
+        },
     }
+}
+
+// What the program ends with: the status of a command line.
+fn exit_code<
+    R: Threads + Wait + Sync + AllocGlobal + Eprint + Files<File = File>,
+    M: Media + Send + Drop,
+    S: Source,
+    K: Sink,
+>(rt: &R, words: &[RcStr], media: M, input: &mut S, output: &mut K) -> ExitCode
+    ensures { EndsWith ⟦<MemoryDisk as Disk>⟧ ⟦<FileDisk<File> as Disk>⟧ M.Media S.Source
+        ⟦<HeldSource<'static> as Source>⟧ K.Sink words.now media
+        input.old input.new output.old output.new (exit_status result) }
+{
+    ExitCode::from(run(rt, words, media, input, output))
 }
 
 fn main(rt: HostRuntime) -> ExitCode {
@@ -116,5 +136,5 @@ fn main(rt: HostRuntime) -> ExitCode {
     let mut output = StdSink::new(rt.stdout(), rt);
     // Files and items are those of the current folder.
     let media = FolderMedia::new(rt, PathBuf::new(rt.alloc()));
-    ExitCode::from(run(&rt, words.as_slice(), media, &mut input, &mut output))
+    exit_code(&rt, words.as_slice(), media, &mut input, &mut output)
 }
