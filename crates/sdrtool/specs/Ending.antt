@@ -70,7 +70,7 @@ SpellsScript held = (held.failed ≡ false) × IsOk (input_script held.bytes)
 abbrev pub SpellsNone : Held → Type 0
 SpellsNone held = (held.failed ≡ true) ⊎ IsErr (input_script held.bytes)
 
--- How a replay on a file, before which the input is held, comes to its status.
+-- How a form that runs a script on a file comes to its status: the input is held before the file is opened.
 pub data ComesHeld {D E M S K : Type 0} (d : DiskGhosts D) (e : DiskGhosts E) (m : MediaGhosts M) (s : SourceGhosts S) (h : SourceGhosts HeldFeed)
     (k : SinkGhosts K) (words : List (RcStr Global)) (files : M) (input input' : S) (output output' : K) (status : ℕ) : Type 0 where
   -- there is no memory for the input
@@ -93,16 +93,22 @@ TakesNoFile word form = (word ≡ codes "-") ⊎ (form ≡ forms.Dry)
 abbrev pub TakesFile : List ℕ → Form → Type 0
 TakesFile word form = (word ≢ codes "-") × (form ≢ forms.Dry)
 
+-- whether a form runs a script on a disk
+abbrev pub runs_on_disk : Form → Bool
+runs_on_disk forms.Replay = true
+runs_on_disk forms.Run = true
+runs_on_disk form = false
+
 -- How a form comes to its status, by the word that names the disk: on an empty disk in memory for `-` and for `dry`, else on a file, and
--- for `replay` behind an input that is held.
+-- for `replay` and `run` behind an input that is held.
 pub data ComesBy {D E M S K : Type 0} (d : DiskGhosts D) (e : DiskGhosts E) (m : MediaGhosts M) (s : SourceGhosts S) (h : SourceGhosts HeldFeed)
     (k : SinkGhosts K) (word : List ℕ) (form : Form) (words : List (RcStr Global)) (files : M) (input input' : S) (output output' : K) (status : ℕ)
     : Type 0 where
   in_memory : TakesNoFile word form → IsStatusOf d (IsEmpty d) m s k words files input input' output output' status
       → ComesBy d e m s h k word form words files input input' output output' status
-  on_file : TakesFile word form → form ≢ forms.Replay → IsStatusOnFile e m s k words files input input' output output' status
+  on_file : TakesFile word form → runs_on_disk form ≡ false → IsStatusOnFile e m s k words files input input' output output' status
       → ComesBy d e m s h k word form words files input input' output output' status
-  held : TakesFile word form → form ≡ forms.Replay → ComesHeld d e m s h k words files input input' output output' status
+  held : TakesFile word form → runs_on_disk form ≡ true → ComesHeld d e m s h k words files input input' output output' status
       → ComesBy d e m s h k word form words files input input' output output' status
 
 -- the text about the program that the words of a command line ask for, if they ask for one

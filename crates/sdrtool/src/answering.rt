@@ -5,7 +5,7 @@ ghost use Rattle.sdr_shell.specs.Answers.{Wrote, seen};
 ghost use Rattle.sdr_shell.specs.Form.{OnFormat, form_of};
 ghost use Rattle.sdrtool.specs.Answered.{IsAnswered};
 ghost use Rattle.sdrtool.specs.Ending.{ComesBy, ComesHeld, IsEmpty, IsStatusOf, IsStatusOnFile};
-ghost use Rattle.sdrtool.specs.Ending.{SpellsNone, SpellsScript, TakesFile, TakesNoFile};
+ghost use Rattle.sdrtool.specs.Ending.{SpellsNone, SpellsScript, TakesFile, TakesNoFile, runs_on_disk};
 
 use crate::CANNOT_OPEN;
 use crate::command::Asked;
@@ -158,9 +158,16 @@ fn spells_script(alloc: Global, held: &Held) -> Result<bool, ScriptError>
     }
 }
 
-// The status of a replay on the file of a path. The input is read whole before the file is opened, and a
-// script that is refused, or whose input failed, opens none.
-fn replay_on_file<
+// Whether a form runs a script on a disk.
+fn runs_on_disk(form: Form) -> bool
+    ensures { result ≡ runs_on_disk form }
+{
+    matches!(form, Form::Replay | Form::Run)
+}
+
+// The status of a form that runs a script on the file of a path. The input is read whole before the file is opened, and
+// a script that is refused, or whose input failed, opens none.
+fn run_on_file<
     R: Threads + Wait + Sync + AllocGlobal + Eprint + Files<File = File>,
     M: Media + Send + Drop,
     S: Source,
@@ -222,8 +229,9 @@ pub fn answer_form<
     let Some((path, bytes)) = file_of(asked) else {
         return answer_in_memory(rt, asked.words, media, input, output);
     };
-    match asked.form {
-        Form::Replay => replay_on_file(rt, asked, path, bytes, media, input, output),
-        _ => answer_on_file(rt, asked, path, bytes, media, input, output),
+    let on_disk = runs_on_disk(asked.form);
+    if on_disk {
+        return run_on_file(rt, asked, path, bytes, media, input, output);
     }
+    answer_on_file(rt, asked, path, bytes, media, input, output)
 }

@@ -1,20 +1,20 @@
-//! `sdrtool` makes an empty heap of a disk (`format`), runs the script of its daemons on it (`replay`) or on a
-//! machine without one (`dry`), and puts it back after a power loss (`recover`).
+//! `sdrtool` makes an empty heap of a disk (`format`), runs the script of its daemons on it, in the order of its lines (`replay`) or
+//! side by side in threads (`run`), or on a machine without a disk (`dry`), and puts the heap back after a power loss (`recover`).
 //!
 //! 1. The words are tried first. `--help` and `--version`, alone, are answered; words that are no form are told as
 //!    that, and no file is touched.
 //! 2. For a form the descriptors of the standard streams are taken, so that no file is one of them.
 //! 3. The first word says which disk: `-` an empty one in memory, `PATH` a file, `PATH=N` a file that
 //!    is made, or lengthened with zero bytes, to N bytes. `dry` opens none.
-//! 4. For `replay` the input is read whole, and a script that is refused opens no disk.
+//! 4. For `replay` and `run` the input is read whole, and a script that is refused opens no disk.
 //! 5. A file that can't be opened, lengthened or locked, and what isn't a file, ends the program with status 1.
 //!    `inspect` opens its file beside others that look at it.
 //! 6. The words, the disk and the input go to the top call, whose status the program ends with.
 //! 7. Files and bulk items are those of the current folder.
 //!
 //! Proved: the exit code is the status that `top` gave to the words, on an empty disk in memory or on a file (`EndsWith`, the clause of
-//! `exit_code`, whose result `main` returns). Besides, it may be 1, and then nothing is printed; 9, for a replay on a file that prints
-//! `no memory`; and 0 or 4 for `--help` and `--version`, which are printed whole, or the output failed. `top` asks nothing of the disk.
+//! `exit_code`, whose result `main` returns). Besides, it may be 1, and then nothing is printed; 9, for `replay` and `run` on a file where
+//! `no memory` is printed; and 0 or 4 for `--help` and `--version`, which are printed whole, or the output failed. `top` asks nothing of the disk.
 //! What is told of a disk is read alone. No clause says what `main` hands to `exit_code`, nor that it returns what that gives.
 //!
 //! Only tested: that words are tried before a file is opened, that `dry` and a refused script open none, what standard error

@@ -1,6 +1,6 @@
 use Rattle.sdrtool.proofs.EndingLemmas.{comes_read, comes_unread, on_false, on_true}
 use Rattle.sdrtool.specs.Ending.{ComesHeld}
-use Rattle.sdrtool.proofs.answering.replay_on_file.Goals as goal
+use Rattle.sdrtool.proofs.answering.run_on_file.Goals as goal
 
 pub returns-in_default : goal.returns-in_default
 returns-in_default g c = ComesHeld.starved c.answer_starved.ensures.status c.answer_starved.ensures.written
