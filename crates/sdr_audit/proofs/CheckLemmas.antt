@@ -2,7 +2,7 @@
 use Rattle.std.proofs.Common.{◌≡◌, ◌+◌, ◌*◌, ◌∙◌, ℕ, List, length, ap, refl, sym}
 use Rattle.sdr_base.specs.Cells.{IsRegionSize}
 use Rattle.audit_blocks.proofs.KeptLemmas.{keeps_blocks}
-use Rattle.audit_blocks.proofs.RegionLemmas.{OfBlocks}
+use Rattle.audit_blocks.specs.Walk.{OfBlocks}
 use Rattle.audit_blocks.specs.Auditing.{edges_of}
 use Rattle.audit_blocks.specs.Bits.{BitsAreRight}
 use Rattle.audit_blocks.specs.Content.{ContentIsRight}
