@@ -1,5 +1,5 @@
 // A heap region in memory: its control words, and its blocks in use.
-ghost use Rattle.std.specs.Prelude.{◌≡◌, ◌≤◌, ◌<◌, ◌+◌, ◌*◌, ◌/◌, ◌==◌, length};
+ghost use Rattle.std.specs.Prelude.{◌≡◌, ◌≤◌, ◌<◌, ◌+◌, ◌-◌, ◌*◌, ◌/◌, ◌==◌, ◌||◌, length};
 ghost use Rattle.sdr_base.specs.Blocks.{kind_length};
 ghost use Rattle.sdr_base.specs.Cells.{IsRegionSize};
 ghost use Rattle.sdr_base.specs.KeptHeap.{block_in, leader_place, root_in};
@@ -76,11 +76,28 @@ fn leader_place(heap: &[u8], addr: Addr) -> Option<u64>
     if high <= place { Some(place) } else { None }
 }
 
-/// The kind of the block in use at an address, and how many bytes it has, `None` where none begins there.
+// Whether the start bit of one of the two words before an address is set, with one of which the leader of a block there begins.
+fn is_begun_before(heap: &[u8], addr: Addr) -> bool
+    requires region { IsRegionSize (length heap.now) }
+    requires inside { addr < length heap.now }
+    ensures { result ≡ (start_bit (addr / WORD - 1) heap.now == 1 || start_bit (addr / WORD - 2) heap.now == 1) }
+{
+    let word = addr / WORD;
+    has_start_bit(heap, word.saturating_sub(1)) || has_start_bit(heap, word.saturating_sub(2))
+}
+
+/// The kind of the block in use at an address, and how many bytes it has, `None` where none begins there. Mostly none does, which is
+/// found out by two start bits.
 pub fn find(heap: &[u8], addr: Addr) -> Option<(Kind, u64)>
     requires region { IsRegionSize (length heap.now) }
     ensures { result ≡ kind_length (block_in heap.now addr) }
 {
+    if addr >= heap.len() as u64 {
+        return None;
+    }
+    if !is_begun_before(heap, addr) {
+        return None;
+    }
     let Some(place) = leader_place(heap, addr) else {
         return None;
     };
