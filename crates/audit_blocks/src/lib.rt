@@ -39,5 +39,7 @@ pub use content::check_content;
 pub use control::{Edges, check_control};
 pub use error::{Check, Damage};
 pub use free::check_free;
+pub use label::{Label, read_label};
+pub use number::number_at;
 pub use region::{kept_heaps_are_sound, sound_regions_are_not_wrong, sound_regions_keep_heaps};
 pub use spot::Spot;

@@ -3,23 +3,13 @@ ghost use Rattle.std.specs.Prelude.{◌≡◌, ◌≤◌, ◌<◌, ◌+◌, ◌-
 ghost use Rattle.sdr_base.specs.Blocks.{kind_length};
 ghost use Rattle.sdr_base.specs.Cells.{IsRegionSize};
 ghost use Rattle.sdr_base.specs.KeptHeap.{block_in, leader_place, root_in};
-ghost use Rattle.sdr_base.specs.Kinds.{kind_of};
-ghost use Rattle.sdr_base.specs.Stored.{leader_kind, leader_length, number_at, start_bit};
+ghost use Rattle.sdr_base.specs.Stored.{start_bit};
 ghost use Rattle.sdr_base.specs.declared.line.TheConstants.{START_BITS, WORD};
 ghost use Rattle.audit_owners.specs.View.{is_kind, length_of, word_of};
 
-use byteorder::{BigEndian, ByteOrder};
+use audit_blocks::{number_at, read_label};
 use sdr_base::control::{CONTROL_WORDS, FIRST_NAME, HIGH, LOW, START};
 use sdr_base::{Addr, Kind, START_BITS, WORD};
-
-// The number in the word at a place, in bytes.
-fn number_at(heap: &[u8], place: u64) -> u64
-    requires { place + WORD ≤ length heap.now }
-    ensures { result ≡ number_at place heap.now }
-{
-    let place = place as usize;
-    BigEndian::read_u64(&heap[place..place + 8])
-}
 
 /// The control word of this number, of those that belong to what blocks keep, and 0 for any other.
 pub fn root(heap: &[u8], word: u64) -> u64
@@ -39,23 +29,6 @@ fn has_start_bit(heap: &[u8], word: u64) -> bool
     ensures { result ≡ (start_bit word heap.now == 1) }
 {
     (heap[(START_BITS + word / 8) as usize] >> (7 - word % 8)) % 2 == 1
-}
-
-// The kind in the leader at a place, `None` where the block is free.
-fn leader_kind(heap: &[u8], place: u64) -> Option<Kind>
-    requires { place < length heap.now }
-    ensures { result ≡ kind_of (leader_kind place heap.now) }
-{
-    Kind::of(heap[place as usize])
-}
-
-// The length in bytes in the leader at a place.
-fn leader_length(heap: &[u8], place: u64) -> u64
-    requires { place + WORD ≤ length heap.now }
-    ensures { result ≡ leader_length place heap.now }
-{
-    let place = place as usize;
-    u64::from(BigEndian::read_u32(&heap[place + 4..place + 8]))
 }
 
 // Where the leader of a block at an address would stand, `None` where no block may begin there.
@@ -80,7 +53,8 @@ fn leader_place(heap: &[u8], addr: Addr) -> Option<u64>
 fn is_begun_before(heap: &[u8], addr: Addr) -> bool
     requires region { IsRegionSize (length heap.now) }
     requires inside { addr < length heap.now }
-    ensures { result ≡ (start_bit (addr / WORD - 1) heap.now == 1 || start_bit (addr / WORD - 2) heap.now == 1) }
+    ensures { result ≡ (start_bit (addr / WORD - 1) heap.now == 1
+        || start_bit (addr / WORD - 2) heap.now == 1) }
 {
     let word = addr / WORD;
     has_start_bit(heap, word.saturating_sub(1)) || has_start_bit(heap, word.saturating_sub(2))
@@ -104,8 +78,9 @@ pub fn find(heap: &[u8], addr: Addr) -> Option<(Kind, u64)>
     if !has_start_bit(heap, place / WORD) {
         return None;
     }
-    let count = leader_length(heap, place).min(heap.len() as u64 - addr);
-    match leader_kind(heap, place) {
+    let label = read_label(heap, place);
+    let count = label.length.min(heap.len() as u64 - addr);
+    match Kind::of(label.kind) {
         None => None,
         Some(kind) => Some((kind, count)),
     }
