@@ -200,10 +200,7 @@ fn wrong_queues_are_told(rt: HostRuntime) {
     );
     // A chain is told before a count.
     let owner: [Row; 1] = [(&[(2152, 0), (2080, 2)], 2136)];
-    assert_eq!(rt;
-        wrong_row(rt.alloc(), &BUNDLE, Check::Owner, &owner),
-        None
-    );
+    assert_eq!(rt; wrong_row(rt.alloc(), &BUNDLE, Check::Owner, &owner), None);
 }
 
 const RULES_WRONG: [Row; 8] = [
@@ -256,10 +253,7 @@ fn broken_rules_are_told(rt: HostRuntime) {
         None
     );
     assert_eq!(rt; checked(rt.alloc(), &SOURCE, &[]), Some(Ok(())));
-    assert_eq!(rt;
-        wrong_row(rt.alloc(), &SOURCE, Check::Count, &UNUSED),
-        None
-    );
+    assert_eq!(rt; wrong_row(rt.alloc(), &SOURCE, Check::Count, &UNUSED), None);
 }
 
 // A hash at 2,056 of two buckets and keys of one byte: b at 2,136 in the first bucket, and a at 2,104 in the second.

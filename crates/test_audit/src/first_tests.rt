@@ -10,13 +10,7 @@ use std::alloc::Global;
 type Row = (&'static [Word], u64);
 
 // The first row that is told otherwise than by this check at its place.
-fn wrong_row(
-    alloc: Global,
-    lines: u64,
-    words: &[Word],
-    why: Check,
-    rows: &[Row],
-) -> Option<usize>
+fn wrong_row(alloc: Global, lines: u64, words: &[Word], why: Check, rows: &[Row]) -> Option<usize>
     requires least { LEAST_LINES ≤ lines }
     requires most { lines ≤ MOST_LINES }
 {
@@ -225,10 +219,7 @@ const CROSSED: [(&[Row], Check); 4] = [
     (&[(&[(32, 2056)], 32)], Check::Free),
     (&[(&[(16, 2056)], 2048)], Check::Block),
     (&[(&[(864, 0)], 864)], Check::Control),
-    (
-        &[(&[(1024, 0x8000_0000_0000_0000)], 1024)],
-        Check::Bits,
-    ),
+    (&[(&[(1024, 0x8000_0000_0000_0000)], 1024)], Check::Bits),
 ];
 
 #[test]
@@ -312,13 +303,7 @@ const NO_LEADER: [Row; 3] = [
 fn a_large_block_of_no_words_is_told_at_its_own_begin(rt: HostRuntime) {
     assert_eq!(rt; audited(rt.alloc(), 64, &ONE_LARGE, &[]), Some(Ok(())));
     assert_eq!(rt;
-        wrong_row(
-            rt.alloc(),
-            64,
-            &ONE_LARGE,
-            Check::Block,
-            &NO_LEADER
-        ),
+        wrong_row(rt.alloc(), 64, &ONE_LARGE, Check::Block, &NO_LEADER),
         None
     );
 }

@@ -47,11 +47,7 @@ pub fn audited(alloc: Global, words: &[Word], changes: &[Word]) -> Option<Result
 }
 
 /// The same of owners, counts and queues.
-pub fn checked(
-    alloc: Global,
-    words: &[Word],
-    changes: &[Word],
-) -> Option<Result<(), Damage>> {
+pub fn checked(alloc: Global, words: &[Word], changes: &[Word]) -> Option<Result<(), Damage>> {
     let mut cells = filled(alloc, words, changes)?;
     let size = cells.size();
     let mut heap = vec![in alloc; 0u8; size as usize].ok()?;
