@@ -1,7 +1,7 @@
 -- Blocks in use of a region in memory.
 use Rattle.std.proofs.Common.{◌≡◌, ◌≤◌, ◌<◌, ◌+◌, ◌-◌, ◌*◌, ◌/◌, ◌%◌, ◌==◌, ◌&&◌, ◌||◌, ◌⊎◌, ℕ, Bool, true, false, cond, min, List, length, drop, get_or, arith, ap, sym, ◌∙◌, refl, inl, inr, length-drop, length-take}
 use Rattle.std.specs.Prelude.{Option, None, Some, nat_le, nat_lt}
-use Rattle.std.proofs.lemmas.Bool.{and_parts, cases_Bool, cond-true, cond-false, eqb-true, le-ltb, lt-ltb, ltb-true, or_parts}
+use Rattle.std.proofs.lemmas.Bool.{and_parts, cases_Bool, cond-true, cond-false, eqb-true, lt-ltb, ltb-true, or_parts}
 use Rattle.byteorder.specs.Endian.{big_from}
 use Rattle.sdr_base.specs.Blocks.{Block, kind_length}
 use Rattle.sdr_base.specs.KeptHeap.{block_in, block_led, block_of, leader_place, led_block, may_begin, pool_place}
@@ -180,14 +180,6 @@ module _ (x : List ℕ) (addr : ℕ) where
 
   pub has_word : (field : ℕ) → field < length_of (block_in x addr) / 8 → HasWord field (block_in x addr)
   has_word field less = word_there field (block_in x addr) refl less
-
-  word_past : (field : ℕ) (b : Option Block) → length_of b / 8 ≤ field → word_of b field ≡ 0
-  word_past field None past = refl
-  word_past field (Some block) past = ap (λ (t : Bool). cond t (number_at (8 * field) block.bytes) 0) (le-ltb field (length block.bytes / 8) past)
-
-  -- and there is no other
-  pub no_word : (field : ℕ) → length_of (block_in x addr) / 8 ≤ field → word_of (block_in x addr) field ≡ 0
-  no_word field past = word_past field (block_in x addr) past
 
   -- where there is a block of a kind, the address is that of a whole word
   pub record IsWhole (kind : Kind) : Type 0 where

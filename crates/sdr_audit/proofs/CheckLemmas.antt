@@ -8,7 +8,7 @@ use Rattle.audit_blocks.specs.Bits.{BitsAreRight}
 use Rattle.audit_blocks.specs.Content.{ContentIsRight}
 use Rattle.audit_blocks.specs.Control.{ControlIsRight}
 use Rattle.audit_blocks.specs.Free.{AreListed}
-use Rattle.audit_blocks.specs.Region.{IsSound, IsSoundRegion}
+use Rattle.audit_blocks.specs.Region.{IsSound}
 use Rattle.audit_blocks.specs.Walked.{AllFound}
 use Rattle.audit_blocks.specs.declared.spot.Spot.{Spot}
 use Rattle.sdr_audit.proofs.CensusLemmas.{all_used, free_large, free_small}
@@ -25,9 +25,6 @@ module _ (bytes : List ℕ) (told : List Spot) (control : ControlIsRight bytes) 
     free = free found.small found.large found.blocks;
     content = content found.small found.large found.blocks;
   }
-
-  pub sound_region : IsSoundRegion bytes
-  sound_region = record { small = found.small; large = found.large; sound = sound }
 
   -- the blocks that were counted are those of the heap that it keeps
   pub census_is : IsRegionSize (length bytes) → length told * 8 ≡ length bytes → IsCensus bytes (census_of (edges_of bytes) told)
