@@ -1,4 +1,4 @@
-use Rattle.std.proofs.Common.{◌≡◌, ◌≤◌, ap, arith, refl, sym}
+use Rattle.std.proofs.Common.{◌≡◌, ◌∙◌, ap, arith, refl, sym}
 use Rattle.sdr_base.specs.declared.control.TheConstants.{START}
 use Rattle.audit_blocks.proofs.BitsLemmas.{bits_then, bits_wrong}
 use Rattle.audit_blocks.proofs.EdgeLemmas.{in_order}
@@ -27,7 +27,16 @@ byte_of_bits-requires-clause-few c =
     omega (arith, start, low, high, end, whole, most)
 
 pub returns-then-heap-place-clause-damaged : goal.returns-then-heap-place-clause-damaged
-returns-then-heap-place-clause-damaged c = (
-  refl,
-  ?,
-)
+returns-then-heap-place-clause-damaged c =
+    let s = c.requires.surveyed in
+    let start : c.args.edges.now.start ≡ control_word c.args.heap.now START = ap (λ (e : Edges). e.start) s.edged.between in
+    let more = c.loop-place-test.true in (
+      refl,
+      bits_wrong c.args.heap.now c.args.spots.now s.edged.right s.long s.found c.loop-place.place c.loop-place.invariant
+          (λ same. c.if-heap-place.true (same ∙ sym c.byte_of_bits.ensures)) c.loop-place.auto.place (omega (arith, start, more)),
+    )
+
+pub loop-place-preserved : goal.loop-place-preserved
+loop-place-preserved c =
+    let s = c.requires.surveyed in
+    bits_then c.args.heap.now c.args.spots.now s.edged.right s.long s.found c.loop-place.place c.loop-place.invariant (c.if-heap-place.false ∙ c.byte_of_bits.ensures)

@@ -5,8 +5,8 @@ use Rattle.audit_blocks.specs.declared.control.Edges.{Edges}
 use Rattle.audit_blocks.specs.declared.findings.Findings.{Findings}
 use Rattle.audit_blocks.proofs.blocks.find_small.Goals as goal
 
-pub read_label-requires : goal.read_label-requires
-read_label-requires c = record {
+pub read_label-label-requires : goal.read_label-label-requires
+read_label-label-requires c = record {
   inside = small_more c.args.heap.now c.args.place c.requires.edges.right c.requires.edges.between c.requires.walked.whole c.requires.more;
 }
 

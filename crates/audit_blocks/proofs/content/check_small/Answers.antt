@@ -2,8 +2,8 @@ use Rattle.std.proofs.Common.{arith, refl}
 use Rattle.audit_blocks.proofs.ContentLemmas.{small_inside, small_next, small_wrong}
 use Rattle.audit_blocks.proofs.content.check_small.Goals as goal
 
-pub read_label-requires : goal.read_label-requires
-read_label-requires c = record {
+pub read_label-label-requires : goal.read_label-label-requires
+read_label-label-requires c = record {
   inside = (let i = small_inside c.args.heap.now c.requires.built c.args.place c.requires.filled c.requires.more in omega (arith, i));
 }
 
