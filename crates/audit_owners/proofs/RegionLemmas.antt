@@ -1,6 +1,6 @@
 -- Blocks in use of a region in memory.
 use Rattle.std.proofs.Common.{◌≡◌, ◌≤◌, ◌<◌, ◌+◌, ◌-◌, ◌*◌, ◌/◌, ◌%◌, ◌==◌, ◌&&◌, ◌||◌, ◌⊎◌, ℕ, Bool, true, false, cond, min, List, length, drop, get_or, arith, ap, sym, ◌∙◌, refl, inl, inr, length-drop, length-take}
-use Rattle.std.specs.Prelude.{Option, None, Some, nat_le, nat_lt}
+use Rattle.std.specs.Prelude.{Option, None, Some, is_some, nat_le, nat_lt}
 use Rattle.std.proofs.lemmas.Bool.{and_parts, cases_Bool, cond-true, cond-false, eqb-true, lt-ltb, ltb-true, or_parts}
 use Rattle.byteorder.specs.Endian.{big_from}
 use Rattle.sdr_base.specs.Blocks.{Block, kind_length}
@@ -114,9 +114,9 @@ found_used x addr place kind at set used =
     ∙ ap (λ (n : ℕ). Some (kind, n)) (length_part x addr (leader_length place x))
 
 -- where no kind is found, there is no block
-pub no_kind : (b : Option Block) → kind_length b ≡ None → b ≡ None
+pub no_kind : (b : Option Block) → is_some (kind_length b) ≡ false → b ≡ None
 no_kind None is = refl
-no_kind (Some block) is = let d : Some (block.kind, length block.bytes) ≡ None = is in cc
+no_kind (Some block) is = let d : true ≡ false = is in cc
 
 -- the bytes of a block are a part of the region, behind its leader
 pub record IsPart (x : List ℕ) (addr : ℕ) (block : Block) : Type 0 where

@@ -6,8 +6,8 @@ use Rattle.sdr_base.specs.declared.kind.Kind.{Kind}
 use Rattle.audit_owners.proofs.RegionLemmas.{found_clear, found_free, found_nowhere, found_unset, found_used, none_past}
 use Rattle.audit_owners.proofs.region.find.Goals as goal
 
-pub returns-then-addr-ge-len : goal.returns-then-addr-ge-len
-returns-then-addr-ge-len c = sym (ap kind_length (none_past c.args.heap.now c.args.addr c.if-addr-ge-len.true))
+pub returns-then-addr-heap : goal.returns-then-addr-heap
+returns-then-addr-heap c = sym (ap kind_length (none_past c.args.heap.now c.args.addr c.if-addr-heap.true))
 
 pub returns-then-not-is_begun_before : goal.returns-then-not-is_begun_before
 returns-then-not-is_begun_before c = sym (found_unset c.args.heap.now c.args.addr (sym c.is_begun_before.ensures ∙ c.if-not-is_begun_before.true))

@@ -1,4 +1,5 @@
 use Rattle.std.proofs.Common.{◌≡◌, ◌∙◌, ◌/◌, ◌||◌, Bool, not, true, false, get_or, ap, sym}
+use Rattle.std.specs.Prelude.{is_some}
 use Rattle.sdr_base.specs.KeptHeap.{block_in}
 use Rattle.audit_owners.proofs.RegionLemmas.{no_kind}
 use Rattle.audit_owners.proofs.RulesLemmas.{none_keeps, reached_told}
@@ -9,7 +10,8 @@ use Rattle.audit_owners.proofs.rules.keeps.Goals as goal
 
 pub returns-then-is_none : goal.returns-then-is_none
 returns-then-is_none c reached marked =
-    sym (none_keeps (view_in c.args.heap.now) reached c.args.rule c.args.addr (no_kind _ ?))
+    sym (none_keeps (view_in c.args.heap.now) reached c.args.rule c.args.addr
+    (no_kind _ (ap is_some (sym c.find.ensures) ∙ c.is_none.ensures ∙ ap not c.if-is_none.true)))
 
 pub returns-else-not-is_chained : goal.returns-else-not-is_chained
 returns-else-not-is_chained c reached marked =
