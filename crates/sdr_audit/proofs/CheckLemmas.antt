@@ -1,5 +1,7 @@
 -- The checks of the structure together.
-use Rattle.std.proofs.Common.{◌≡◌, ◌+◌, ◌*◌, ◌∙◌, ℕ, List, length, ap, refl, sym}
+use Rattle.std.proofs.Common.{◌≡◌, ◌+◌, ◌*◌, ◌∙◌, ℕ, List, length, ap, refl, subst, sym}
+use Rattle.std.specs.Prelude.{Err, IfErr, Ok, Result}
+use Rattle.std.specs.Result.{IsErrAnd}
 use Rattle.sdr_base.specs.Cells.{IsRegionSize}
 use Rattle.audit_blocks.proofs.KeptLemmas.{keeps_blocks}
 use Rattle.audit_blocks.specs.Walk.{OfBlocks}
@@ -13,6 +15,11 @@ use Rattle.audit_blocks.specs.Walked.{AllFound}
 use Rattle.audit_blocks.specs.declared.spot.Spot.{Spot}
 use Rattle.sdr_audit.proofs.CensusLemmas.{all_used, free_large, free_small}
 use Rattle.sdr_audit.specs.Census.{IsCensus, census_of, free_in, used_in}
+
+-- what holds of what is wrong holds where it is handed on
+pub same_error : {T E : Type 0} (P : E → Type 0) {error : E} (result : Result T E) → IsErrAnd result (λ other. other ≡ error) → P error → IfErr result P
+same_error P (Ok value) is holds = absurd is
+same_error P (Err other) is holds = subst P (sym is) holds
 
 -- A region whose words are told, and which passed the checks.
 module _ (bytes : List ℕ) (told : List Spot) (control : ControlIsRight bytes) (found : AllFound bytes told)
