@@ -1,15 +1,13 @@
 -- The bytes of the start bits by what is told of each word.
-use Rattle.std.proofs.Common.{◌≡◌, ◌≤◌, ◌<◌, ◌+◌, ◌-◌, ◌*◌, ℕ, Bool, List, [], ◌∷◌, Option, None, Some, cond, true, false, length, get_or, take, drop, get_or-take, get_or-drop, arith, ap, ◌∙◌, refl, sym, subst, inl, inr}
+use Rattle.std.proofs.Common.{◌≡◌, ◌≢◌, ◌≤◌, ◌<◌, ◌+◌, ◌-◌, ◌*◌, ℕ, Bool, List, [], ◌∷◌, Option, None, Some, cond, true, false, length, get_or, take, drop, get_or-take, get_or-drop, arith, ap, ◌∙◌, refl, sym, subst, inl, inr}
 use Rattle.std.specs.Option.{option_map_or, option_or}
 use Rattle.std.proofs.lemmas.Bool.{cases_lt, eq-eqb, ne_eqb}
 use Rattle.std.proofs.lemmas.List.{get_or_past}
-use Rattle.sdr_base.specs.Parts.{part}
 use Rattle.sdr_base.specs.Pools.{PoolBlock}
 use Rattle.sdr_base.specs.declared.control.TheConstants.{LOW, START}
-use Rattle.sdr_base.proofs.PartsLemmas.{get_or-part}
 use Rattle.audit_blocks.proofs.EdgeLemmas.{in_order}
 use Rattle.audit_blocks.proofs.FollowLemmas.{large_ends, large_rises, small_ends, small_rises}
-use Rattle.audit_blocks.specs.Bits.{BitsBefore, IsFirstByte, IsWrongBits, begins_with, bits_byte, byte_of_bits, is_bits_byte}
+use Rattle.audit_blocks.specs.Bits.{BitsBefore, IsWrongBits, begins_with, bits_byte, byte_of_bits, is_bits_byte}
 use Rattle.audit_blocks.specs.Control.{ControlIsRight, control_word}
 use Rattle.audit_blocks.specs.Spots.{AreSpots, begun_at, is_told_used, is_used_spot, spot_of}
 use Rattle.audit_blocks.specs.Walk.{AreBlocks, LargeFollow, SmallFollow}
@@ -86,46 +84,25 @@ byte_of_part told byte n eight =
     (get_or-take n (drop (8 * byte) told) (8 * 0 + k) spots.Nothing (omega (arith, less, eight)) ∙ get_or-drop (8 * byte) told (8 * 0 + k) spots.Nothing
     ∙ ap (λ (n : ℕ). get_or told n spots.Nothing) at))
 
-module _ (bytes : List ℕ) (told : List Spot) (place : ℕ) (line : List ℕ) (right : ControlIsRight bytes) (long : length told * 8 ≡ length bytes) (found : AllFound bytes told)
-    (from : 1024 ≤ place) (inside : place + 64 ≤ control_word bytes START) (is : line ≡ part place 64 bytes) (before : BitsBefore bytes place) where
-  abbrev row : ℕ → ℕ
-  row = byte_of_bits (is_told_used told)
+module _ (bytes : List ℕ) (told : List Spot) (right : ControlIsRight bytes) (long : length told * 8 ≡ length bytes) (found : AllFound bytes told)
+    (place : ℕ) (before : BitsBefore bytes place) where
+  told_byte : (small large : List PoolBlock) → AreBlocks bytes small large → byte_of_bits (is_told_used told) (place - 1024) ≡ bits_byte small large (place - 1024)
+  told_byte small large are = byte_told bytes told small large right long are (spots_of bytes told found small large are) (place - 1024)
 
-  -- a byte of the line is that of the region
-  here : (i : ℕ) → i < 64 → get_or bytes (place + i) 0 ≡ get_or line i 0
-  here i less = sym (ap (λ (l : List ℕ). get_or l i 0) is ∙ get_or-part place 64 bytes i less)
-
-  there : (small large : List PoolBlock) → AreBlocks bytes small large → (i : ℕ) → row (place - 1024 + i) ≡ bits_byte small large (place + i - 1024)
-  there small large are i =
-      let e : place - 1024 + i ≡ place + i - 1024 = omega (arith, from) in
-      ap row e ∙ byte_told bytes told small large right long are (spots_of bytes told found small large are) (place + i - 1024)
-
-  byte_right : (small large : List PoolBlock) → AreBlocks bytes small large → (i : ℕ) → i < 64 → get_or line i 0 ≡ row (place - 1024 + i) →
-      is_bits_byte bytes small large (place + i) ≡ true
-  byte_right small large are i less same = eq-eqb _ _ (here i less ∙ same ∙ there small large are i)
-
-  -- all bytes of the line are right
-  pub line_right : ((i : ℕ) → i < 64 → get_or line i 0 ≡ row (place - 1024 + i)) → BitsBefore bytes (place + 64)
-  line_right all small large are other at below = elim (cases_lt other place) [
+  -- a byte that is right is one more
+  pub bits_then : get_or bytes place 0 ≡ byte_of_bits (is_told_used told) (place - 1024) → BitsBefore bytes (place + 1)
+  bits_then same small large are other at below = elim (cases_lt other place) [
     | inl less ↦ before small large are other at less
     | inr more ↦
-        let e : place + (other - place) ≡ other = omega (arith, more) in
-        let less : other - place < 64 = omega (arith, more, below) in
-        subst (λ (n : ℕ). is_bits_byte bytes small large n ≡ true) e (byte_right small large are (other - place) less (all (other - place) less))
+        let e : place ≡ other = omega (arith, more, below) in
+        subst (λ (n : ℕ). is_bits_byte bytes small large n ≡ true) e (eq-eqb _ _ (same ∙ told_byte small large are))
   ]
 
-  -- the first wrong byte of the line is the first of all
-  pub line_wrong : (i : ℕ) → IsFirstByte line row (place - 1024) i → i < 64 → (small large : List PoolBlock) → AreBlocks bytes small large →
-      IsWrongBits bytes small large (place + i)
-  line_wrong i first less small large are = record {
-    inside = record { from = omega (arith, from); to = omega (arith, less, inside) };
-    before = λ other at below. elim (cases_lt other place) [
-      | inl earlier ↦ before small large are other at earlier
-      | inr more ↦
-          let e : place + (other - place) ≡ other = omega (arith, more) in
-          let within : other - place < i = omega (arith, more, below) in
-          subst (λ (n : ℕ). is_bits_byte bytes small large n ≡ true) e
-          (byte_right small large are (other - place) (omega (arith, within, less)) (first.before (other - place) within))
-    ];
-    wrong = ne_eqb _ _ (λ equal. first.wrong (sym (here i less) ∙ equal ∙ sym (there small large are i)));
+  -- one that is wrong is the first
+  pub bits_wrong : get_or bytes place 0 ≢ byte_of_bits (is_told_used told) (place - 1024) → 1024 ≤ place → place < control_word bytes START →
+      (small large : List PoolBlock) → AreBlocks bytes small large → IsWrongBits bytes small large place
+  bits_wrong wrong from to small large are = record {
+    inside = record { from = from; to = to };
+    before = before small large are;
+    wrong = ne_eqb _ _ (λ equal. wrong (equal ∙ sym (told_byte small large are)));
   }

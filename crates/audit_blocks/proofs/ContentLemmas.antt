@@ -84,22 +84,22 @@ large_cut bytes (x ∷ blocks) (y ∷ done) from place to (here, is, more) (here
 
 module _ (bytes : List ℕ) {edges : Edges} (built : IsBuilt bytes edges) where
   low_is : edges.low ≡ control_word bytes LOW
-  low_is = ap (λ (e : Edges). e.low) built.between
+  low_is = ap (λ (e : Edges). e.low) built.edged.between
 
   end_is : edges.end ≡ length bytes
-  end_is = ap (λ (e : Edges). e.end) built.between
+  end_is = ap (λ (e : Edges). e.end) built.edged.between
 
   -- before any block is looked at
   pub none_filled : SmallFilled bytes edges.start
   none_filled =
-      subst (λ (e : Edges). SmallFilled bytes e.start) (sym built.between)
-      (record { done = []; follow = refl; within = (in_order bytes built.right).low; filled = All-nil (λ block. is_filled bytes 8 block ≡ true) })
+      subst (λ (e : Edges). SmallFilled bytes e.start) (sym built.edged.between)
+      (record { done = []; follow = refl; within = (in_order bytes built.edged.right).low; filled = All-nil (λ block. is_filled bytes 8 block ≡ true) })
 
   -- before any large block is looked at
   pub large_begin : SmallFilled bytes (control_word bytes LOW) → LargeFilled bytes edges.high
   large_begin f =
-      subst (λ (e : Edges). LargeFilled bytes e.high) (sym built.between)
-      (record { below = f; done = []; follow = refl; within = (in_order bytes built.right).end; filled = All-nil (λ block. is_filled bytes 16 block ≡ true) })
+      subst (λ (e : Edges). LargeFilled bytes e.high) (sym built.edged.between)
+      (record { below = f; done = []; follow = refl; within = (in_order bytes built.edged.right).end; filled = All-nil (λ block. is_filled bytes 16 block ≡ true) })
 
   -- all small blocks are filled, whatever the blocks are
   all_small : SmallFilled bytes (control_word bytes LOW) → (small large : List PoolBlock) → AreBlocks bytes small large → All (λ block. is_filled bytes 8 block ≡ true) small
@@ -136,7 +136,7 @@ module _ (bytes : List ℕ) {edges : Edges} (built : IsBuilt bytes edges) where
         let back : place + 8 - 8 ≡ place = omega arith in
         let enough' : words_for (leader_length place bytes) ≤ leader_words place bytes = subst (λ (n : ℕ). words_for (leader_length n bytes) ≤ leader_words place bytes) back enough in
         let ends : place + 8 * (1 + leader_words place bytes) ≤ control_word bytes LOW = leb-true _ _ (and_parts _ _ c.here).1 in
-        let o = in_order bytes built.right in
+        let o = in_order bytes built.edged.right in
         let high = o.high in
         let end = o.end in
         omega (arith, enough', ends, high, end)

@@ -9,7 +9,6 @@ use Rattle.audit_blocks.specs.Control.{ControlIsRight, control_word}
 pub record InOrder (bytes : List ℕ) : Type 0 where
   pub start : control_word bytes START ≡ first_block (length bytes / 64)
   pub start_whole : control_word bytes START % 8 ≡ 0
-  pub start_line : control_word bytes START % 64 ≡ 0
   pub low : control_word bytes START ≤ control_word bytes LOW
   pub low_whole : control_word bytes LOW % 8 ≡ 0
   pub high : control_word bytes LOW ≤ control_word bytes HIGH
@@ -25,7 +24,6 @@ in_order bytes right =
     record {
       start = start;
       start_whole = ap (λ (n : ℕ). n % 8) start ∙ omega arith;
-      start_line = ap (λ (n : ℕ). n % 64) start ∙ omega arith;
       low = subst (λ (n : ℕ). n ≤ control_word bytes LOW) (sym start) (leb-true _ _ l'.1);
       low_whole = eqb-true _ _ (and_parts _ _ l'.0).0;
       high = leb-true _ _ l.1;

@@ -13,8 +13,8 @@ use Rattle.audit_blocks.specs.Control.{control_word}
 use Rattle.audit_blocks.specs.Free.{AllReached, FirstLost}
 use Rattle.audit_blocks.specs.Region.{IsSound, IsSoundRegion, RegionIsWrongFirst}
 use Rattle.audit_blocks.specs.Walk.{BlocksFollow, LargeFollow, SmallFollow, is_large_at, is_small_at, wrong_block}
-use Rattle.audit_blocks.specs.declared.error.StructureCheck.{StructureCheck}
-use Rattle.audit_blocks.specs.declared.error.StructureCheck.TheVariants as whys
+use Rattle.audit_blocks.specs.declared.error.Check.{Check}
+use Rattle.audit_blocks.specs.declared.error.Check.TheVariants as whys
 
 -- where small blocks go on to the end, the next one is right
 small_onward : (bytes : List ℕ) (before blocks : List PoolBlock) (from place : ℕ) → SmallFollow bytes from before place →
@@ -61,7 +61,7 @@ same_blocks bytes P small large small' large' f f' holds =
     subst (λ (l : List PoolBlock). P small' l) (large_same bytes large large' (control_word bytes HIGH) (length bytes) f.above f'.above)
     (subst (λ (s : List PoolBlock). P s large) (small_same bytes small small' (control_word bytes START) (control_word bytes LOW) f.below f'.below) holds)
 
-pub sound_or_wrong : (bytes : List ℕ) → IsSoundRegion bytes → (why : StructureCheck) (place : ℕ) →
+pub sound_or_wrong : (bytes : List ℕ) → IsSoundRegion bytes → (why : Check) (place : ℕ) →
     RegionIsWrongFirst bytes why place → ⊥
 sound_or_wrong bytes r whys.Control place w = both_ways _ w.wrong (r.sound.control w.word w.below)
 sound_or_wrong bytes r whys.Block place w = elim w.wrong [
@@ -94,3 +94,6 @@ sound_or_wrong bytes r whys.Content place w =
       | inl small ↦ none_unfilled bytes 8 w.small place s.content.below small
       | inr large ↦ none_unfilled bytes 16 w.large place s.content.above large.1
     ]
+sound_or_wrong bytes r whys.Owner place w = w
+sound_or_wrong bytes r whys.Count place w = w
+sound_or_wrong bytes r whys.Queue place w = w

@@ -158,12 +158,6 @@ module _ (bytes : List ℕ) (place : ℕ) (label : Label) (is : IsLabel bytes pl
             (begun_other w.small w.done none_small none));
       }
 
--- where large blocks don't end yet, there is a leader more
-pub large_more : (bytes : List ℕ) (place lines : ℕ) {edges : Edges} → length bytes ≡ 64 * lines → edges ≡ edges_of bytes → place % 8 ≡ 0 → place < edges.end →
-    place + 8 ≤ length bytes
-large_more bytes place lines {edges} long is whole more =
-    let end : edges.end ≡ length bytes = ap (λ (e : Edges). e.end) is in omega (arith, long, end, whole, more)
-
 -- behind all small blocks and before any large one, what was found is the small ones'
 pub large_begins : (bytes : List ℕ) {edges : Edges} {found : Findings} {told : List Spot} → ControlIsRight bytes → edges ≡ edges_of bytes →
     SmallWalked bytes (control_word bytes LOW) found told → LargeWalked bytes edges.high found told

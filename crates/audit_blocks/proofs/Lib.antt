@@ -1,4 +1,3 @@
-pub mod AuditLemmas
 pub mod BegunLemmas
 pub mod BitsLemmas
 pub mod ContentLemmas

@@ -1,5 +1,5 @@
 -- What an audit asks of the start bits.
-use Rattle.std.specs.Prelude.{◌≡◌, ◌≢◌, ◌≤◌, ◌<◌, ◌==◌, ◌+◌, ◌-◌, ◌*◌, ◌^◌, ℕ, Bool, true, false, cond, List, get_or, length, sum_by}
+use Rattle.std.specs.Prelude.{◌≡◌, ◌≤◌, ◌<◌, ◌==◌, ◌+◌, ◌-◌, ◌*◌, ◌^◌, ℕ, Bool, true, false, cond, List, get_or, length, sum_by}
 use Rattle.std.specs.List.{range_with_len}
 use Rattle.std.specs.Option.{option_map_or}
 use Rattle.sdr_base.specs.Pools.{PoolBlock}
@@ -41,12 +41,6 @@ pub record IsWrongBits (bytes : List ℕ) (small large : List PoolBlock) (place 
   pub inside : IsBitsPlace bytes place
   pub before : (other : ℕ) → IsBitsPlace bytes other → other < place → is_bits_byte bytes small large other ≡ true
   pub wrong : is_bits_byte bytes small large place ≡ false
-
--- of these bytes this is the first that isn't the one of a row, of which they begin at a place
-pub record IsFirstByte (line : List ℕ) (row : ℕ → ℕ) (from i : ℕ) : Type 0 where
-  pub inside : i < length line
-  pub before : (other : ℕ) → other < i → get_or line other 0 ≡ row (from + other)
-  pub wrong : get_or line i 0 ≢ row (from + i)
 
 -- the bytes of the start bits before a place are right, whatever the blocks are
 abbrev pub BitsBefore : List ℕ → ℕ → Type 0

@@ -1,5 +1,5 @@
 -- What a whole audit asks of a heap region, and what follows from it.
-use Rattle.std.specs.Prelude.{◌≡◌, ℕ, true, List, length, take, ⊤, Some}
+use Rattle.std.specs.Prelude.{◌≡◌, ℕ, true, List, length, take, Some}
 use Rattle.sdr_base.specs.Blocks.{Block}
 use Rattle.sdr_base.specs.KeptHeap.{KeepsHeap, block_in}
 use Rattle.sdr_base.specs.Pools.{PoolBlock, Pools}
@@ -8,10 +8,9 @@ use Rattle.audit_blocks.specs.Content.{ContentIsRight, IsWrongContent, has_layou
 use Rattle.audit_blocks.specs.Control.{ControlIsRight, IsWrongControl}
 use Rattle.audit_blocks.specs.Free.{AreListed, IsWrongFree}
 use Rattle.audit_blocks.specs.Walk.{AreBlocks, IsWrongBlock}
-use Rattle.audit_blocks.specs.declared.error.StructureError.{StructureError}
-use Rattle.audit_blocks.specs.declared.error.StructureError.TheVariants as errors
-use Rattle.audit_blocks.specs.declared.error.StructureCheck.{StructureCheck}
-use Rattle.audit_blocks.specs.declared.error.StructureCheck.TheVariants as whys
+use Rattle.audit_blocks.specs.declared.error.Check.{Check}
+use Rattle.audit_blocks.specs.declared.error.Check.TheVariants as whys
+use Rattle.audit_blocks.specs.declared.error.Damage.{Damage}
 
 -- a region with these blocks passes each check
 pub record IsSound (bytes : List ℕ) (small large : List PoolBlock) : Type 0 where
@@ -59,18 +58,18 @@ pub record ContentIsFirst (bytes : List ℕ) (place : ℕ) : Type 0 where
   pub free : AreListed bytes small large
   pub wrong : IsWrongContent bytes small large place
 
--- by this check a region is wrong first, at this place
-abbrev pub RegionIsWrongFirst : List ℕ → StructureCheck → ℕ → Type 0
+-- by this check the structure of a region is wrong first, at this place; owners, counts and queues are none of it
+abbrev pub RegionIsWrongFirst : List ℕ → Check → ℕ → Type 0
 RegionIsWrongFirst bytes whys.Control place = IsWrongControl bytes place
 RegionIsWrongFirst bytes whys.Block place = BlockIsFirst bytes place
 RegionIsWrongFirst bytes whys.Bits place = BitsAreFirst bytes place
 RegionIsWrongFirst bytes whys.Free place = FreeIsFirst bytes place
 RegionIsWrongFirst bytes whys.Content place = ContentIsFirst bytes place
+RegionIsWrongFirst bytes why place = ⊥
 
 -- what was found damaged is what is wrong first
-abbrev pub TellsFirst : List ℕ → StructureError → Type 0
-TellsFirst bytes (errors.Damaged place why) = RegionIsWrongFirst bytes why place
-TellsFirst bytes error = ⊤
+abbrev pub TellsFirst : List ℕ → Damage → Type 0
+TellsFirst bytes damage = RegionIsWrongFirst bytes damage.why damage.place
 
 -- each block in use has what its kind's layout asks
 abbrev pub HasLayouts : List ℕ → Type 0

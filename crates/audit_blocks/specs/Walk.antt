@@ -146,6 +146,10 @@ pub record AreBlocks (bytes : List ℕ) (small large : List PoolBlock) : Type 0 
   pub follow : BlocksFollow bytes small large
   pub right : wrong_block bytes small large ≡ None
 
+-- this holds of a region and its blocks, whatever these are
+abbrev pub OfBlocks : (List ℕ → List PoolBlock → List PoolBlock → Type 0) → List ℕ → Type 0
+OfBlocks P bytes = (small large : List PoolBlock) → AreBlocks bytes small large → P bytes small large
+
 -- blocks that follow one another are wrong at a place, by what is asked of them besides
 pub record BlocksBreak (bytes : List ℕ) (place : ℕ) : Type 0 where
   pub small : List PoolBlock

@@ -58,17 +58,19 @@ pub record HasBlocks (bytes : List ℕ) : Type 0 where
   pub large : List PoolBlock
   pub are : AreBlocks bytes small large
 
--- the control words and the blocks are right, and blocks stand between these edges
-pub record IsBuilt (bytes : List ℕ) (edges : Edges) : Type 0 where
+-- a region of a size that it may have has right control words, and its blocks may stand between these edges
+pub record AreEdges (bytes : List ℕ) (edges : Edges) : Type 0 where
   pub region : IsRegionSize (length bytes)
   pub right : ControlIsRight bytes
   pub between : edges ≡ edges_of bytes
+
+-- blocks that are right stand between these edges
+pub record IsBuilt (bytes : List ℕ) (edges : Edges) : Type 0 where
+  pub edged : AreEdges bytes edges
   pub blocks : HasBlocks bytes
 
--- The control words and the blocks are right, blocks stand between these edges, and it is told of each word what begins with it.
+-- blocks that are right stand between these edges, and it is told of each word what begins with it
 pub record IsSurveyed (bytes : List ℕ) (edges : Edges) (told : List Spot) : Type 0 where
-  pub region : IsRegionSize (length bytes)
-  pub right : ControlIsRight bytes
-  pub between : edges ≡ edges_of bytes
+  pub edged : AreEdges bytes edges
   pub long : length told * WORD ≡ length bytes
   pub found : AllFound bytes told

@@ -1,19 +1,15 @@
 // The start bits.
-ghost use Rattle.std.specs.Prelude.{◌≡◌, ◌≤◌, ◌<◌, ◌+◌, ◌-◌, ◌*◌, ◌/◌, ◌^◌, ◌%◌, ℕ, List, cond, false, true, length, get_or, IfErr, IfSome, OnOk, None};
-ghost use Rattle.sdr_base.specs.Cells.{IsRegionSize};
-ghost use Rattle.sdr_base.specs.Pools.{PoolBlock};
-ghost use Rattle.sdr_base.specs.declared.line.TheConstants.{LINE, START_BITS, WORD};
-ghost use Rattle.audit_blocks.specs.Auditing.{Audits, DamagedBy, edges_of};
-ghost use Rattle.audit_blocks.specs.Bits.{BitsAreRight, BitsBefore, IsFirstByte, IsWrongBits, byte_of_bits};
-ghost use Rattle.audit_blocks.specs.Control.{ControlIsRight};
+ghost use Rattle.std.specs.Prelude.{◌≡◌, ◌≤◌, ◌<◌, ◌%◌, ◌^◌, cond, length, IfErr, OnOk};
+ghost use Rattle.audit_blocks.specs.Auditing.{DamagedIn};
+ghost use Rattle.audit_blocks.specs.Bits.{BitsAreRight, IsWrongBits, byte_of_bits};
 ghost use Rattle.audit_blocks.specs.Spots.{is_told_used};
-ghost use Rattle.audit_blocks.specs.Walk.{AreBlocks};
+ghost use Rattle.audit_blocks.specs.Walk.{OfBlocks};
 ghost use Rattle.audit_blocks.specs.Walked.{IsSurveyed};
 
 use crate::control::Edges;
-use crate::error::{StructureCheck, StructureError};
+use crate::error::{Check, Damage};
 use crate::spot::{Spot, is_used};
-use sdr_base::{Cells, LINE, START_BITS};
+use sdr_base::START_BITS;
 
 // The value where a block in use begins with a word, and else 0.
 fn weight(spots: &[Spot], word: u64, value: u8) -> u8
@@ -51,66 +47,20 @@ fn byte_of_bits(spots: &[Spot], byte: u64) -> u8
     byte_of_eight(&spots[word..word + 8])
 }
 
-// The first of these bytes that isn't that of the start bits, of which it is so far from the first.
-fn first_wrong(line: &[u8], spots: &[Spot], byte: u64) -> Option<usize>
-    requires few { byte + length line.now < 2 ^ 32 }
-    requires whole { length spots.now % 8 ≡ 0 }
-    ensures none { result ≡ None → (i : ℕ) → i < length line.now →
-        get_or line.now i 0 ≡ byte_of_bits (is_told_used spots.now) (byte + i) }
-    ensures some { IfSome result (λ i. IsFirstByte line.now (byte_of_bits (is_told_used spots.now))
-        byte i) }
-{
-    for i in 0..line.len() {
-        if line[i] != byte_of_bits(spots, byte + i as u64) {
-            return Some(i);
-        }
-    }
-    None
-}
-
-// Checks a line of the start bits.
-fn check_line<C: Cells>(
-    c: &mut C,
-    edges: &Edges,
-    spots: &[Spot],
-    place: u64,
-) -> Result<(), StructureError>
-    requires surveyed { IsSurveyed (C.bytes c.old) edges.now spots.now }
-    requires from { START_BITS ≤ place }
-    requires inside { place + LINE ≤ edges.now.start }
-    requires before { BitsBefore (C.bytes c.old) place }
-    ensures before { OnOk result (BitsBefore (C.bytes c.old) (place + LINE)) }
-    ensures damaged { IfErr result (DamagedBy StructureCheck.Bits (λ at. (small large : List PoolBlock) →
-        AreBlocks (C.bytes c.old) small large → IsWrongBits (C.bytes c.old) small large at)) }
-    ensures audits { Audits C.bytes C.transaction C.quiet c.old c.new result }
-{
-    let mut line = [0; 64];
-    c.read(place, &mut line)?;
-    match first_wrong(&line, spots, place - START_BITS) {
-        None => Ok(()),
-        Some(i) => Err(StructureError::Damaged {
-            place: place + i as u64,
-            why: StructureCheck::Bits,
-        }),
-    }
-}
-
 /// Checks the start bits of the blocks that were found: the bit of a word is 1 exactly where a block in use begins with it, and
-/// behind the last word's are zeros up to the first block. What is wrong first is told by its byte. It reads each line once, and
-/// takes no memory.
-pub fn check_bits<C: Cells>(c: &mut C, edges: &Edges, spots: &[Spot]) -> Result<(), StructureError>
-    requires surveyed { IsSurveyed (C.bytes c.old) edges.now spots.now }
-    requires sound { (C.transaction c.old).failed ≡ false }
-    ensures right { OnOk result ((small large : List PoolBlock) →
-        AreBlocks (C.bytes c.old) small large → BitsAreRight (C.bytes c.old) small large) }
-    ensures damaged { IfErr result (DamagedBy StructureCheck.Bits (λ at. (small large : List PoolBlock) →
-        AreBlocks (C.bytes c.old) small large → IsWrongBits (C.bytes c.old) small large at)) }
-    ensures audits { Audits C.bytes C.transaction C.quiet c.old c.new result }
+/// behind the last word's are zeros up to the first block. What is wrong first is told by its byte. It takes no memory.
+pub fn check_bits(heap: &[u8], edges: &Edges, spots: &[Spot]) -> Result<(), Damage>
+    requires surveyed { IsSurveyed heap.now edges.now spots.now }
+    ensures right { OnOk result (OfBlocks BitsAreRight heap.now) }
+    ensures damaged { IfErr result (DamagedIn Check.Bits IsWrongBits heap.now) }
 {
-    let mut place = START_BITS;
-    while place < edges.start {
-        check_line(c, edges, spots, place)?;
-        place += LINE;
+    for place in START_BITS..edges.start {
+        if heap[place as usize] != byte_of_bits(spots, place - START_BITS) {
+            return Err(Damage {
+                place,
+                why: Check::Bits,
+            });
+        }
     }
     Ok(())
 }

@@ -1,24 +1,24 @@
 // The blocks of both pools.
 ghost use Rattle.std.specs.Prelude.{◌≡◌, ◌≤◌, ◌<◌, ◌+◌, ◌*◌, ◌/◌, ◌%◌, ◌^◌, ℕ, List, length, false, true, IfErr, IfOk, OnOk, [], None};
 ghost use Rattle.sdr_base.specs.Cells.{IsRegionSize};
-ghost use Rattle.sdr_base.specs.Transaction.{HasReason, TouchesNone};
 ghost use Rattle.sdr_base.specs.declared.control.TheConstants.{HIGH, LARGE_FRAME, LOW};
 ghost use Rattle.sdr_base.specs.declared.line.TheConstants.{WORD};
-ghost use Rattle.audit_blocks.specs.Auditing.{Audits, DamagedBy, edges_of};
-ghost use Rattle.audit_blocks.specs.Control.{ControlIsRight, control_word};
+ghost use Rattle.audit_blocks.specs.Auditing.{DamagedBy};
+ghost use Rattle.audit_blocks.specs.Control.{control_word};
 ghost use Rattle.audit_blocks.specs.Labels.{IsLabel};
 ghost use Rattle.audit_blocks.specs.Found.{first_found, no_findings};
 ghost use Rattle.audit_blocks.specs.Spots.{AreSpots};
 ghost use Rattle.audit_blocks.specs.Walk.{IsWrongBlock, LargeBreaks, SmallBreaks, has_ends, is_large_at, is_small_at, large_at};
-ghost use Rattle.audit_blocks.specs.Walked.{IsSurveyed, LargeWalked, SmallWalked};
+ghost use Rattle.audit_blocks.specs.Walked.{AreEdges, IsSurveyed, LargeWalked, SmallWalked};
 
 use crate::control::Edges;
-use crate::error::{StructureCheck, StructureError};
+use crate::error::{Check, Damage};
 use crate::findings::Findings;
 use crate::label::{Label, read_label};
+use crate::number::number_at;
 use crate::spot::Spot;
+use sdr_base::WORD;
 use sdr_base::control::{LARGE_FRAME, MOST_SMALL};
-use sdr_base::{Cells, Stop, WORD, read_number};
 
 // The greatest number of a kind.
 const LAST_KIND: u8 = 13;
@@ -38,30 +38,27 @@ fn is_small(label: &Label, place: u64, low: u64) -> bool
 }
 
 // Looks at the small block that begins at a place, and answers where the next one does.
-fn find_small<C: Cells>(
-    c: &mut C,
+fn find_small(
+    heap: &[u8],
     edges: &Edges,
     place: u64,
     found: &mut Findings,
     spots: &mut [Spot],
-) -> Result<u64, StructureError>
-    requires region { IsRegionSize (length (C.bytes c.old)) }
-    requires right { ControlIsRight (C.bytes c.old) }
-    requires edges { edges.now ≡ edges_of (C.bytes c.old) }
-    requires spots { length spots.old * WORD ≡ length (C.bytes c.old) }
-    requires walked { SmallWalked (C.bytes c.old) place found.old spots.old }
+) -> Result<u64, Damage>
+    requires edges { AreEdges heap.now edges.now }
+    requires spots { length spots.old * WORD ≡ length heap.now }
+    requires walked { SmallWalked heap.now place found.old spots.old }
     requires more { place < edges.now.low }
-    ensures walked { IfOk result (λ next. SmallWalked (C.bytes c.old) next found.new spots.new) }
+    ensures walked { IfOk result (λ next. SmallWalked heap.now next found.new spots.new) }
     ensures onward { IfOk result (λ next. place < next) }
-    ensures damaged { IfErr result (DamagedBy StructureCheck.Block (SmallBreaks (C.bytes c.old))) }
-    ensures audits { Audits C.bytes C.transaction C.quiet c.old c.new result }
+    ensures damaged { IfErr result (DamagedBy Check.Block (SmallBreaks heap.now)) }
     ensures length { length spots.new ≡ length spots.old }
 {
-    let label = read_label(c, place)?;
+    let label = read_label(heap, place);
     if !is_small(&label, place, edges.low) {
-        return Err(StructureError::Damaged {
+        return Err(Damage {
             place,
-            why: StructureCheck::Block,
+            why: Check::Block,
         });
     }
     found.note_small(&label, place);
@@ -70,101 +67,83 @@ fn find_small<C: Cells>(
 }
 
 // Looks at all small blocks.
-fn walk_small<C: Cells>(
-    c: &mut C,
+fn walk_small(
+    heap: &[u8],
     edges: &Edges,
     found: &mut Findings,
     spots: &mut [Spot],
-) -> Result<(), StructureError>
-    requires region { IsRegionSize (length (C.bytes c.old)) }
-    requires right { ControlIsRight (C.bytes c.old) }
-    requires edges { edges.now ≡ edges_of (C.bytes c.old) }
-    requires sound { (C.transaction c.old).failed ≡ false }
-    requires spots { length spots.old * WORD ≡ length (C.bytes c.old) }
+) -> Result<(), Damage>
+    requires edges { AreEdges heap.now edges.now }
+    requires spots { length spots.old * WORD ≡ length heap.now }
     requires clear { AreSpots [] [] spots.old }
     requires none { found.old ≡ no_findings }
-    ensures walked { OnOk result (SmallWalked (C.bytes c.old) (control_word (C.bytes c.old) LOW)
-        found.new spots.new) }
-    ensures damaged { IfErr result (DamagedBy StructureCheck.Block (SmallBreaks (C.bytes c.old))) }
-    ensures audits { Audits C.bytes C.transaction C.quiet c.old c.new result }
+    ensures walked { OnOk result (SmallWalked heap.now (control_word heap.now LOW) found.new
+        spots.new) }
+    ensures damaged { IfErr result (DamagedBy Check.Block (SmallBreaks heap.now)) }
     ensures length { length spots.new ≡ length spots.old }
 {
     let mut place = edges.start;
     while place < edges.low {
-        place = find_small(c, edges, place, found, spots)?;
+        place = find_small(heap, edges, place, found, spots)?;
     }
     Ok(())
 }
 
 // Whether both ends of the large block with this leader at a place agree, and its links are 0 where it is in use.
-fn has_ends<C: Cells>(c: &mut C, place: u64, label: &Label) -> Result<bool, Stop>
-    requires region { IsRegionSize (length (C.bytes c.old)) }
-    requires label { IsLabel (C.bytes c.old) place label.now }
-    requires inside { place + WORD * (LARGE_FRAME + label.now.words) ≤ length (C.bytes c.old) }
-    ensures given { IfOk result (λ yes. yes ≡ has_ends (C.bytes c.old)
-        (large_at (C.bytes c.old) place)) }
-    ensures same { C.bytes c.new ≡ C.bytes c.old }
-    ensures room { TouchesNone (C.transaction c.old) (C.transaction c.new) result }
-    ensures cause { HasReason (C.transaction c.old) (C.transaction c.new) result }
-    ensures quiet { C.quiet c.old c.new }
+fn has_ends(heap: &[u8], place: u64, label: &Label) -> bool
+    requires region { IsRegionSize (length heap.now) }
+    requires label { IsLabel heap.now place label.now }
+    requires inside { place + WORD * (LARGE_FRAME + label.now.words) ≤ length heap.now }
+    ensures { result ≡ has_ends heap.now (large_at heap.now place) }
 {
     let behind = place + WORD * (2 + label.words);
     let used = if label.is_used() { 1 << 56 } else { 0 };
-    let last = read_number(c, behind + WORD)?;
-    let next = read_number(c, place + WORD)?;
-    let before = read_number(c, behind)?;
+    let last = number_at(heap, behind + WORD);
+    let next = number_at(heap, place + WORD);
+    let before = number_at(heap, behind);
     let unlinked = next == 0 && before == 0;
-    Ok(last == used + label.words * (1 << 32) && (!label.is_used() || unlinked))
+    last == used + label.words * (1 << 32) && (!label.is_used() || unlinked)
 }
 
-// Whether a large block with this leader may begin at a place, where the region ends at `end`.
-fn is_large<C: Cells>(c: &mut C, place: u64, label: &Label, end: u64) -> Result<bool, Stop>
-    requires region { IsRegionSize (length (C.bytes c.old)) }
-    requires label { IsLabel (C.bytes c.old) place label.now }
+// Whether a large block with this leader may begin at a place.
+fn is_large(heap: &[u8], place: u64, label: &Label) -> bool
+    requires region { IsRegionSize (length heap.now) }
+    requires label { IsLabel heap.now place label.now }
     requires words { label.now.words < 2 ^ 32 }
-    requires place { place ≤ end }
-    requires end { end ≡ length (C.bytes c.old) }
-    requires sound { (C.transaction c.old).failed ≡ false }
-    ensures given { IfOk result (λ yes. yes ≡ is_large_at (C.bytes c.old) place) }
-    ensures same { C.bytes c.new ≡ C.bytes c.old }
-    ensures room { TouchesNone (C.transaction c.old) (C.transaction c.new) result }
-    ensures cause { HasReason (C.transaction c.old) (C.transaction c.new) result }
-    ensures quiet { C.quiet c.old c.new }
+    requires place { place ≤ length heap.now }
+    ensures { result ≡ is_large_at heap.now place }
 {
     if label.kind > LAST_KIND
         || label.words == 0
-        || place + WORD * (LARGE_FRAME + label.words) > end
+        || place + WORD * (LARGE_FRAME + label.words) > heap.len() as u64
     {
-        return Ok(false);
+        return false;
     }
-    has_ends(c, place, label)
+    has_ends(heap, place, label)
 }
 
 // Looks at the large block that begins at a place, and answers where the next one does.
-fn find_large<C: Cells>(
-    c: &mut C,
+fn find_large(
+    heap: &[u8],
     edges: &Edges,
     place: u64,
     found: &mut Findings,
     spots: &mut [Spot],
-) -> Result<u64, StructureError>
-    requires region { IsRegionSize (length (C.bytes c.old)) }
-    requires right { ControlIsRight (C.bytes c.old) }
-    requires edges { edges.now ≡ edges_of (C.bytes c.old) }
-    requires spots { length spots.old * WORD ≡ length (C.bytes c.old) }
-    requires walked { LargeWalked (C.bytes c.old) place found.old spots.old }
+) -> Result<u64, Damage>
+    requires edges { AreEdges heap.now edges.now }
+    requires spots { length spots.old * WORD ≡ length heap.now }
+    requires walked { LargeWalked heap.now place found.old spots.old }
     requires more { place < edges.now.end }
-    ensures walked { IfOk result (λ next. LargeWalked (C.bytes c.old) next found.new spots.new) }
+    ensures walked { IfOk result (λ next. LargeWalked heap.now next found.new spots.new) }
     ensures onward { IfOk result (λ next. place < next) }
-    ensures damaged { IfErr result (DamagedBy StructureCheck.Block (LargeBreaks (C.bytes c.old))) }
-    ensures audits { Audits C.bytes C.transaction C.quiet c.old c.new result }
+    ensures damaged { IfErr result (DamagedBy Check.Block (LargeBreaks heap.now)) }
     ensures length { length spots.new ≡ length spots.old }
 {
-    let label = read_label(c, place)?;
-    if !is_large(c, place, &label, edges.end)? {
-        return Err(StructureError::Damaged {
+    let label = read_label(heap, place);
+    if !is_large(heap, place, &label) {
+        return Err(Damage {
             place,
-            why: StructureCheck::Block,
+            why: Check::Block,
         });
     }
     found.note_large(&label, place, edges.high);
@@ -173,28 +152,22 @@ fn find_large<C: Cells>(
 }
 
 // Looks at all large blocks.
-fn walk_large<C: Cells>(
-    c: &mut C,
+fn walk_large(
+    heap: &[u8],
     edges: &Edges,
     found: &mut Findings,
     spots: &mut [Spot],
-) -> Result<(), StructureError>
-    requires region { IsRegionSize (length (C.bytes c.old)) }
-    requires right { ControlIsRight (C.bytes c.old) }
-    requires edges { edges.now ≡ edges_of (C.bytes c.old) }
-    requires sound { (C.transaction c.old).failed ≡ false }
-    requires spots { length spots.old * WORD ≡ length (C.bytes c.old) }
-    requires walked { SmallWalked (C.bytes c.old) (control_word (C.bytes c.old) LOW) found.old
-        spots.old }
-    ensures walked { OnOk result (LargeWalked (C.bytes c.old) (length (C.bytes c.old)) found.new
-        spots.new) }
-    ensures damaged { IfErr result (DamagedBy StructureCheck.Block (LargeBreaks (C.bytes c.old))) }
-    ensures audits { Audits C.bytes C.transaction C.quiet c.old c.new result }
+) -> Result<(), Damage>
+    requires edges { AreEdges heap.now edges.now }
+    requires spots { length spots.old * WORD ≡ length heap.now }
+    requires walked { SmallWalked heap.now (control_word heap.now LOW) found.old spots.old }
+    ensures walked { OnOk result (LargeWalked heap.now (length heap.now) found.new spots.new) }
+    ensures damaged { IfErr result (DamagedBy Check.Block (LargeBreaks heap.now)) }
     ensures length { length spots.new ≡ length spots.old }
 {
     let mut place = edges.high;
     while place < edges.end {
-        place = find_large(c, edges, place, found, spots)?;
+        place = find_large(heap, edges, place, found, spots)?;
     }
     Ok(())
 }
@@ -203,31 +176,22 @@ fn walk_large<C: Cells>(
 /// blocks follow one another from the first block place to `low`, and large ones from `high` to the end, each of 1 word or more, and
 /// both ends of a large one agree; each has the words that its length needs, and a small one in use no more; a free one has length
 /// 0; no two free large ones touch, and the one at `high` isn't free. These are asked in this order, each of all blocks by rising
-/// address, and what is wrong first is told by the place at which the block begins. It is linear in the blocks, reads alone, and
-/// takes no memory.
-pub fn check_blocks<C: Cells>(
-    c: &mut C,
-    edges: &Edges,
-    spots: &mut [Spot],
-) -> Result<(), StructureError>
-    requires region { IsRegionSize (length (C.bytes c.old)) }
-    requires right { ControlIsRight (C.bytes c.old) }
-    requires edges { edges.now ≡ edges_of (C.bytes c.old) }
-    requires sound { (C.transaction c.old).failed ≡ false }
-    requires spots { length spots.old * WORD ≡ length (C.bytes c.old) }
+/// address, and what is wrong first is told by the place at which the block begins. It is linear in the blocks, and takes no memory.
+pub fn check_blocks(heap: &[u8], edges: &Edges, spots: &mut [Spot]) -> Result<(), Damage>
+    requires edges { AreEdges heap.now edges.now }
+    requires spots { length spots.old * WORD ≡ length heap.now }
     requires clear { AreSpots [] [] spots.old }
-    ensures surveyed { OnOk result (IsSurveyed (C.bytes c.old) edges.now spots.new) }
-    ensures damaged { IfErr result (DamagedBy StructureCheck.Block (IsWrongBlock (C.bytes c.old))) }
-    ensures audits { Audits C.bytes C.transaction C.quiet c.old c.new result }
+    ensures surveyed { OnOk result (IsSurveyed heap.now edges.now spots.new) }
+    ensures damaged { IfErr result (DamagedBy Check.Block (IsWrongBlock heap.now)) }
 {
     let mut found = Findings::none();
-    walk_small(c, edges, &mut found, spots)?;
-    walk_large(c, edges, &mut found, spots)?;
+    walk_small(heap, edges, &mut found, spots)?;
+    walk_large(heap, edges, &mut found, spots)?;
     match found.first() {
         None => Ok(()),
-        Some(place) => Err(StructureError::Damaged {
+        Some(place) => Err(Damage {
             place,
-            why: StructureCheck::Block,
+            why: Check::Block,
         }),
     }
 }

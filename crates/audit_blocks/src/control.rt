@@ -1,18 +1,20 @@
 // The control words.
-ghost use Rattle.std.specs.Prelude.{◌≡◌, ◌<◌, ◌≤◌, ◌*◌, List, ℕ, length, true, IfErr, IfOk, OnOk};
+ghost use Rattle.std.specs.Prelude.{◌≡◌, ◌<◌, ◌≤◌, length, IfErr, IfOk};
 ghost use Rattle.sdr_base.specs.Cells.{IsRegionSize};
 ghost use Rattle.sdr_base.specs.FreshHeap.{first_block};
-ghost use Rattle.sdr_base.specs.declared.control.TheConstants.{CONTROL_WORDS, HIGH};
-ghost use Rattle.sdr_base.specs.declared.line.TheConstants.{MOST_LINES, WORD};
-ghost use Rattle.audit_blocks.specs.Auditing.{Audits, DamagedBy, edges_of};
-ghost use Rattle.audit_blocks.specs.Control.{ControlIsRight, IsWrongControl, control_word, is_maximum_of, may_be};
+ghost use Rattle.sdr_base.specs.declared.control.TheConstants.{CONTROL_WORDS};
+ghost use Rattle.sdr_base.specs.declared.line.TheConstants.{MOST_LINES};
+ghost use Rattle.audit_blocks.specs.Auditing.{DamagedBy};
+ghost use Rattle.audit_blocks.specs.Control.{IsWrongControl, control_word, is_maximum_of, may_be};
+ghost use Rattle.audit_blocks.specs.Walked.{AreEdges};
 
-use crate::error::{StructureCheck, StructureError};
+use crate::error::{Check, Damage};
+use crate::number::number_at;
 use sdr_base::control::{
     BULK_MAXIMUM, CONTROL_WORDS, FILE_MAXIMUM, HEAP_MAXIMUM, HIGH, INBOUND, LAST_NAME, LOW,
     NEXT_TICKET, OUTBOUND, SIZE, START,
 };
-use sdr_base::{Cells, LINE, START_BITS, WORD, read_number};
+use sdr_base::{LINE, START_BITS, WORD};
 use sdr_model::MOST_AMOUNT;
 
 /// Where blocks may stand in a heap region, in bytes: small ones from `start` to `low`, large ones from `high` to its end.
@@ -40,12 +42,22 @@ fn is_maximum_of(first: u64, word: u64) -> bool
     word == first + FILE_MAXIMUM || word == first + BULK_MAXIMUM || word == first + HEAP_MAXIMUM
 }
 
-// Whether a control word may have this value, in a region of this size whose large blocks begin at `high`.
-fn may_be(size: u64, high: u64, word: u64, value: u64) -> bool
-    requires region { IsRegionSize size }
-    ensures { (bytes : List ℕ) → length bytes ≡ size → control_word bytes HIGH ≡ high →
-        result ≡ may_be bytes word value }
+/// The number in a control word.
+pub fn control_word(heap: &[u8], word: u64) -> u64
+    requires region { IsRegionSize (length heap.now) }
+    requires below { word < CONTROL_WORDS }
+    ensures { result ≡ control_word heap.now word }
 {
+    number_at(heap, WORD * word)
+}
+
+// Whether a control word may have this value.
+fn may_be(heap: &[u8], word: u64, value: u64) -> bool
+    requires region { IsRegionSize (length heap.now) }
+    ensures { result ≡ may_be heap.now word value }
+{
+    let size = heap.len() as u64;
+    let high = control_word(heap, HIGH);
     let is_edge = value % WORD == 0 && value <= size;
     if word == SIZE {
         value == size
@@ -66,64 +78,26 @@ fn may_be(size: u64, high: u64, word: u64, value: u64) -> bool
     }
 }
 
-// Checks a control word.
-fn check_word<C: Cells>(c: &mut C, size: u64, high: u64, word: u64) -> Result<(), StructureError>
-    requires region { IsRegionSize size }
-    requires size { length (C.bytes c.old) ≡ size }
-    requires high { control_word (C.bytes c.old) HIGH ≡ high }
-    requires below { word < CONTROL_WORDS }
-    requires before { (other : ℕ) → other < word → may_be (C.bytes c.old) other
-        (control_word (C.bytes c.old) other) ≡ true }
-    ensures right { OnOk result (may_be (C.bytes c.old) word (control_word (C.bytes c.old) word)
-        ≡ true) }
-    ensures damaged { IfErr result (DamagedBy StructureCheck.Control (IsWrongControl (C.bytes c.old))) }
-    ensures audits { Audits C.bytes C.transaction C.quiet c.old c.new result }
+/// Checks the control words of a heap region in memory, and tells where blocks may stand. What is wrong is the lowest word that is: the
+/// size of the region, the place of the first block, the ends of the unassigned space, a maximum, the number of the next ticket, or a
+/// word that is always 0. It takes no memory.
+pub fn check_control(heap: &[u8]) -> Result<Edges, Damage>
+    requires region { IsRegionSize (length heap.now) }
+    ensures edges { IfOk result (AreEdges heap.now) }
+    ensures damaged { IfErr result (DamagedBy Check.Control (IsWrongControl heap.now)) }
 {
-    let value = read_number(c, WORD * word)?;
-    if may_be(size, high, word, value) {
-        Ok(())
-    } else {
-        Err(StructureError::Damaged {
-            place: WORD * word,
-            why: StructureCheck::Control,
-        })
+    for word in 0..CONTROL_WORDS {
+        if !may_be(heap, word, control_word(heap, word)) {
+            return Err(Damage {
+                place: WORD * word,
+                why: Check::Control,
+            });
+        }
     }
-}
-
-// Checks all control words.
-fn check_words<C: Cells>(c: &mut C, size: u64, high: u64) -> Result<(), StructureError>
-    requires region { IsRegionSize size }
-    requires size { length (C.bytes c.old) ≡ size }
-    requires high { control_word (C.bytes c.old) HIGH ≡ high }
-    ensures right { OnOk result (ControlIsRight (C.bytes c.old)) }
-    ensures damaged { IfErr result (DamagedBy StructureCheck.Control (IsWrongControl (C.bytes c.old))) }
-    ensures audits { Audits C.bytes C.transaction C.quiet c.old c.new result }
-{
-    check_word(c, size, high, 0)?;
-    for word in 1..CONTROL_WORDS {
-        check_word(c, size, high, word)?;
-    }
-    Ok(())
-}
-
-/// Checks the control words, and tells where blocks may stand. What is wrong is the lowest word that is: the size of the region,
-/// the place of the first block, the ends of the unassigned space, a maximum, the number of the next ticket, or a word that is
-/// always 0. It reads alone, and takes no memory.
-pub fn check_control<C: Cells>(c: &mut C) -> Result<Edges, StructureError>
-    ensures edges { IfOk result (λ edges. edges ≡ edges_of (C.bytes c.old)) }
-    ensures right { OnOk result (ControlIsRight (C.bytes c.old)) }
-    ensures damaged { IfErr result (DamagedBy StructureCheck.Control (IsWrongControl (C.bytes c.old))) }
-    ensures audits { Audits C.bytes C.transaction C.quiet c.old c.new result }
-{
-    let size = c.size();
-    let high = read_number(c, WORD * HIGH)?;
-    check_words(c, size, high)?;
-    let start = read_number(c, WORD * START)?;
-    let low = read_number(c, WORD * LOW)?;
     Ok(Edges {
-        start,
-        low,
-        high,
-        end: size,
+        start: control_word(heap, START),
+        low: control_word(heap, LOW),
+        high: control_word(heap, HIGH),
+        end: heap.len() as u64,
     })
 }

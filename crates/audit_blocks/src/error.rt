@@ -1,12 +1,8 @@
 // What an audit finds wrong.
-ghost use Rattle.std.specs.Prelude.{◌≡◌};
-ghost use Rattle.audit_blocks.specs.Auditing.{HasStop};
 
-use sdr_base::Stop;
-
-/// The check that found something wrong.
+/// The check that found something wrong, in the order in which they are taken.
 #[derive(Clone, Copy, Debug, PartialEq, Eq)]
-pub enum StructureCheck {
+pub enum Check {
     /// The control words.
     Control,
     /// The blocks of both pools, as their leaders tell.
@@ -17,28 +13,19 @@ pub enum StructureCheck {
     Free,
     /// What stands in a block in use.
     Content,
+    /// The chains of blocks, and who names whom.
+    Owner,
+    /// What lists, hashes and sources count, and what is occupied.
+    Count,
+    /// The queues of tickets.
+    Queue,
 }
 
-/// Why an audit came to no good end.
+/// What is wrong first in a heap region.
 #[derive(Clone, Copy, Debug, PartialEq, Eq)]
-pub enum StructureError {
-    /// The bytes stand for no world, by what is wrong at a place in the heap region.
-    Damaged { place: u64, why: StructureCheck },
-    /// The disk failed.
-    DiskFault,
-    /// It had failed before.
-    Failed,
-}
-
-impl From<Stop> for StructureError {
-    ghost use Rattle.audit_blocks.specs.Auditing.{HasStop};
-
-    ghost from_gives = { λ stop e. HasStop e stop };
-
-    fn from(stop: Stop) -> StructureError {
-        match stop {
-            Stop::DiskFault => StructureError::DiskFault,
-            _ => StructureError::Failed,
-        }
-    }
+pub struct Damage {
+    /// Where it is, in bytes: the place of a byte, of a control word or of a block, or a block's address.
+    pub place: u64,
+    /// The check that found it.
+    pub why: Check,
 }

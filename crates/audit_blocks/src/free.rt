@@ -1,28 +1,26 @@
 // The lists of free blocks.
-ghost use Rattle.std.specs.Prelude.{◌≡◌, ◌≢◌, ◌≤◌, ◌<◌, ◌==◌, ◌+◌, ◌-◌, ◌*◌, ◌/◌, ◌%◌, ◌^◌, ℕ, List, false, true, length, get_or, IfErr, IfOk, IfSome, OnOk, None};
+ghost use Rattle.std.specs.Prelude.{◌≡◌, ◌≢◌, ◌≤◌, ◌<◌, ◌+◌, ◌-◌, ◌*◌, ◌^◌, ℕ, List, false, length, IfErr, IfOk, IfSome, OnOk, None};
 ghost use Rattle.std.specs.List.{list_any};
-ghost use Rattle.sdr_base.specs.Cells.{IsRegionSize};
 ghost use Rattle.sdr_base.specs.LargePool.{order_of};
-ghost use Rattle.sdr_base.specs.Pools.{PoolBlock};
 ghost use Rattle.sdr_base.specs.Stored.{leader_words};
-ghost use Rattle.sdr_base.specs.Transaction.{HasReason, TouchesNone};
 ghost use Rattle.sdr_base.specs.declared.control.TheConstants.{LARGE_LISTS, LOW, MOST_ORDER};
 ghost use Rattle.sdr_base.specs.declared.line.TheConstants.{WORD};
-ghost use Rattle.audit_blocks.specs.Auditing.{Audits, DamagedBy, edges_of};
-ghost use Rattle.audit_blocks.specs.Control.{ControlIsRight, control_word};
+ghost use Rattle.audit_blocks.specs.Auditing.{DamagedIn};
+ghost use Rattle.audit_blocks.specs.Control.{control_word};
 ghost use Rattle.audit_blocks.specs.Free.{AreListed, IsListWord, IsWrongFree, IsWrongList};
 ghost use Rattle.audit_blocks.specs.Labels.{IsLabel};
 ghost use Rattle.audit_blocks.specs.Listed.{IsFirstLost, Leaves, ListWalked, ListsWalked, frame_at, frame_in, free_left, has_previous, is_listed, is_lost, is_small_list, is_told_free, list_of, may_follow};
 ghost use Rattle.audit_blocks.specs.Spots.{is_free_spot};
-ghost use Rattle.audit_blocks.specs.Walk.{AreBlocks};
+ghost use Rattle.audit_blocks.specs.Walk.{OfBlocks};
 ghost use Rattle.audit_blocks.specs.Walked.{IsBuilt, IsSurveyed};
 
-use crate::control::Edges;
-use crate::error::{StructureCheck, StructureError};
+use crate::control::{Edges, control_word};
+use crate::error::{Check, Damage};
 use crate::label::{Label, read_label};
+use crate::number::number_at;
 use crate::spot::{Spot, is_free};
+use sdr_base::WORD;
 use sdr_base::control::{LARGE_LISTS, MOST_ORDER, MOST_SMALL, SMALL_LISTS};
-use sdr_base::{Cells, Stop, WORD, read_leader_words, read_number};
 
 /// A link of a list of free blocks.
 #[derive(Clone, Copy)]
@@ -85,151 +83,101 @@ fn is_told_free(spots: &[Spot], place: u64) -> bool
 }
 
 // Whether it is told that a free block of the list of a control word has this address.
-fn is_listed<C: Cells>(
-    c: &mut C,
-    edges: &Edges,
-    spots: &[Spot],
-    word: u64,
-    addr: u64,
-) -> Result<bool, Stop>
-    requires edges { edges.now ≡ edges_of (C.bytes c.old) }
-    requires sound { (C.transaction c.old).failed ≡ false }
-    requires spots { length spots.now * WORD ≡ length (C.bytes c.old) }
-    ensures given { IfOk result (λ yes. yes ≡ is_listed (C.bytes c.old) spots.now word addr) }
-    ensures same { C.bytes c.new ≡ C.bytes c.old }
-    ensures room { TouchesNone (C.transaction c.old) (C.transaction c.new) result }
-    ensures cause { HasReason (C.transaction c.old) (C.transaction c.new) result }
-    ensures quiet { C.quiet c.old c.new }
+fn is_listed(heap: &[u8], edges: &Edges, spots: &[Spot], word: u64, addr: u64) -> bool
+    requires built { IsBuilt heap.now edges.now }
+    requires spots { length spots.now * WORD ≡ length heap.now }
+    ensures { result ≡ is_listed heap.now spots.now word addr }
 {
     let frame = frame_in(word);
     if addr < frame || !is_told_free(spots, addr - frame) {
-        return Ok(false);
+        return false;
     }
-    let label = read_label(c, addr - frame)?;
-    Ok(list_of(&label, addr - frame, edges.low) == word)
+    let label = read_label(heap, addr - frame);
+    list_of(&label, addr - frame, edges.low) == word
 }
 
 // Whether the large block to which a link leads has a right link to the one before it.
-fn has_previous<C: Cells>(c: &mut C, link: &Link) -> Result<bool, Stop>
-    requires region { IsRegionSize (length (C.bytes c.old)) }
+fn has_previous(heap: &[u8], link: &Link) -> bool
     requires large { is_small_list link.now.word ≡ false }
     requires frame { 2 * WORD ≤ link.now.addr }
-    requires inside { link.now.addr + WORD * leader_words (link.now.addr - 2 * WORD) (C.bytes c.old)
+    requires inside { link.now.addr + WORD * leader_words (link.now.addr - 2 * WORD) heap.now
         + WORD
-        ≤ length (C.bytes c.old) }
-    ensures given { IfOk result
-        (λ yes. yes ≡ has_previous (C.bytes c.old) link.now.word link.now.before link.now.addr) }
-    ensures same { C.bytes c.new ≡ C.bytes c.old }
-    ensures room { TouchesNone (C.transaction c.old) (C.transaction c.new) result }
-    ensures cause { HasReason (C.transaction c.old) (C.transaction c.new) result }
-    ensures quiet { C.quiet c.old c.new }
+        ≤ length heap.now }
+    ensures { result ≡ has_previous heap.now link.now.word link.now.before link.now.addr }
 {
-    let words = read_leader_words(c, link.addr - 2 * WORD)?;
-    let previous = read_number(c, link.addr + WORD * words)?;
-    Ok(previous == link.before)
+    let label = read_label(heap, link.addr - 2 * WORD);
+    number_at(heap, link.addr + WORD * label.words) == link.before
 }
 
 // Whether the block to which a link leads is a free one of its list that was not reached yet, with a right link to the one before it.
-fn may_follow<C: Cells>(c: &mut C, edges: &Edges, spots: &[Spot], link: &Link) -> Result<bool, Stop>
-    requires built { IsBuilt (C.bytes c.old) edges.now }
-    requires sound { (C.transaction c.old).failed ≡ false }
-    requires left { Leaves (C.bytes c.old) spots.now
-        (λ told reached. ListWalked (C.bytes c.old) told reached link.now) }
-    ensures given { IfOk result
-        (λ yes. yes ≡ may_follow (C.bytes c.old) spots.now link.now.word link.now.before link.now.addr) }
-    ensures same { C.bytes c.new ≡ C.bytes c.old }
-    ensures room { TouchesNone (C.transaction c.old) (C.transaction c.new) result }
-    ensures cause { HasReason (C.transaction c.old) (C.transaction c.new) result }
-    ensures quiet { C.quiet c.old c.new }
+fn may_follow(heap: &[u8], edges: &Edges, spots: &[Spot], link: &Link) -> bool
+    requires built { IsBuilt heap.now edges.now }
+    requires left { Leaves heap.now spots.now
+        (λ told reached. ListWalked heap.now told reached link.now) }
+    ensures { result ≡ may_follow heap.now spots.now link.now.word link.now.before link.now.addr }
 {
-    if !is_listed(c, edges, spots, link.word, link.addr)? {
-        return Ok(false);
-    }
-    if is_small_list(link.word) {
-        return Ok(true);
-    }
-    has_previous(c, link)
+    is_listed(heap, edges, spots, link.word, link.addr)
+        && (is_small_list(link.word) || has_previous(heap, link))
 }
 
 // Strikes out the block to which a link leads, and answers the link that stands in it.
-fn follow<C: Cells>(
-    c: &mut C,
-    edges: &Edges,
-    spots: &mut [Spot],
-    link: Link,
-) -> Result<Link, StructureError>
-    requires built { IsBuilt (C.bytes c.old) edges.now }
-    requires sound { (C.transaction c.old).failed ≡ false }
+fn follow(heap: &[u8], edges: &Edges, spots: &mut [Spot], link: Link) -> Result<Link, Damage>
+    requires built { IsBuilt heap.now edges.now }
     requires more { link.addr ≢ 0 }
-    requires left { Leaves (C.bytes c.old) spots.old
-        (λ told reached. ListWalked (C.bytes c.old) told reached link) }
-    ensures left { IfOk result (λ next. Leaves (C.bytes c.old) spots.new
-        (λ told reached. ListWalked (C.bytes c.old) told reached next)) }
+    requires left { Leaves heap.now spots.old
+        (λ told reached. ListWalked heap.now told reached link) }
+    ensures left { IfOk result (λ next. Leaves heap.now spots.new
+        (λ told reached. ListWalked heap.now told reached next)) }
     ensures word { IfOk result (λ next. next.word ≡ link.word) }
     ensures fewer { OnOk result (free_left spots.new < free_left spots.old) }
-    ensures damaged { IfErr result (DamagedBy StructureCheck.Free (λ at. (small large : List PoolBlock) →
-        AreBlocks (C.bytes c.old) small large → IsWrongList (C.bytes c.old) small large at)) }
-    ensures audits { Audits C.bytes C.transaction C.quiet c.old c.new result }
+    ensures damaged { IfErr result (DamagedIn Check.Free IsWrongList heap.now) }
 {
-    if !may_follow(c, edges, spots, &link)? {
-        return Err(StructureError::Damaged {
+    if !may_follow(heap, edges, spots, &link) {
+        return Err(Damage {
             place: WORD * link.word,
-            why: StructureCheck::Free,
+            why: Check::Free,
         });
     }
     let place = link.addr - frame_in(link.word);
     spots[(place / WORD) as usize] = Spot::Nothing;
-    let addr = read_number(c, place + WORD)?;
     Ok(Link {
         word: link.word,
         before: link.addr,
-        addr,
+        addr: number_at(heap, place + WORD),
     })
 }
 
 // Walks over the list of a control word, and strikes out its blocks. A block that is reached again ends the walk, so that it takes
 // no more steps than there are blocks.
-fn walk_list<C: Cells>(
-    c: &mut C,
-    edges: &Edges,
-    spots: &mut [Spot],
-    word: u64,
-) -> Result<(), StructureError>
-    requires built { IsBuilt (C.bytes c.old) edges.now }
-    requires sound { (C.transaction c.old).failed ≡ false }
+fn walk_list(heap: &[u8], edges: &Edges, spots: &mut [Spot], word: u64) -> Result<(), Damage>
+    requires built { IsBuilt heap.now edges.now }
     requires list { IsListWord word }
-    requires left { Leaves (C.bytes c.old) spots.old
-        (λ told reached. ListsWalked (C.bytes c.old) told reached word) }
-    ensures left { OnOk result (Leaves (C.bytes c.old) spots.new
-        (λ told reached. ListsWalked (C.bytes c.old) told reached (word + 1))) }
-    ensures damaged { IfErr result (DamagedBy StructureCheck.Free (λ at. (small large : List PoolBlock) →
-        AreBlocks (C.bytes c.old) small large → IsWrongList (C.bytes c.old) small large at)) }
-    ensures audits { Audits C.bytes C.transaction C.quiet c.old c.new result }
+    requires left { Leaves heap.now spots.old
+        (λ told reached. ListsWalked heap.now told reached word) }
+    ensures left { OnOk result (Leaves heap.now spots.new
+        (λ told reached. ListsWalked heap.now told reached (word + 1))) }
+    ensures damaged { IfErr result (DamagedIn Check.Free IsWrongList heap.now) }
 {
-    let addr = read_number(c, WORD * word)?;
     let mut link = Link {
         word,
         before: 0,
-        addr,
+        addr: control_word(heap, word),
     };
     while link.addr != 0 {
-        link = follow(c, edges, spots, link)?;
+        link = follow(heap, edges, spots, link)?;
     }
     Ok(())
 }
 
 // Walks over all lists.
-fn walk_lists<C: Cells>(c: &mut C, edges: &Edges, spots: &mut [Spot]) -> Result<(), StructureError>
-    requires surveyed { IsSurveyed (C.bytes c.old) edges.now spots.old }
-    requires sound { (C.transaction c.old).failed ≡ false }
-    ensures left { OnOk result (Leaves (C.bytes c.old) spots.new
-        (λ told reached. ListsWalked (C.bytes c.old) told reached (LARGE_LISTS + MOST_ORDER + 1))) }
-    ensures damaged { IfErr result (DamagedBy StructureCheck.Free (λ at. (small large : List PoolBlock) →
-        AreBlocks (C.bytes c.old) small large → IsWrongList (C.bytes c.old) small large at)) }
-    ensures audits { Audits C.bytes C.transaction C.quiet c.old c.new result }
+fn walk_lists(heap: &[u8], edges: &Edges, spots: &mut [Spot]) -> Result<(), Damage>
+    requires surveyed { IsSurveyed heap.now edges.now spots.old }
+    ensures left { OnOk result (Leaves heap.now spots.new
+        (λ told reached. ListsWalked heap.now told reached (LARGE_LISTS + MOST_ORDER + 1))) }
+    ensures damaged { IfErr result (DamagedIn Check.Free IsWrongList heap.now) }
 {
     for word in SMALL_LISTS + 1..LARGE_LISTS + MOST_ORDER + 1 {
-        walk_list(c, edges, spots, word)?;
+        walk_list(heap, edges, spots, word)?;
     }
     Ok(())
 }
@@ -266,28 +214,20 @@ fn first_lost(spots: &[Spot]) -> Option<usize>
 /// told of words is of no use afterwards. By rising control word, each list reaches only free blocks of its own words, or of its own
 /// order, each once, and a large one's previous link is right; what is wrong is told by the control word in which the list's front
 /// stands. Then each free block was reached; the first that wasn't is told by its address. It is linear in the region, for each block
-/// is followed once; it reads alone, and takes no memory.
-pub fn check_free<C: Cells>(
-    c: &mut C,
-    edges: &Edges,
-    spots: &mut [Spot],
-) -> Result<(), StructureError>
-    requires surveyed { IsSurveyed (C.bytes c.old) edges.now spots.old }
-    requires sound { (C.transaction c.old).failed ≡ false }
-    ensures right { OnOk result ((small large : List PoolBlock) →
-        AreBlocks (C.bytes c.old) small large → AreListed (C.bytes c.old) small large) }
-    ensures damaged { IfErr result (DamagedBy StructureCheck.Free (λ at. (small large : List PoolBlock) →
-        AreBlocks (C.bytes c.old) small large → IsWrongFree (C.bytes c.old) small large at)) }
-    ensures audits { Audits C.bytes C.transaction C.quiet c.old c.new result }
+/// is followed once, and takes no memory.
+pub fn check_free(heap: &[u8], edges: &Edges, spots: &mut [Spot]) -> Result<(), Damage>
+    requires surveyed { IsSurveyed heap.now edges.now spots.old }
+    ensures right { OnOk result (OfBlocks AreListed heap.now) }
+    ensures damaged { IfErr result (DamagedIn Check.Free IsWrongFree heap.now) }
 {
-    walk_lists(c, edges, spots)?;
+    walk_lists(heap, edges, spots)?;
     match first_lost(spots) {
         None => Ok(()),
         Some(word) => {
             let place = WORD * word as u64;
-            Err(StructureError::Damaged {
+            Err(Damage {
                 place: place + frame_at(place, edges.low),
-                why: StructureCheck::Free,
+                why: Check::Free,
             })
         }
     }

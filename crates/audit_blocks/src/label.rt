@@ -1,13 +1,13 @@
 // What the leader of a block tells, as it stands.
-ghost use Rattle.std.specs.Prelude.{◌≡◌, ◌+◌, ◌*◌, ◌≤◌, ◌<◌, ◌^◌, cond, length, nat_le, not, ◌==◌, ◌&&◌, ◌||◌, IfOk};
+ghost use Rattle.std.specs.Prelude.{◌≡◌, ◌+◌, ◌*◌, ◌≤◌, ◌<◌, ◌^◌, cond, length, nat_le, not, ◌==◌, ◌&&◌, ◌||◌};
 ghost use Rattle.sdr_base.specs.Rules.{words_for};
 ghost use Rattle.sdr_base.specs.Stored.{leader_kind, leader_length, leader_words};
-ghost use Rattle.sdr_base.specs.Transaction.{HasReason, TouchesNone};
+ghost use Rattle.sdr_base.specs.declared.line.TheConstants.{WORD};
 ghost use Rattle.audit_blocks.specs.Labels.{IsLabel, fits_small, has_enough, is_led, label_empty, label_spot};
 
 use crate::spot::Spot;
 use byteorder::{BigEndian, ByteOrder};
-use sdr_base::{Cells, Stop, WORD};
+use sdr_base::WORD;
 
 /// The leader of a block: the number of its kind, which is 0 where it is free, its words, and its length in bytes.
 #[derive(Clone, Copy)]
@@ -18,23 +18,18 @@ pub struct Label {
 }
 
 /// The leader at a place, in bytes.
-pub fn read_label<C: Cells>(c: &mut C, place: u64) -> Result<Label, Stop>
-    requires inside { place + 8 ≤ length (C.bytes c.old) }
-    ensures given { IfOk result (IsLabel (C.bytes c.old) place) }
-    ensures words { IfOk result (λ label. label.words < 2 ^ 32) }
-    ensures length { IfOk result (λ label. label.length < 2 ^ 32) }
-    ensures same { C.bytes c.new ≡ C.bytes c.old }
-    ensures room { TouchesNone (C.transaction c.old) (C.transaction c.new) result }
-    ensures cause { HasReason (C.transaction c.old) (C.transaction c.new) result }
-    ensures quiet { C.quiet c.old c.new }
+pub fn read_label(heap: &[u8], place: u64) -> Label
+    requires inside { place + WORD ≤ length heap.now }
+    ensures given { IsLabel heap.now place result }
+    ensures words { result.words < 2 ^ 32 }
+    ensures length { result.length < 2 ^ 32 }
 {
-    let mut word = [0; 8];
-    c.read(place, &mut word)?;
-    Ok(Label {
-        kind: word[0],
-        words: BigEndian::read_u24(&word[1..]) as u64,
-        length: BigEndian::read_u32(&word[4..]) as u64,
-    })
+    let place = place as usize;
+    Label {
+        kind: heap[place],
+        words: BigEndian::read_u24(&heap[place + 1..place + 4]) as u64,
+        length: BigEndian::read_u32(&heap[place + 4..place + 8]) as u64,
+    }
 }
 
 impl Label {

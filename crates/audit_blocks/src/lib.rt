@@ -1,4 +1,4 @@
-//! An audit of the structure of a heap region: whether its bytes keep a heap, and else what is wrong first, and where.
+//! An audit of the structure of a heap region in memory: whether its bytes keep a heap, and else what is wrong first, and where.
 //!
 //! Each step has its own order in which things are looked at, and tells the first that is wrong. A step stands on those before it.
 //!
@@ -29,6 +29,7 @@ mod findings;
 mod free;
 mod label;
 mod layout;
+mod number;
 mod region;
 mod spot;
 
@@ -36,7 +37,9 @@ pub use bits::check_bits;
 pub use blocks::check_blocks;
 pub use content::check_content;
 pub use control::{Edges, check_control};
-pub use error::{StructureCheck, StructureError};
+pub use error::{Check, Damage};
 pub use free::check_free;
+pub use label::{Label, read_label};
+pub use number::number_at;
 pub use region::{kept_heaps_are_sound, sound_regions_are_not_wrong, sound_regions_keep_heaps};
 pub use spot::Spot;

@@ -6,7 +6,7 @@ ghost use Rattle.sdr_base.specs.Pools.{PoolBlock, Pools};
 ghost use Rattle.audit_blocks.specs.Content.{ContentIsRight};
 ghost use Rattle.audit_blocks.specs.Control.{ControlIsRight};
 ghost use Rattle.audit_blocks.specs.Region.{IsSound, IsSoundRegion, RegionIsWrongFirst, KeepsBlocks};
-ghost use Rattle.audit_blocks.specs.declared.error.StructureCheck.{StructureCheck};
+ghost use Rattle.audit_blocks.specs.declared.error.Check.{Check};
 
 /// A law: a region with these blocks that passes each check keeps a heap that has just them, and each block in use has what its
 /// kind's layout asks. It does nothing.
@@ -17,7 +17,7 @@ pub fn sound_regions_keep_heaps()
 
 /// A law: a region that passes each check isn't wrong by any. It does nothing.
 pub fn sound_regions_are_not_wrong()
-    ensures { (bytes : List ℕ) (why : StructureCheck) (place : ℕ) →
+    ensures { (bytes : List ℕ) (why : Check) (place : ℕ) →
         IsSoundRegion bytes → RegionIsWrongFirst bytes why place → ⊥ }
 {}
 

@@ -1,15 +1,16 @@
 -- Where no count is found wrong, each is right, and the other way round.
-use Rattle.std.proofs.Common.{◌≡◌, ◌≤◌, ◌*◌, ◌+◌, ◌-◌, ◌==◌, ◌&&◌, ◌||◌, ℕ, Bool, true, false, not, cond, List, [], ◌∷◌, length, sum_by, ap, refl}
+use Rattle.std.proofs.Common.{◌≡◌, ◌≤◌, ◌*◌, ◌+◌, ◌-◌, ◌/◌, ◌==◌, ◌&&◌, ◌||◌, ℕ, Bool, true, false, not, cond, List, [], ◌∷◌, length, sum_by, ap, arith, refl}
 use Rattle.std.specs.Prelude.{find, nat_le, Option, None, Some}
 use Rattle.std.specs.Option.{option_map}
 use Rattle.sdr_base.specs.Blocks.{Block}
+use Rattle.sdr_base.specs.Cells.{IsRegionSize}
 use Rattle.sdr_base.specs.KeptHeap.{block_in}
 use Rattle.sdr_base.specs.declared.account.Acct.{Acct}
 use Rattle.sdr_base.specs.declared.account.Acct.TheVariants as accts
 use Rattle.sdr_base.specs.declared.kind.Kind.TheVariants as kinds
 use Rattle.sdr_base.specs.declared.kind.Space.{Space}
 use Rattle.sdr_base.specs.declared.kind.Space.TheVariants as spaces
-use Rattle.audit_counts.specs.Counted.{IsCounted, wrong_count, wrong_occupancy_in, wrong_source}
+use Rattle.audit_counts.specs.Counted.{IsCounted, IsCountedRegion, wrong_count, wrong_count_in, wrong_occupancy_in, wrong_source}
 use Rattle.audit_counts.specs.Counts.{keeps_counts, tells_count}
 use Rattle.audit_counts.specs.Occupied.{all_spaces, occupancy_word, tells_occupancy}
 use Rattle.audit_counts.specs.Rules.{count_rules, extent_length, first_broken, keeps_count_rule}
@@ -125,6 +126,9 @@ module _ (bytes : List ℕ) (words : ℕ) where
           (space : Space) → tells_occupancy (view_in bytes) words account space ≡ true
       by_account accts.Inbound both = occupied_right (view_in bytes) words accts.Inbound both.0
       by_account accts.Outbound both = occupied_right (view_in bytes) words accts.Outbound both.1
+
+pub counted_in : (bytes : List ℕ) → IsRegionSize (length bytes) → wrong_count_in bytes ≡ None → IsCountedRegion bytes
+counted_in bytes region none = let whole = region.whole in counted bytes (length bytes / 8) (omega (arith, whole)) none
 
 -- counts that are right aren't wrong
 pub counted_not_wrong : (heap : View) (words : ℕ) → IsCounted heap words → wrong_count heap words ≡ None

@@ -5,8 +5,8 @@ use Rattle.audit_counts.specs.Checked.{IsRightRegion, CountsAreWrongFirst}
 use Rattle.audit_counts.proofs.CountedLemmas.{counted_not_wrong}
 use Rattle.audit_counts.specs.Counted.{IsCounted, wrong_count}
 use Rattle.audit_counts.specs.Queues.{AreLawful, IsWrongQueue}
-use Rattle.audit_counts.specs.declared.error.ThingCheck.{ThingCheck}
-use Rattle.audit_counts.specs.declared.error.ThingCheck.TheVariants as whys
+use Rattle.audit_blocks.specs.declared.error.Check.{Check}
+use Rattle.audit_blocks.specs.declared.error.Check.TheVariants as whys
 use Rattle.audit_owners.proofs.LawLemmas.{not_wrong}
 use Rattle.audit_owners.proofs.OneLemmas.{one_place}
 use Rattle.audit_owners.specs.View.{View, view_in}
@@ -31,19 +31,24 @@ module _ (bytes : List ℕ) where
   found_once p q v w = let e : Some p ≡ Some q = sym v ∙ w in cc
 
   -- what is right isn't wrong
-  pub right_not_wrong : (why : ThingCheck) (place : ℕ) → IsRightRegion bytes → CountsAreWrongFirst bytes why place → ⊥
+  pub right_not_wrong : (why : Check) (place : ℕ) → IsRightRegion bytes → CountsAreWrongFirst bytes why place → ⊥
   right_not_wrong whys.Owner place right w = not_wrong (view_in bytes) (length bytes / 8) place right.owned w
   right_not_wrong whys.Count place right w = unfound place right.counted w.wrong
   right_not_wrong whys.Queue place right w = lawful_not_wrong (view_in bytes) (length bytes / 8) place right.queued w.wrong
+  right_not_wrong why place right w = w
 
   -- and nothing is first at two places
-  pub first_once : (why other : ThingCheck) (p q : ℕ) → CountsAreWrongFirst bytes why p → CountsAreWrongFirst bytes other q → (why ≡ other) × (p ≡ q)
+  pub first_once : (why other : Check) (p q : ℕ) → CountsAreWrongFirst bytes why p → CountsAreWrongFirst bytes other q → (why ≡ other) × (p ≡ q)
   first_once whys.Owner whys.Owner p q v w = (refl, one_place (view_in bytes) (length bytes / 8) p q v w)
   first_once whys.Owner whys.Count p q v w = absurd (not_wrong (view_in bytes) (length bytes / 8) p w.owned v)
   first_once whys.Owner whys.Queue p q v w = absurd (not_wrong (view_in bytes) (length bytes / 8) p w.owned v)
+  first_once whys.Owner other p q v w = absurd w
   first_once whys.Count whys.Owner p q v w = absurd (not_wrong (view_in bytes) (length bytes / 8) q v.owned w)
   first_once whys.Count whys.Count p q v w = (refl, found_once p q v.wrong w.wrong)
   first_once whys.Count whys.Queue p q v w = absurd (unfound p w.counted v.wrong)
+  first_once whys.Count other p q v w = absurd w
   first_once whys.Queue whys.Owner p q v w = absurd (not_wrong (view_in bytes) (length bytes / 8) q v.owned w)
   first_once whys.Queue whys.Count p q v w = absurd (unfound q v.counted w.wrong)
   first_once whys.Queue whys.Queue p q v w = (refl, queue_once (view_in bytes) (length bytes / 8) p q v.wrong w.wrong)
+  first_once whys.Queue other p q v w = absurd w
+  first_once why other p q v w = absurd v

@@ -4,5 +4,4 @@ pub mod CountsLemmas
 pub mod LawLemmas
 pub mod OrderLemmas
 pub mod QueuesLemmas
-pub mod ResultLemmas
 pub mod RulesLemmas

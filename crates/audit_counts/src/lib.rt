@@ -7,26 +7,24 @@
 //! 2. Each source tells for both accounts how many extents of that account's objects name it (`wrong_source`).
 //! 3. Sources, extents and objects keep the rules of one another (`wrong_rule`).
 //! 4. The control words of both accounts tell what is occupied: what objects charge, for themselves, their extents, headers and
-//!    trailers, and what is left of tickets (`wrong_occupancy`). Steps 1 to 4 are `check_counts`.
-//! 5. The queues of tickets keep their law, the inbound one first (`check_queues`).
+//!    trailers, and what is left of tickets (`wrong_occupancy`). Steps 1 to 4 are `wrong_count`.
+//! 5. The queues of tickets keep their law, the inbound one first (`wrong_queue`).
 //!
 //! The blocks of a chain are those to which its links lead; where the owners are right, these are the chain's, and each step is linear
-//! (`chains_are_members` in `audit_owners`). `check_copy` checks a region's owners, and takes these steps;
-//! it tells the first place that is wrong. A region that passes isn't wrong anywhere (`right_regions_are_not_wrong`), and another is
+//! (`chains_are_members` in `audit_owners`). `wrong_thing` checks a region's owners, and takes these steps;
+//! it tells what is wrong first. A region that passes isn't wrong anywhere (`right_regions_are_not_wrong`), and another is
 //! wrong first at one place alone (`one_place_is_wrong_first`). A small bundle, counted: `a_bundle_is_counted`.
 //!
-//! Proved: `check_counts` and `check_queues` answer Ok only where counts, rules, occupancies and queues are right
-//! (`counted`, `lawful`), and else the first wrong place (`wrong`). A region that passes isn't wrong anywhere,
-//! and another is wrong first at one place, by one check (`one_place_is_wrong_first`).
+//! Proved: `wrong_thing` finds nothing only where owners, counts, rules, occupancies and queues are right, and else what
+//! is wrong first. A region that passes isn't wrong anywhere, and another is wrong first at one place, by one check
+//! (`one_place_is_wrong_first`).
 //!
 //! Only tested: that it finds memory, and which places it gives, in numbers (`test_audit`).
 #![tactic(auto)]
 
 mod audit;
 mod charges;
-mod check;
 mod counts;
-mod error;
 mod examples;
 mod laws;
 mod occupied;
@@ -34,9 +32,7 @@ mod queues;
 mod rules;
 mod tickets;
 
-pub use audit::{Damage, check_copy};
-pub use check::check_counts;
-pub use error::ThingCheck;
+pub use audit::{wrong_count, wrong_thing};
 pub use examples::a_bundle_is_counted;
 pub use laws::{one_place_is_wrong_first, right_regions_are_not_wrong};
-pub use queues::check_queues;
+pub use queues::wrong_queue;

@@ -1,5 +1,5 @@
 // The queues of tickets.
-ghost use Rattle.std.specs.Prelude.{◌≡◌, ◌≢◌, ◌<◌, ◌/◌, ◌++◌, ◌↔◌, ℕ, true, false, All, AllPairs, IsTrue, length, map, nat_eq, IfErr, IfOk, IfSome, OnOk};
+ghost use Rattle.std.specs.Prelude.{◌≡◌, ◌≢◌, ◌<◌, ◌/◌, ◌++◌, ◌↔◌, ℕ, true, false, All, AllPairs, IsTrue, length, map, nat_eq, IfOk, IfSome, MatchOption, OnOk};
 ghost use Rattle.std.specs.Option.{option_map};
 ghost use Rattle.sdr_base.specs.Cells.{IsRegionSize};
 ghost use Rattle.sdr_base.specs.declared.control.TheConstants.{NEXT_TICKET};
@@ -12,7 +12,7 @@ ghost use Rattle.audit_owners.specs.View.{view_in};
 
 use crate::occupied::account_word;
 use crate::tickets::{amounts_at, is_granted, is_left_rightly, may_precede};
-use audit_owners::{Owner, Wrong, members, root, word};
+use audit_owners::{Owner, members, root, word};
 use sdr_base::control::{FILE_MAXIMUM, FILE_OCCUPANCY, FIRST_TICKET, NEXT_TICKET};
 use sdr_base::layout::ticket;
 use sdr_base::{Acct, Addr, Amounts, NoMemory, WORD};
@@ -169,30 +169,27 @@ fn is_lawful(
 }
 
 // Where the queue of an account is told wrong.
-fn wrong_queue(account: Acct) -> Wrong
-    ensures { result.place ≡ queue_place account }
+fn queue_place(account: Acct) -> u64
+    ensures { result ≡ queue_place account }
 {
-    Wrong {
-        place: WORD * (account_word(account) + FIRST_TICKET),
-    }
+    WORD * (account_word(account) + FIRST_TICKET)
 }
 
-/// Checks the law of the queues of tickets, the inbound one first: no two numbers are the same, over both, and each is below the next
-/// one; granted tickets are first, and those that wait go by coarse priority, by fine priority and by number; what is left of a ticket
-/// is at most what it asks, and nothing while it waits; and the first one that waits asks of some space more than the room. The first
-/// queue that doesn't keep it is told by the place of the control word with its first ticket.
-pub fn check_queues(alloc: Global, heap: &[u8]) -> Result<Result<(), Wrong>, NoMemory>
+/// The place of the control word with the first ticket of the first queue that doesn't keep the law, the inbound one first; `None`
+/// where both do. No two numbers are the same, over both, and each is below the next one; granted tickets are first, and those that
+/// wait go by coarse priority, by fine priority and by number; what is left of a ticket is at most what it asks, and nothing while it
+/// waits; and the first one that waits asks of some space more than the room.
+pub fn wrong_queue(alloc: Global, heap: &[u8]) -> Result<Option<u64>, NoMemory>
     requires region { IsRegionSize (length heap.now) }
-    ensures lawful { IfOk result (λ answer. OnOk answer (AreLawfulIn heap.now)) }
-    ensures wrong { IfOk result (λ answer. IfErr answer (λ wrong.
-        IsWrongQueueIn heap.now wrong.place)) }
+    ensures { IfOk result (λ place. MatchOption place (AreLawfulIn heap.now)
+        (IsWrongQueueIn heap.now)) }
 {
     let mut numbers = Vec::new(alloc);
     if !is_lawful(alloc, heap, Acct::Inbound, &mut numbers)? {
-        return Ok(Err(wrong_queue(Acct::Inbound)));
+        return Ok(Some(queue_place(Acct::Inbound)));
     }
     if !is_lawful(alloc, heap, Acct::Outbound, &mut numbers)? {
-        return Ok(Err(wrong_queue(Acct::Outbound)));
+        return Ok(Some(queue_place(Acct::Outbound)));
     }
-    Ok(Ok(()))
+    Ok(None)
 }

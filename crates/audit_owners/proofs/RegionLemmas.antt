@@ -1,7 +1,7 @@
 -- Blocks in use of a region in memory.
-use Rattle.std.proofs.Common.{◌≡◌, ◌≤◌, ◌<◌, ◌+◌, ◌-◌, ◌*◌, ◌/◌, ◌%◌, ◌==◌, ◌&&◌, ℕ, Bool, true, false, cond, min, List, length, drop, get_or, arith, ap, sym, ◌∙◌, refl, inl, inr, length-drop, length-take}
-use Rattle.std.specs.Prelude.{Option, None, Some, nat_le, nat_lt}
-use Rattle.std.proofs.lemmas.Bool.{and_parts, cases_Bool, cond-true, cond-false, eqb-true, le-ltb, lt-ltb, ltb-true}
+use Rattle.std.proofs.Common.{◌≡◌, ◌≤◌, ◌<◌, ◌+◌, ◌-◌, ◌*◌, ◌/◌, ◌%◌, ◌==◌, ◌&&◌, ◌||◌, ◌⊎◌, ℕ, Bool, true, false, cond, min, List, length, drop, get_or, arith, ap, sym, ◌∙◌, refl, inl, inr, length-drop, length-take}
+use Rattle.std.specs.Prelude.{Option, None, Some, is_some, nat_le, nat_lt}
+use Rattle.std.proofs.lemmas.Bool.{and_parts, cases_Bool, cond-true, cond-false, eqb-true, lt-ltb, ltb-true, or_parts}
 use Rattle.byteorder.specs.Endian.{big_from}
 use Rattle.sdr_base.specs.Blocks.{Block, kind_length}
 use Rattle.sdr_base.specs.KeptHeap.{block_in, block_led, block_of, leader_place, led_block, may_begin, pool_place}
@@ -59,6 +59,37 @@ found_clear x addr place at clear =
     ap kind_length (found_at x addr place at)
     ∙ ap (λ (b : Bool). kind_length (cond b (block_of (kind_of (leader_kind place x)) (part addr (leader_length place x) x)) None)) clear
 
+-- its leader begins with one of the two words before it
+led_two : (s t : Bool) (addr place : ℕ) → cond s (Some (addr - 8)) (cond t (Some (addr - 16)) None) ≡ Some place → (addr - 8 ≡ place) ⊎ (addr - 16 ≡ place)
+led_two true t addr place is = inl (some_of is)
+led_two false true addr place is = inr (some_of is)
+led_two false false addr place is = let d : None ≡ Some place = is in cc
+
+led_where : (x : List ℕ) (addr place : ℕ) → leader_place x addr ≡ Some place → (addr - 8 ≡ place) ⊎ (addr - 16 ≡ place)
+led_where x addr place is = elim (cases_Bool (may_begin x addr)) [
+  | inl may ↦
+      led_two (nat_lt (addr - 8) (number_at 16 x)) (nat_le (number_at 24 x) (addr - 16)) addr place
+      (sym (cond-true (may_begin x addr) (pool_place x addr) None may) ∙ is)
+  | inr never ↦ let d : None ≡ Some place = sym (cond-false (may_begin x addr) (pool_place x addr) None never) ∙ is in cc
+]
+
+-- nor where the start bits of both are clear
+pub found_unset : (x : List ℕ) (addr : ℕ) → (start_bit (addr / 8 - 1) x == 1 || start_bit (addr / 8 - 2) x == 1) ≡ false → kind_length (block_in x addr) ≡ None
+found_unset x addr clear = by_place (leader_place x addr) refl
+  where
+    clear_at : (word place : ℕ) → leader_place x addr ≡ Some place → word ≡ place / 8 → (start_bit word x == 1) ≡ false → kind_length (block_in x addr) ≡ None
+    clear_at word place at same off = found_clear x addr place at (ap (λ (n : ℕ). start_bit n x == 1) (sym same) ∙ off)
+
+    by_place : (o : Option ℕ) → leader_place x addr ≡ o → kind_length (block_in x addr) ≡ None
+    by_place None at = found_nowhere x addr at
+    by_place (Some place) at =
+        let both = or_parts _ _ clear in
+        let whole = (led_at x addr place at).whole in
+        elim (led_where x addr place at) [
+          | inl near ↦ clear_at (addr / 8 - 1) place at (omega (arith, near, whole)) both.0
+          | inr far ↦ clear_at (addr / 8 - 2) place at (omega (arith, far, whole)) both.1
+        ]
+
 -- else it is what its leader says
 pub found_set : (x : List ℕ) (addr place : ℕ) → leader_place x addr ≡ Some place → (start_bit (place / 8) x == 1) ≡ true →
     block_in x addr ≡ block_of (kind_of (leader_kind place x)) (part addr (leader_length place x) x)
@@ -81,6 +112,11 @@ pub found_used : (x : List ℕ) (addr place : ℕ) (kind : Kind) → leader_plac
 found_used x addr place kind at set used =
     ap kind_length (found_set x addr place at set ∙ ap (λ (k : Option Kind). block_of k (part addr (leader_length place x) x)) used)
     ∙ ap (λ (n : ℕ). Some (kind, n)) (length_part x addr (leader_length place x))
+
+-- where no kind is found, there is no block
+pub no_kind : (b : Option Block) → is_some (kind_length b) ≡ false → b ≡ None
+no_kind None is = refl
+no_kind (Some block) is = let d : true ≡ false = is in cc
 
 -- the bytes of a block are a part of the region, behind its leader
 pub record IsPart (x : List ℕ) (addr : ℕ) (block : Block) : Type 0 where
@@ -144,14 +180,6 @@ module _ (x : List ℕ) (addr : ℕ) where
 
   pub has_word : (field : ℕ) → field < length_of (block_in x addr) / 8 → HasWord field (block_in x addr)
   has_word field less = word_there field (block_in x addr) refl less
-
-  word_past : (field : ℕ) (b : Option Block) → length_of b / 8 ≤ field → word_of b field ≡ 0
-  word_past field None past = refl
-  word_past field (Some block) past = ap (λ (t : Bool). cond t (number_at (8 * field) block.bytes) 0) (le-ltb field (length block.bytes / 8) past)
-
-  -- and there is no other
-  pub no_word : (field : ℕ) → length_of (block_in x addr) / 8 ≤ field → word_of (block_in x addr) field ≡ 0
-  no_word field past = word_past field (block_in x addr) past
 
   -- where there is a block of a kind, the address is that of a whole word
   pub record IsWhole (kind : Kind) : Type 0 where

@@ -1,25 +1,15 @@
 // A heap region in memory: its control words, and its blocks in use.
-ghost use Rattle.std.specs.Prelude.{◌≡◌, ◌≤◌, ◌<◌, ◌+◌, ◌*◌, ◌/◌, ◌==◌, length};
+ghost use Rattle.std.specs.Prelude.{◌≡◌, ◌≤◌, ◌<◌, ◌+◌, ◌-◌, ◌*◌, ◌/◌, ◌==◌, ◌||◌, length};
 ghost use Rattle.sdr_base.specs.Blocks.{kind_length};
 ghost use Rattle.sdr_base.specs.Cells.{IsRegionSize};
 ghost use Rattle.sdr_base.specs.KeptHeap.{block_in, leader_place, root_in};
-ghost use Rattle.sdr_base.specs.Kinds.{kind_of};
-ghost use Rattle.sdr_base.specs.Stored.{leader_kind, leader_length, number_at, start_bit};
+ghost use Rattle.sdr_base.specs.Stored.{start_bit};
 ghost use Rattle.sdr_base.specs.declared.line.TheConstants.{START_BITS, WORD};
 ghost use Rattle.audit_owners.specs.View.{is_kind, length_of, word_of};
 
-use byteorder::{BigEndian, ByteOrder};
+use audit_blocks::{number_at, read_label};
 use sdr_base::control::{CONTROL_WORDS, FIRST_NAME, HIGH, LOW, START};
 use sdr_base::{Addr, Kind, START_BITS, WORD};
-
-// The number in the word at a place, in bytes.
-fn number_at(heap: &[u8], place: u64) -> u64
-    requires { place + WORD ≤ length heap.now }
-    ensures { result ≡ number_at place heap.now }
-{
-    let place = place as usize;
-    BigEndian::read_u64(&heap[place..place + 8])
-}
 
 /// The control word of this number, of those that belong to what blocks keep, and 0 for any other.
 pub fn root(heap: &[u8], word: u64) -> u64
@@ -41,23 +31,6 @@ fn has_start_bit(heap: &[u8], word: u64) -> bool
     (heap[(START_BITS + word / 8) as usize] >> (7 - word % 8)) % 2 == 1
 }
 
-// The kind in the leader at a place, `None` where the block is free.
-fn leader_kind(heap: &[u8], place: u64) -> Option<Kind>
-    requires { place < length heap.now }
-    ensures { result ≡ kind_of (leader_kind place heap.now) }
-{
-    Kind::of(heap[place as usize])
-}
-
-// The length in bytes in the leader at a place.
-fn leader_length(heap: &[u8], place: u64) -> u64
-    requires { place + WORD ≤ length heap.now }
-    ensures { result ≡ leader_length place heap.now }
-{
-    let place = place as usize;
-    u64::from(BigEndian::read_u32(&heap[place + 4..place + 8]))
-}
-
 // Where the leader of a block at an address would stand, `None` where no block may begin there.
 fn leader_place(heap: &[u8], addr: Addr) -> Option<u64>
     requires region { IsRegionSize (length heap.now) }
@@ -76,19 +49,38 @@ fn leader_place(heap: &[u8], addr: Addr) -> Option<u64>
     if high <= place { Some(place) } else { None }
 }
 
-/// The kind of the block in use at an address, and how many bytes it has, `None` where none begins there.
+// Whether the start bit of one of the two words before an address is set, with one of which the leader of a block there begins.
+fn is_begun_before(heap: &[u8], addr: Addr) -> bool
+    requires region { IsRegionSize (length heap.now) }
+    requires inside { addr < length heap.now }
+    ensures { result ≡ (start_bit (addr / WORD - 1) heap.now == 1
+        || start_bit (addr / WORD - 2) heap.now == 1) }
+{
+    let word = addr / WORD;
+    has_start_bit(heap, word.saturating_sub(1)) || has_start_bit(heap, word.saturating_sub(2))
+}
+
+/// The kind of the block in use at an address, and how many bytes it has, `None` where none begins there. Mostly none does, which is
+/// found out by two start bits.
 pub fn find(heap: &[u8], addr: Addr) -> Option<(Kind, u64)>
     requires region { IsRegionSize (length heap.now) }
     ensures { result ≡ kind_length (block_in heap.now addr) }
 {
+    if addr >= heap.len() as u64 {
+        return None;
+    }
+    if !is_begun_before(heap, addr) {
+        return None;
+    }
     let Some(place) = leader_place(heap, addr) else {
         return None;
     };
     if !has_start_bit(heap, place / WORD) {
         return None;
     }
-    let count = leader_length(heap, place).min(heap.len() as u64 - addr);
-    match leader_kind(heap, place) {
+    let label = read_label(heap, place);
+    let count = label.length.min(heap.len() as u64 - addr);
+    match Kind::of(label.kind) {
         None => None,
         Some(kind) => Some((kind, count)),
     }

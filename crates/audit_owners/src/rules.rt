@@ -9,7 +9,7 @@ ghost use Rattle.audit_owners.specs.Rules.{AreKept, BreaksFirst, IsBroken, IsKep
 ghost use Rattle.audit_owners.specs.View.{view_in};
 
 use crate::error::Wrong;
-use crate::region::{is_kind, word};
+use crate::region::{find, is_kind, word};
 use sdr_base::layout::{extent, raw, source};
 use sdr_base::{Addr, Kind, Medium, WORD};
 
@@ -45,9 +45,11 @@ pub fn names_raw(heap: &[u8], addr: Addr) -> bool
     requires region { IsRegionSize (length heap.now) }
     ensures { result ≡ is_source_of_raw (block_in heap.now addr) }
 {
+    if !is_kind(heap, addr, Kind::Source) {
+        return false;
+    }
     let medium = word(heap, addr, source::MEDIUM);
-    is_kind(heap, addr, Kind::Source)
-        && (medium == medium_number(Medium::Heap) || medium == medium_number(Medium::Obj))
+    medium == medium_number(Medium::Heap) || medium == medium_number(Medium::Obj)
 }
 
 // Whether the block at an address is a raw object that names a source.
@@ -92,6 +94,9 @@ fn keeps(heap: &[u8], marks: &[bool], rule: OwnerRule, addr: Addr) -> bool
     ensures { (reached : List ℕ) → AreMarked reached marks.now →
         result ≡ keeps_owner_rule (view_in heap.now) reached rule addr }
 {
+    if find(heap, addr).is_none() {
+        return true;
+    }
     match rule {
         OwnerRule::SourceIsThere => {
             !is_kind(heap, addr, Kind::Extent)

@@ -1,6 +1,7 @@
 -- A region for which a world stands passes each check.
-use Rattle.std.proofs.Common.{ℕ, List, Result, Ok, Err, IfErr}
+use Rattle.std.proofs.Common.{ℕ, List, Result, Ok, Err, IfErr, OnOk, length}
 use Rattle.sdr_stands.specs.Standing.{StandsForWhole}
+use Rattle.sdr_base.specs.Cells.{IsRegionSize}
 use Rattle.sdr_base.specs.Pools.{Pools}
 use Rattle.sdr_audit.proofs.LawLemmas.{right_not_wrong}
 use Rattle.sdr_audit.specs.Checked.{IsNoWorld, IsRight, TellsFirst}
@@ -8,6 +9,8 @@ use Rattle.sdr_audit.specs.declared.error.AuditError.{AuditError}
 use Rattle.sdr_audit.specs.declared.error.AuditError.TheVariants as errors
 use Rattle.sdr_model.specs.World.{World}
 use Rattle.audit_owners.specs.Owned.{AreBytes}
+use Rattle.audit_world.proofs.WorldLemmas.{stands_whole}
+use Rattle.audit_world.specs.Standing.{StandsAsTold}
 use Rattle.sdr_audit.proofs.RightLemmas.{world_right}
 use Rattle.sdr_audit.proofs.SoundLemmas.{world_sound}
 
@@ -29,3 +32,8 @@ module _ (bytes : List ℕ) (are : AreBytes bytes) where
   pub none_stands : {T : Type 0} (result : Result T AuditError) → IfErr result (TellsFirst bytes) → IfErr result (IsNoWorld bytes)
   none_stands (Ok value) wrong = tt
   none_stands (Err error) wrong = no_world error wrong
+
+  -- where all is right one does
+  pub right_stands : {T : Type 0} (result : Result T AuditError) → IsRegionSize (length bytes) → OnOk result (IsRight bytes) → OnOk result (StandsAsTold bytes)
+  right_stands (Ok value) region right = stands_whole bytes region are right.sound right.things
+  right_stands (Err error) region right = tt

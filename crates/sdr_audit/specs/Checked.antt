@@ -1,20 +1,16 @@
 -- When a heap region passes the audit, where it is wrong first, and what an audit leaves.
-use Rattle.std.specs.Prelude.{◌≡◌, ◌≤◌, ℕ, List, ⊤, Result, Ok, Err}
+use Rattle.std.specs.Prelude.{◌≡◌, ◌≤◌, ◌⊎◌, ℕ, List, ⊤, Result, Ok, Err}
 use Rattle.sdr_stands.specs.Standing.{StandsForWhole}
 use Rattle.sdr_base.specs.Pools.{Pools}
 use Rattle.sdr_base.specs.Transaction.{HasReason, Transaction}
 use Rattle.sdr_base.specs.declared.stop.Stop.TheVariants as stops
 use Rattle.sdr_audit.specs.declared.error.AuditError.{AuditError}
 use Rattle.sdr_audit.specs.declared.error.AuditError.TheVariants as errors
-use Rattle.sdr_audit.specs.declared.error.Check.{Check}
-use Rattle.sdr_audit.specs.declared.error.Check.TheVariants as whys
 use Rattle.audit_counts.specs.Checked as count
-use Rattle.audit_counts.specs.declared.error.ThingCheck.{ThingCheck}
-use Rattle.audit_counts.specs.declared.error.ThingCheck.TheVariants as things
 use Rattle.sdr_model.specs.World.{World}
 use Rattle.audit_owners.specs.Owned.{AreBytes}
 use Rattle.audit_blocks.specs.Region as region
-use Rattle.audit_blocks.specs.declared.error.StructureCheck.TheVariants as parts
+use Rattle.audit_blocks.specs.declared.error.Check.{Check}
 
 -- A region passes each check: its structure is sound, and owners, counts and queues are right.
 pub record IsRight (bytes : List ℕ) : Type 0 where
@@ -23,20 +19,13 @@ pub record IsRight (bytes : List ℕ) : Type 0 where
   pub things : count.IsRightRegion bytes
 
 -- the structure is sound, and then owners, counts or queues are wrong
-pub record ThingsAreFirst (bytes : List ℕ) (why : ThingCheck) (place : ℕ) : Type 0 where
+pub record ThingsAreFirst (bytes : List ℕ) (why : Check) (place : ℕ) : Type 0 where
   pub sound : region.IsSoundRegion bytes
   pub wrong : count.CountsAreWrongFirst bytes why place
 
--- by this check a region is wrong first, at this place
+-- by this check a region is wrong first, at this place: by one of its structure, or else by one of owners, counts and queues
 abbrev pub IsWrongFirst : List ℕ → Check → ℕ → Type 0
-IsWrongFirst bytes whys.Control place = region.RegionIsWrongFirst bytes parts.Control place
-IsWrongFirst bytes whys.Block place = region.RegionIsWrongFirst bytes parts.Block place
-IsWrongFirst bytes whys.Bits place = region.RegionIsWrongFirst bytes parts.Bits place
-IsWrongFirst bytes whys.Free place = region.RegionIsWrongFirst bytes parts.Free place
-IsWrongFirst bytes whys.Content place = region.RegionIsWrongFirst bytes parts.Content place
-IsWrongFirst bytes whys.Owner place = ThingsAreFirst bytes things.Owner place
-IsWrongFirst bytes whys.Count place = ThingsAreFirst bytes things.Count place
-IsWrongFirst bytes whys.Queue place = ThingsAreFirst bytes things.Queue place
+IsWrongFirst bytes why place = region.RegionIsWrongFirst bytes why place ⊎ ThingsAreFirst bytes why place
 
 -- what was found damaged is what is wrong first
 abbrev pub TellsFirst : List ℕ → AuditError → Type 0

@@ -1,12 +1,11 @@
 // The audit of a heap region.
-ghost use Rattle.std.specs.Prelude.{◌≡◌, ◌*◌, ℕ, false, get_or, length, IfErr, IfOk, OnOk};
+ghost use Rattle.std.specs.Prelude.{◌≡◌, ◌*◌, [], ℕ, false, get_or, length, IfErr, IfOk, OnOk};
 ghost use Rattle.sdr_base.specs.Cells.{IsRegionSize};
 ghost use Rattle.sdr_base.specs.Transaction.{HasReason, TouchesNone};
 ghost use Rattle.sdr_base.specs.declared.line.TheConstants.{WORD};
 ghost use Rattle.sdr_audit.specs.Census.{IsCensus};
 ghost use Rattle.sdr_audit.specs.Checked.{IsNoFault, IsNoWorld, IsRight, OnlyReads, TellsFirst};
-ghost use Rattle.audit_counts.specs.Checked.{IsRightRegion};
-ghost use Rattle.audit_blocks.specs.Region.{IsSoundRegion};
+ghost use Rattle.audit_blocks.specs.Spots.{AreSpots};
 ghost use Rattle.audit_owners.specs.Owned.{AreBytes};
 ghost use Rattle.audit_world.specs.Standing.{StandsAsTold};
 
@@ -14,7 +13,7 @@ use crate::census::Census;
 use crate::error::AuditError;
 use crate::structure::check_structure;
 use audit_blocks::Spot;
-use audit_counts::check_copy;
+use audit_counts::wrong_thing;
 use sdr_base::{Cells, Stop, WORD};
 use std::alloc::Global;
 
@@ -31,21 +30,29 @@ fn read_copy<C: Cells>(c: &mut C, heap: &mut [u8]) -> Result<(), Stop>
     c.read(0, heap)
 }
 
-// Checks owners, counts and queues of a region in memory, whose structure is sound, with nothing marked before.
-fn check_things(alloc: Global, heap: &[u8], marks: &mut [bool]) -> Result<(), AuditError>
+// Checks a region in memory, and takes a census of its blocks, with nothing told or marked before of its words.
+fn check_words(
+    alloc: Global,
+    heap: &[u8],
+    spots: &mut [Spot],
+    marks: &mut [bool],
+) -> Result<Census, AuditError>
     requires region { IsRegionSize (length heap.now) }
     requires bytes { AreBytes heap.now }
-    requires sound { IsSoundRegion heap.now }
-    requires long { length marks.old * WORD ≡ length heap.now }
+    requires spots { length spots.old * WORD ≡ length heap.now }
+    requires untold { AreSpots [] [] spots.old }
+    requires marks { length marks.old * WORD ≡ length heap.now }
     requires clear { (word : ℕ) → get_or marks.old word false ≡ false }
-    ensures right { OnOk result (IsRightRegion heap.now) }
-    ensures stands { OnOk result (StandsAsTold heap.now) }
+    ensures right { OnOk result (IsRight heap.now) }
+    ensures census { IfOk result (IsCensus heap.now) }
     ensures damaged { IfErr result (TellsFirst heap.now) }
-    ensures none { IfErr result (IsNoWorld heap.now) }
     ensures reason { IfErr result IsNoFault }
 {
-    check_copy(alloc, heap, marks)??;
-    Ok(())
+    let census = check_structure(heap, spots)?;
+    if let Some(damage) = wrong_thing(alloc, heap, marks)? {
+        return Err(AuditError::from(damage));
+    }
+    Ok(census)
 }
 
 /// Reads a region into memory, and checks it, as `check` does.
@@ -67,9 +74,7 @@ pub fn check_copied<C: Cells>(
     let mut spots = vec![in alloc; Spot::Nothing; words]?;
     let mut marks = vec![in alloc; false; words]?;
     read_copy(c, heap)?;
-    let census = check_structure(c, &mut spots)?;
-    check_things(alloc, heap, &mut marks)?;
-    Ok(census)
+    check_words(alloc, heap, &mut spots, &mut marks)
 }
 
 /// Checks a heap region, and takes a census of its blocks: its structure, who owns each block, what blocks and control words count, and

@@ -35,9 +35,10 @@ mod sound;
 mod structure;
 mod told;
 
+pub use audit_blocks::Check;
 pub use census::Census;
 pub use checking::check;
-pub use error::{AuditError, Check};
+pub use error::AuditError;
 pub use laws::right_regions_are_not_wrong;
 pub use owned::worlds_are_owned;
 pub use reading::{Survey, read_survey, read_world};

@@ -3,7 +3,7 @@ ghost use Rattle.std.specs.Prelude.{List, ℕ};
 ghost use Rattle.sdr_stands.specs.Standing.{StandsForWhole};
 ghost use Rattle.sdr_base.specs.Pools.{Pools};
 ghost use Rattle.audit_counts.specs.Checked.{IsRightRegion, CountsAreWrongFirst};
-ghost use Rattle.audit_counts.specs.declared.error.ThingCheck.{ThingCheck};
+ghost use Rattle.audit_blocks.specs.declared.error.Check.{Check};
 ghost use Rattle.sdr_model.specs.World.{World};
 ghost use Rattle.audit_owners.specs.Owned.{AreBytes};
 
@@ -12,6 +12,6 @@ ghost use Rattle.audit_owners.specs.Owned.{AreBytes};
 pub fn worlds_are_right()
     ensures right { (bytes : List ℕ) (w : World) (P : Pools) →
         StandsForWhole bytes w P → AreBytes bytes → IsRightRegion bytes }
-    ensures not_wrong { (bytes : List ℕ) (w : World) (P : Pools) (why : ThingCheck) (place : ℕ) →
+    ensures not_wrong { (bytes : List ℕ) (w : World) (P : Pools) (why : Check) (place : ℕ) →
         StandsForWhole bytes w P → AreBytes bytes → CountsAreWrongFirst bytes why place → ⊥ }
 {}

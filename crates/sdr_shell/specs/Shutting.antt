@@ -1,7 +1,7 @@
 -- How it is told why a heap isn't opened: by a status and a last line.
 use Rattle.std.specs.Prelude.{ℕ, List, ◌++◌, codes, decimal}
-use Rattle.sdr_audit.specs.declared.error.Check.{Check}
-use Rattle.sdr_audit.specs.declared.error.Check.TheVariants as whys
+use Rattle.audit_blocks.specs.declared.error.Check.{Check}
+use Rattle.audit_blocks.specs.declared.error.Check.TheVariants as whys
 use Rattle.sdr_shell.specs.declared.status.TheConstants.{DISK_FAULT, NOT_FORMATTED, DAMAGED, NO_MEMORY}
 use Rattle.sdr_station.specs.declared.error.OpenError.{OpenError}
 use Rattle.sdr_station.specs.declared.error.OpenError.TheVariants as errors

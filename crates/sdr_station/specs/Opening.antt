@@ -8,7 +8,7 @@ use Rattle.sdr_base.specs.declared.line.TheConstants.{LINE}
 use Rattle.sdr_audit.specs.Checked.{IsWrongFirst}
 use Rattle.sdr_audit.specs.declared.error.AuditError.{AuditError}
 use Rattle.sdr_audit.specs.declared.error.AuditError.TheVariants as audits
-use Rattle.sdr_audit.specs.declared.error.Check.{Check}
+use Rattle.audit_blocks.specs.declared.error.Check.{Check}
 use Rattle.sdr_disk.specs.Pending.{IsSynced}
 use Rattle.sdr_disk.specs.Told.{Both, IfTold}
 use Rattle.sdr_image.specs.Opening.{MayBeOpened}

@@ -2,7 +2,7 @@
 ghost use Rattle.std.specs.Prelude.{◌≤◌, ◌<◌};
 
 use crate::regions::{HEAP, LINES, region, structure_of};
-use audit_blocks::StructureError;
+use audit_blocks::Damage;
 use sdr_base::{Cells, Stop};
 use std::alloc::Global;
 
@@ -26,7 +26,7 @@ fn is_told(alloc: Global, place: u64, by: u8) -> bool {
     }
     match structure_of(alloc, &mut cells) {
         Some(Ok(())) => true,
-        Some(Err(StructureError::Damaged { place, .. })) => place < 2048,
+        Some(Err(Damage { place, .. })) => place < 2048,
         _ => false,
     }
 }

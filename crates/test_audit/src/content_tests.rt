@@ -2,7 +2,7 @@
 ghost use Rattle.std.specs.Prelude.{◌≡◌, ◌≤◌, length};
 
 use crate::regions::{LINES, Word, audited};
-use audit_blocks::{StructureCheck, StructureError};
+use audit_blocks::{Check, Damage};
 use std::alloc::Global;
 
 // A leader, and the words behind it, with which the small blocks end.
@@ -25,7 +25,7 @@ fn words_of(alloc: Global, leader: u64, words: &[u64]) -> Option<Vec<Word>>
 }
 
 // What an audit of such a heap comes to. `None`: there is no memory for it, or the block has more than 64 words.
-fn lone(alloc: Global, leader: u64, words: &[u64]) -> Option<Result<(), StructureError>> {
+fn lone(alloc: Global, leader: u64, words: &[u64]) -> Option<Result<(), Damage>> {
     if words.len() > 64 {
         return None;
     }
@@ -34,7 +34,7 @@ fn lone(alloc: Global, leader: u64, words: &[u64]) -> Option<Result<(), Structur
 }
 
 // The first row that comes to something else.
-fn wrong_row(alloc: Global, wanted: Result<(), StructureError>, rows: &[Row]) -> Option<usize> {
+fn wrong_row(alloc: Global, wanted: Result<(), Damage>, rows: &[Row]) -> Option<usize> {
     for (number, (leader, words)) in rows.iter().enumerate() {
         if lone(alloc, *leader, words) != Some(wanted) {
             return Some(number);
@@ -184,9 +184,9 @@ const WRONG: [Row; 43] = [
 
 #[test]
 fn other_contents_are_told(rt: HostRuntime) {
-    let wanted = Err(StructureError::Damaged {
+    let wanted = Err(Damage {
         place: 1096,
-        why: StructureCheck::Content,
+        why: Check::Content,
     });
     assert_eq!(rt; wrong_row(rt.alloc(), wanted, &WRONG), None);
 }

@@ -1,15 +1,16 @@
 // What is wrong first with the counts and queues in a small heap, where some words are changed.
 use crate::owner_regions::{Word, checked};
-use audit_counts::ThingCheck;
+use audit_blocks::{Check, Damage};
 use std::alloc::Global;
 
 /// Words that are changed, and the place that is told then.
 type Row = (&'static [Word], u64);
 
 // The first row that is told otherwise.
-fn wrong_row(alloc: Global, words: &[Word], why: ThingCheck, rows: &[Row]) -> Option<usize> {
+fn wrong_row(alloc: Global, words: &[Word], why: Check, rows: &[Row]) -> Option<usize> {
     for (number, (changes, place)) in rows.iter().enumerate() {
-        if checked(alloc, words, changes) != Some(Err((*place, why))) {
+        let wanted = Damage { place: *place, why };
+        if checked(alloc, words, changes) != Some(Err(wanted)) {
             return Some(number);
         }
     }
@@ -83,7 +84,7 @@ const COUNTS_WRONG: [Row; 13] = [
 fn wrong_counts_are_told(rt: HostRuntime) {
     assert_eq!(rt; checked(rt.alloc(), &BUNDLE, &[]), Some(Ok(())));
     assert_eq!(rt;
-        wrong_row(rt.alloc(), &BUNDLE, ThingCheck::Count, &COUNTS_WRONG),
+        wrong_row(rt.alloc(), &BUNDLE, Check::Count, &COUNTS_WRONG),
         None
     );
 }
@@ -122,7 +123,7 @@ fn queues_out_of_order_are_told(rt: HostRuntime) {
     let waiting = [(2336, 0), (2328, 0), (816, 112), (2304, 900)];
     assert_eq!(rt; checked(rt.alloc(), &BUNDLE, &waiting), Some(Ok(())));
     assert_eq!(rt;
-        wrong_row(rt.alloc(), &BUNDLE, ThingCheck::Queue, &ORDER_WRONG),
+        wrong_row(rt.alloc(), &BUNDLE, Check::Queue, &ORDER_WRONG),
         None
     );
 }
@@ -194,15 +195,12 @@ fn wrong_queues_are_told(rt: HostRuntime) {
     // One byte more than the room.
     assert_eq!(rt; checked(rt.alloc(), &BUNDLE, &[(2408, 849)]), Some(Ok(())));
     assert_eq!(rt;
-        wrong_row(rt.alloc(), &BUNDLE, ThingCheck::Queue, &QUEUES_WRONG),
+        wrong_row(rt.alloc(), &BUNDLE, Check::Queue, &QUEUES_WRONG),
         None
     );
     // A chain is told before a count.
     let owner: [Row; 1] = [(&[(2152, 0), (2080, 2)], 2136)];
-    assert_eq!(rt;
-        wrong_row(rt.alloc(), &BUNDLE, ThingCheck::Owner, &owner),
-        None
-    );
+    assert_eq!(rt; wrong_row(rt.alloc(), &BUNDLE, Check::Owner, &owner), None);
 }
 
 const RULES_WRONG: [Row; 8] = [
@@ -251,14 +249,11 @@ const UNUSED: [Row; 2] = [
 #[test]
 fn broken_rules_are_told(rt: HostRuntime) {
     assert_eq!(rt;
-        wrong_row(rt.alloc(), &BUNDLE, ThingCheck::Count, &RULES_WRONG),
+        wrong_row(rt.alloc(), &BUNDLE, Check::Count, &RULES_WRONG),
         None
     );
     assert_eq!(rt; checked(rt.alloc(), &SOURCE, &[]), Some(Ok(())));
-    assert_eq!(rt;
-        wrong_row(rt.alloc(), &SOURCE, ThingCheck::Count, &UNUSED),
-        None
-    );
+    assert_eq!(rt; wrong_row(rt.alloc(), &SOURCE, Check::Count, &UNUSED), None);
 }
 
 // A hash at 2,056 of two buckets and keys of one byte: b at 2,136 in the first bucket, and a at 2,104 in the second.
@@ -348,7 +343,7 @@ const LISTS_WRONG: [Row; 3] = [
 fn wrong_keys_are_told(rt: HostRuntime) {
     assert_eq!(rt; checked(rt.alloc(), &LISTS, &[]), Some(Ok(())));
     assert_eq!(rt;
-        wrong_row(rt.alloc(), &LISTS, ThingCheck::Count, &LISTS_WRONG),
+        wrong_row(rt.alloc(), &LISTS, Check::Count, &LISTS_WRONG),
         None
     );
     // Also with the keys d and b in one bucket.
@@ -356,7 +351,7 @@ fn wrong_keys_are_told(rt: HostRuntime) {
     let both = [(2136, 2104), (2088, 0), (2120, 0x6400_0000_0000_0000)];
     assert_eq!(rt; checked(rt.alloc(), &HASH, &both), Some(Ok(())));
     assert_eq!(rt;
-        wrong_row(rt.alloc(), &HASH, ThingCheck::Count, &HASH_WRONG),
+        wrong_row(rt.alloc(), &HASH, Check::Count, &HASH_WRONG),
         None
     );
     // Also with the names ab and a.
@@ -364,7 +359,7 @@ fn wrong_keys_are_told(rt: HostRuntime) {
     let shorter = [(2144, 0x0161_0000_0000_0000)];
     assert_eq!(rt; checked(rt.alloc(), &NAMES, &shorter), Some(Ok(())));
     assert_eq!(rt;
-        wrong_row(rt.alloc(), &NAMES, ThingCheck::Count, &NAMES_WRONG),
+        wrong_row(rt.alloc(), &NAMES, Check::Count, &NAMES_WRONG),
         None
     );
 }

@@ -3,25 +3,19 @@ ghost use Rattle.std.specs.Prelude.{◌≤◌};
 ghost use Rattle.sdr_base.specs.declared.line.TheConstants.{LEAST_LINES, MOST_LINES};
 
 use crate::regions::{HEAP, LINES, Word, audited};
-use audit_blocks::{StructureCheck, StructureError};
+use audit_blocks::{Check, Damage};
 use std::alloc::Global;
 
 /// Words that are changed, and the place at which that is told.
 type Row = (&'static [Word], u64);
 
 // The first row that is told otherwise than by this check at its place.
-fn wrong_row(
-    alloc: Global,
-    lines: u64,
-    words: &[Word],
-    why: StructureCheck,
-    rows: &[Row],
-) -> Option<usize>
+fn wrong_row(alloc: Global, lines: u64, words: &[Word], why: Check, rows: &[Row]) -> Option<usize>
     requires least { LEAST_LINES ≤ lines }
     requires most { lines ≤ MOST_LINES }
 {
     for (number, (changes, place)) in rows.iter().enumerate() {
-        let wanted = StructureError::Damaged { place: *place, why };
+        let wanted = Damage { place: *place, why };
         if audited(alloc, lines, words, changes) != Some(Err(wanted)) {
             return Some(number);
         }
@@ -70,7 +64,7 @@ const CONTROL: [Row; 24] = [
 #[test]
 fn control_words_are_checked_first(rt: HostRuntime) {
     assert_eq!(rt;
-        wrong_row(rt.alloc(), LINES, &HEAP, StructureCheck::Control, &CONTROL),
+        wrong_row(rt.alloc(), LINES, &HEAP, Check::Control, &CONTROL),
         None
     );
 }
@@ -135,7 +129,7 @@ const BLOCK: [Row; 30] = [
 #[test]
 fn blocks_are_checked_next(rt: HostRuntime) {
     assert_eq!(rt;
-        wrong_row(rt.alloc(), LINES, &HEAP, StructureCheck::Block, &BLOCK),
+        wrong_row(rt.alloc(), LINES, &HEAP, Check::Block, &BLOCK),
         None
     );
 }
@@ -156,7 +150,7 @@ const BITS: [Row; 8] = [
 #[test]
 fn start_bits_are_checked_then(rt: HostRuntime) {
     assert_eq!(rt;
-        wrong_row(rt.alloc(), LINES, &HEAP, StructureCheck::Bits, &BITS),
+        wrong_row(rt.alloc(), LINES, &HEAP, Check::Bits, &BITS),
         None
     );
 }
@@ -199,7 +193,7 @@ const FREE: [Row; 26] = [
 #[test]
 fn lists_of_free_blocks_are_checked_after_that(rt: HostRuntime) {
     assert_eq!(rt;
-        wrong_row(rt.alloc(), LINES, &HEAP, StructureCheck::Free, &FREE),
+        wrong_row(rt.alloc(), LINES, &HEAP, Check::Free, &FREE),
         None
     );
 }
@@ -221,14 +215,11 @@ fn a_fresh_heap_passes(rt: HostRuntime) {
 }
 
 // One word of a fresh heap is changed.
-const CROSSED: [(&[Row], StructureCheck); 4] = [
-    (&[(&[(32, 2056)], 32)], StructureCheck::Free),
-    (&[(&[(16, 2056)], 2048)], StructureCheck::Block),
-    (&[(&[(864, 0)], 864)], StructureCheck::Control),
-    (
-        &[(&[(1024, 0x8000_0000_0000_0000)], 1024)],
-        StructureCheck::Bits,
-    ),
+const CROSSED: [(&[Row], Check); 4] = [
+    (&[(&[(32, 2056)], 32)], Check::Free),
+    (&[(&[(16, 2056)], 2048)], Check::Block),
+    (&[(&[(864, 0)], 864)], Check::Control),
+    (&[(&[(1024, 0x8000_0000_0000_0000)], 1024)], Check::Bits),
 ];
 
 #[test]
@@ -267,7 +258,7 @@ fn large_blocks_are_told_by_their_begin_and_by_their_address(rt: HostRuntime) {
             rt.alloc(),
             1024,
             &FRESH,
-            StructureCheck::Block,
+            Check::Block,
             &[(&NO_WORDS, 65_504)]
         ),
         None
@@ -277,7 +268,7 @@ fn large_blocks_are_told_by_their_begin_and_by_their_address(rt: HostRuntime) {
             rt.alloc(),
             1024,
             &FRESH,
-            StructureCheck::Content,
+            Check::Content,
             &[(&SHORT_LIST, 65_512)]
         ),
         None
@@ -312,13 +303,7 @@ const NO_LEADER: [Row; 3] = [
 fn a_large_block_of_no_words_is_told_at_its_own_begin(rt: HostRuntime) {
     assert_eq!(rt; audited(rt.alloc(), 64, &ONE_LARGE, &[]), Some(Ok(())));
     assert_eq!(rt;
-        wrong_row(
-            rt.alloc(),
-            64,
-            &ONE_LARGE,
-            StructureCheck::Block,
-            &NO_LEADER
-        ),
+        wrong_row(rt.alloc(), 64, &ONE_LARGE, Check::Block, &NO_LEADER),
         None
     );
 }

@@ -1,7 +1,8 @@
 // Heap regions in memory, by the words in them.
 ghost use Rattle.std.specs.Prelude.{◌≤◌};
 
-use audit_counts::{ThingCheck, check_copy};
+use audit_blocks::Damage;
+use audit_counts::wrong_thing;
 use audit_owners::check_owners;
 use sdr_audit::{AuditError, check, read_world};
 use sdr_base::{Cells, MemoryCells, Stop, WORD, write_number};
@@ -45,20 +46,16 @@ pub fn audited(alloc: Global, words: &[Word], changes: &[Word]) -> Option<Result
     }
 }
 
-/// The same of owners, counts and queues: what is wrong first, and the check that found it.
-pub fn checked(
-    alloc: Global,
-    words: &[Word],
-    changes: &[Word],
-) -> Option<Result<(), (u64, ThingCheck)>> {
+/// The same of owners, counts and queues.
+pub fn checked(alloc: Global, words: &[Word], changes: &[Word]) -> Option<Result<(), Damage>> {
     let mut cells = filled(alloc, words, changes)?;
     let size = cells.size();
     let mut heap = vec![in alloc; 0u8; size as usize].ok()?;
     let mut marks = vec![in alloc; false; (size / WORD) as usize].ok()?;
     cells.read(0, &mut heap).ok()?;
-    match check_copy(alloc, &heap, &mut marks).ok()? {
-        Ok(()) => Some(Ok(())),
-        Err(damage) => Some(Err((damage.place, damage.why))),
+    match wrong_thing(alloc, &heap, &mut marks).ok()? {
+        None => Some(Ok(())),
+        Some(damage) => Some(Err(damage)),
     }
 }
 

@@ -2,7 +2,7 @@
 ghost use Rattle.std.specs.Prelude.{◌≤◌};
 ghost use Rattle.sdr_base.specs.declared.line.TheConstants.{LEAST_LINES, MOST_LINES};
 
-use audit_blocks::{Spot, StructureError};
+use audit_blocks::{Damage, Spot};
 use sdr_audit::check_structure;
 use sdr_base::{Cells, MemoryCells, Stop, WORD, write_number};
 use std::alloc::Global;
@@ -40,12 +40,14 @@ pub fn region(alloc: Global, lines: u64, words: &[Word], changes: &[Word]) -> Op
 }
 
 /// What an audit of the structure of a region comes to. `None`: there is no memory for it.
-pub fn structure_of(alloc: Global, cells: &mut MemoryCells) -> Option<Result<(), StructureError>> {
-    let words = (cells.size() / WORD) as usize;
-    let mut spots = vec![in alloc; Spot::Nothing; words].ok()?;
-    match check_structure(cells, &mut spots) {
+pub fn structure_of(alloc: Global, cells: &mut MemoryCells) -> Option<Result<(), Damage>> {
+    let size = cells.size();
+    let mut heap = vec![in alloc; 0u8; size as usize].ok()?;
+    let mut spots = vec![in alloc; Spot::Nothing; (size / WORD) as usize].ok()?;
+    cells.read(0, &mut heap).ok()?;
+    match check_structure(&heap, &mut spots) {
         Ok(_) => Some(Ok(())),
-        Err(error) => Some(Err(error)),
+        Err(damage) => Some(Err(damage)),
     }
 }
 
@@ -55,7 +57,7 @@ pub fn audited(
     lines: u64,
     words: &[Word],
     changes: &[Word],
-) -> Option<Result<(), StructureError>>
+) -> Option<Result<(), Damage>>
     requires least { LEAST_LINES ≤ lines }
     requires most { lines ≤ MOST_LINES }
 {

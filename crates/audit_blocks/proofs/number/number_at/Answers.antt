@@ -2,7 +2,7 @@ use Rattle.std.proofs.Common.{◌≡◌, ◌∙◌, ◌+◌, ◌-◌, ℕ, take,
 use Rattle.byteorder.specs.Endian.{big_number}
 use Rattle.sdr_base.proofs.StoredLemmas.{big_number-part}
 use Rattle.sdr_base.specs.Stored.{number_at}
-use Rattle.audit_owners.proofs.region.number_at.Goals as goal
+use Rattle.audit_blocks.proofs.number.number_at.Goals as goal
 
 pub returns : goal.returns
 unfolding number_at
