@@ -7,6 +7,7 @@ use Rattle.std.specs.List.{AllByRecursion, IsDistinct, list_any}
 use Rattle.std.specs.Option.{option_map_or}
 use Rattle.std.specs.Prelude.{All, length, map, slice_index_or, slice_set, sum_by, is_some, nat_eq, slice_get}
 use Rattle.std.proofs.lemmas.List.Folds.{list_all_at}
+use Rattle.std.proofs.lemmas.Option.{get_or_from_slice_get, slice_get_within}
 use Rattle.sdr_machine.proofs.RollLemmas.{among, found_number, number_same, other_put, same_number, turned}
 use Rattle.law_runs.proofs.RunLemmas.{run_keeps, run_members}
 use Rattle.sdr_core.specs.CoreKept.{RunStart, LoggedLock, core_at, KeepsRun}
@@ -226,6 +227,12 @@ turn_at g b script k new these place s s' run failed l stays here turns lasts =
         others = refl;
       },
     )
+
+-- the place that each daemon has come to is one of the script
+pub place_within : {T : Type 0} (g : Ghosts T) (b : RunStart) (script : List ScriptStep) (k : LoggedLock T) (these : List ScriptPlace) (place : ℕ) (s : ScriptPlace) → IsScriptedRun g b script k these
+    → slice_get these place ≡ Some s → s.place ≤ length script
+place_within g b script k these place s l there =
+    subst (λ (z : ScriptPlace). z.place ≤ length script) (get_or_from_slice_get these place s s there) (l.holds place s (slice_get_within these place s there)).within
 
 sum_most : (these : List ScriptPlace) → ((i : ℕ) (d : ScriptPlace) → i < length these → (slice_index_or these i d).drawn ≤ 2 ^ 40) → sum_by (λ (s : ScriptPlace). s.drawn) these ≤ length these * 2 ^ 40
 sum_most [] each = omega arith

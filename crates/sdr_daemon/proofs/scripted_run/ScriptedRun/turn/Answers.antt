@@ -16,20 +16,20 @@ turn-requires-clause-drawn g c =
 pub returns-clause-turns : goal.returns-clause-turns
 returns-clause-turns g c stays =
     subst (λ (v : ScriptedCore g.row.T.Denot). TurnsAt g.J.Origin.begins g.S.Scripted.script c.args.place v (record { core = c.turn.new.core; progress = slice_set c.self.inside.progress.items c.args.place c.turn.new.progress })) c.self.view_is
-    (turn_at g.T.HasGround g.J.Origin.begins g.S.Scripted.script c.self.inside.core c.turn.new.core c.self.inside.progress.items c.args.place c.index_mut.result.now c.turn.new.progress
+    (turn_at g.T.HasGround g.J.Origin.begins g.S.Scripted.script c.self.inside.core c.turn.new.core c.self.inside.progress.items c.args.place c.in-Some.own.now c.turn.new.progress
     (subst (λ (v : ScriptedCore g.row.T.Denot). KeepsRun g.T.HasGround g.J.Origin.begins v.core) (sym c.self.view_is) c.is_gone.ensures.run)
     (subst (λ (v : ScriptedCore g.row.T.Denot). is_some v.core.lock.roll.failed ≡ not (is_sound v.core.log.journal)) (sym c.self.view_is) c.is_gone.ensures.failed)
     c.self.invariant.0
     (subst (λ (v : ScriptedCore g.row.T.Denot). is_gone c.args.place v ≡ false) (sym c.self.view_is) stays)
-    c.index_mut.ensures.value c.turn.ensures.ends c.turn.ensures.lasts).1
+    c.in-Some.ensures.value c.turn.ensures.ends c.turn.ensures.lasts).1
 
 pub invariant_of-self : goal.invariant_of-self
 invariant_of-self g c = (
-  (turn_at g.T.HasGround g.J.Origin.begins g.S.Scripted.script c.self.inside.core c.turn.new.core c.self.inside.progress.items c.args.place c.index_mut.result.now c.turn.new.progress
+  (turn_at g.T.HasGround g.J.Origin.begins g.S.Scripted.script c.self.inside.core c.turn.new.core c.self.inside.progress.items c.args.place c.in-Some.own.now c.turn.new.progress
       (subst (λ (v : ScriptedCore g.row.T.Denot). KeepsRun g.T.HasGround g.J.Origin.begins v.core) (sym c.self.view_is) c.is_gone.ensures.run)
       (subst (λ (v : ScriptedCore g.row.T.Denot). is_some v.core.lock.roll.failed ≡ not (is_sound v.core.log.journal)) (sym c.self.view_is) c.is_gone.ensures.failed)
       c.self.invariant.0
       (subst (λ (v : ScriptedCore g.row.T.Denot). is_gone c.args.place v ≡ false) (sym c.self.view_is) (sym c.is_gone.ensures.gone ∙ c.if-is_gone.false))
-      c.index_mut.ensures.value c.turn.ensures.ends c.turn.ensures.lasts).0,
+      c.in-Some.ensures.value c.turn.ensures.ends c.turn.ensures.lasts).0,
   c.self.invariant.1,
 )
