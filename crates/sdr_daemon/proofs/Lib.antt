@@ -10,7 +10,6 @@ pub mod InsideLemmas
 pub mod InventedRow
 pub mod LineLemmas
 pub mod LookLemmas
-pub mod NextTurnLemmas
 pub mod RowLemmas
 pub mod RunLemmas
 pub mod SayLemmas

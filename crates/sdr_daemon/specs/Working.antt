@@ -1,5 +1,5 @@
 -- The transaction of a turn: what its begin and its lines come to.
-use Rattle.std.specs.Prelude.{◌≡◌, ◌≤◌, ◌+◌, ◌++◌, ℕ, List, true, None}
+use Rattle.std.specs.Prelude.{◌≡◌, ◌≤◌, ◌+◌, ◌++◌, ℕ, List, true, None, length}
 use Rattle.sdr_core.specs.CoreKept.{KeepsRun, LoggedLock, RunStart}
 use Rattle.sdr_daemon.specs.declared.turn.LineOutcome.TheVariants as outcomes
 use Rattle.sdr_daemon.specs.declared.turn.LineOutcome.{LineOutcome}

@@ -113,7 +113,10 @@ fn take_turns_in_threads<
     thread::scope(thread::scope_env(), rt, |scope| {
         let mut refused = false;
         for place in 0..places {
-            if scope.spawn(move || take_turns(rt, run, gate, place)).is_err() {
+            if scope
+                .spawn(move || take_turns(rt, run, gate, place))
+                .is_err()
+            {
                 refused = true;
             }
         }

@@ -47,7 +47,7 @@ impl<T: Tells, J: Origin, S: Scripted> Model for ScriptedRun<T, J, S> {
 
 // The daemons of a roll before their first lines. It takes no memory.
 fn progress_of(alloc: Global, roll: &Roll) -> ArrayVec<ScriptPlace, MOST_DAEMONS, Global>
-    requires few { length roll.now.daemons ≤ MOST_DAEMONS }
+    requires { length roll.now.daemons ≤ MOST_DAEMONS }
     ensures { result.items ≡ map (λ d. first_progress d.id) roll.now.daemons }
 {
     let mut progress = ArrayVec::new_in(alloc);
@@ -122,9 +122,7 @@ impl<T: Tells, J: Origin, S: Scripted> ScriptedRun<T, J, S> {
         if self.is_gone(place) {
             return;
         }
-        let Some(own) = self.progress.get_mut(place) else {
-            return;
-        };
+        let own = &mut self.progress.as_mut_slice()[place];
         turn::<T, J, S>(self.alloc, &mut self.core, own, self.script.as_slice());
     }
 

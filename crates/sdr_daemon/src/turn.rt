@@ -286,9 +286,7 @@ pub fn turn<T: Tells, J: Origin, S: Scripted>(
     requires at { MayTakeTurn T.HasGround J.begins S.script core.old progress.old }
     requires script { script.now ≡ S.script }
     requires drawn { core.old.lock.roll.drawn + 1 < 2 ^ 60 }
-    requires few { progress.old.drawn < 2 ^ 40 }
     requires lasts { LastsOn T.HasGround core.old.lock.base }
-    requires within { progress.old.place ≤ length S.script }
     ensures ends { TakesTurn T.HasGround J.begins S.script core.old core.new progress.old
         progress.new }
     ensures lasts { LastsOn T.HasGround core.new.lock.base }
