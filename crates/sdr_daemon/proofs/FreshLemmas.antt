@@ -1,6 +1,9 @@
 -- Before any turn each daemon is at its first line.
-use Rattle.std.proofs.Common.{◌≡◌, ◌∙◌, ◌<◌, ◌+◌, ◌==◌, ℕ, zero, suc, List, [], ◌∷◌, Bool, true, false, Some, arith, refl, sym, ap, subst, cond, length, map}
+use Rattle.std.proofs.Common.{◌≡◌, ◌∙◌, ◌<◌, ◌+◌, ◌≤◌, ◌==◌, ℕ, zero, suc, List, [], ◌∷◌, Bool, true, false, Some, arith, refl, sym, ap, subst, cond, length, map}
 use Rattle.std.proofs.lemmas.Bool.Decides.{nat_tests}
+use Rattle.std.proofs.lemmas.List.{length-map}
+use Rattle.std.proofs.lemmas.List.FromFn.{length-range_with_len}
+use Rattle.std.proofs.lemmas.List.Sums.{count_by-le-length, length-filter}
 use Rattle.std.specs.List.{AllByRecursion, IsDistinct, filter, list_any, range_with_len}
 use Rattle.std.specs.Prelude.{All, nat_eq, slice_index_or}
 use Rattle.sdr_machine.proofs.RollLemmas.{among, number_same, same_number}
@@ -51,6 +54,15 @@ range_apart from (suc len) = (above_other from (from + 1) len (omega arith), ran
 -- the daemons that a script names are distinct
 named_apart : (script : List ScriptStep) → IsDistinct nat_eq (daemons_of script)
 named_apart script = picked_apart (λ daemon. list_any (λ (step : ScriptStep). step.daemon == daemon) script) all_daemons (range_apart 1 16)
+
+-- and at most 16
+named_few : (script : List ScriptStep) → length (daemons_of script) ≤ 16
+named_few script =
+    let p : ℕ → Bool = λ daemon. list_any (λ (step : ScriptStep). step.daemon == daemon) script in
+    let kept = length-filter p all_daemons in
+    let few = count_by-le-length p all_daemons in
+    let all = length-range_with_len 1 16 in
+    omega (arith, kept, few, all)
 
 -- newcomers hold no number
 none_hold : (ids : List ℕ) → hold_none (map newcomer ids) ≡ true
@@ -136,3 +148,10 @@ pub fresh_progress : {T : Type 0} (g : Ghosts T) (b : RunStart) (k : LoggedLock 
     → these ≡ map (λ (d : Daemon). first_progress d.id) r.daemons → these ≡ map first_progress b.daemons
 fresh_progress g b k r these fresh same is =
     is ∙ ap (λ (z : Roll). map (λ (d : Daemon). first_progress d.id) z.daemons) (same ∙ fresh.roll) ∙ progress_of-newcomers b.daemons
+
+-- a fresh core has at most 16 daemons
+pub fresh_few : {T : Type 0} (g : Ghosts T) (b : RunStart) (script : List ScriptStep) (k : LoggedLock T) (r : Roll) → IsFresh g b k → b.daemons ≡ daemons_of script → r ≡ k.lock.roll → length r.daemons ≤ 16
+fresh_few g b script k r fresh named same =
+    let is : length r.daemons ≡ length (map newcomer b.daemons) = ap (λ (z : Roll). length z.daemons) (same ∙ fresh.roll) in
+    let ids : length b.daemons ≡ length (daemons_of script) = ap length named in
+    omega (arith, is, ids, length-map b.daemons newcomer, named_few script)

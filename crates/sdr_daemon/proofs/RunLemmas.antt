@@ -7,6 +7,8 @@ use Rattle.std.specs.List.{AllByRecursion, IsDistinct, list_any}
 use Rattle.std.specs.Option.{option_map_or}
 use Rattle.std.specs.Prelude.{All, length, map, slice_index_or, slice_set, sum_by, is_some, nat_eq, slice_get}
 use Rattle.std.proofs.lemmas.List.Folds.{list_all_at}
+use Rattle.arrayvec.proofs.ArrayVecLemmas.{items-with_items}
+use Rattle.arrayvec.specs.ArrayVec.{ArrayVec, with_items}
 use Rattle.sdr_machine.proofs.RollLemmas.{among, found_number, number_same, other_put, same_number, turned}
 use Rattle.law_runs.proofs.RunLemmas.{run_keeps, run_members}
 use Rattle.sdr_core.specs.CoreKept.{RunStart, LoggedLock, core_at, KeepsRun}
@@ -226,6 +228,26 @@ turn_at g b script k new these place s s' run failed l stays here turns lasts =
         others = refl;
       },
     )
+
+-- what is read at a place through the slice of these is what stands there
+read_at : (seen these : List ScriptPlace) (place : ℕ) (d : ScriptPlace) → seen ≡ these → place < length these → slice_index_or seen place d ≡ slice_index_or these place (slice_index_or seen place d)
+read_at seen these place d same within = ap (λ l. slice_index_or l place d) same ∙ get_or_default these place d (slice_index_or seen place d) within
+
+-- what is written there through that slice stands there
+written_at : (v : ArrayVec ScriptPlace) (seen : List ScriptPlace) (place : ℕ) (s : ScriptPlace) → seen ≡ v.items → (with_items v (slice_set seen place s)).items ≡ slice_set v.items place s
+written_at v seen place s same = items-with_items v (slice_set seen place s) (length-set seen place s ∙ ap length same) ∙ ap (λ l. slice_set l place s) same
+
+-- so it is with a turn that is taken through the slice
+pub turned_at : {T : Type 0} (g : Ghosts T) (b : RunStart) (script : List ScriptStep) (k new : LoggedLock T) (v : ArrayVec ScriptPlace) (seen : List ScriptPlace) (place : ℕ) (d s' : ScriptPlace) → KeepsRun g b k
+    → is_some k.lock.roll.failed ≡ not (is_sound k.log.journal) → IsScriptedRun g b script k v.items → is_gone place (record { core = k; progress = v.items }) ≡ false
+    → seen ≡ v.items → TakesTurn g b script k new (slice_index_or seen place d) s' → LastsOn g new.lock.base
+    → IsScriptedRun g b script new (with_items v (slice_set seen place s')).items
+    × TurnsAt b script place (record { core = k; progress = v.items }) (record { core = new; progress = (with_items v (slice_set seen place s')).items })
+turned_at g b script k new v seen place d s' run failed l here same turns lasts =
+    let at = at_place (λ (z : ScriptPlace). has_left k.lock.roll z.daemon) v.items place d here in
+    subst (λ (these : List ScriptPlace). IsScriptedRun g b script new these × TurnsAt b script place (record { core = k; progress = v.items }) (record { core = new; progress = these }))
+    (sym (written_at v seen place s' same))
+    (turn_at g b script k new v.items place (slice_index_or seen place d) s' run failed l here (read_at seen v.items place d same at.0) turns lasts)
 
 sum_most : (these : List ScriptPlace) → ((i : ℕ) (d : ScriptPlace) → i < length these → (slice_index_or these i d).drawn ≤ 2 ^ 40) → sum_by (λ (s : ScriptPlace). s.drawn) these ≤ length these * 2 ^ 40
 sum_most [] each = omega arith

@@ -22,9 +22,10 @@ use Rattle.sdr_daemon.proofs.StepLemmas.{IsStep, is_statement, is_step, step_sta
 use Rattle.sdr_daemon.proofs.TurnLemmas.{IsFree, draws_one, ends_turn, id_is, is_free, on_way, there, ticket_of, turned}
 use Rattle.sdr_daemon.specs.Progressing.{IsOnWay, MeansToLeave, WasLookRefused, steps_ahead}
 use Rattle.sdr_daemon.specs.Scripts.{HasKeptSoFar, DaemonKeepsToScript}
-use Rattle.sdr_daemon.specs.TakingTurns.{AddsAtMostOne, EndsTurn, IsBeforeTurn, IsInWork}
+use Rattle.sdr_daemon.specs.TakingTurns.{AddsAtMostOne, EndsTurn, IsBeforeTurn}
 use Rattle.sdr_daemon.specs.TurnEvents.{BeforeTurn, IsOverWith, SaysOn, before_of}
 use Rattle.sdr_daemon.specs.Turns.{DaemonTurn, IsTurn, Phase, SayLines, after_turn, entries_by, names_after, opens_work, steps_by}
+use Rattle.sdr_daemon.specs.Working.{IsInWork}
 use Rattle.sdr_daemon.specs.declared.script_place.ScriptPlace.{ScriptPlace}
 
 module _ {T : Type 0} (g : Ghosts T) (b : RunStart) (script : List ScriptStep) (x : Daemon) (old : LoggedLock T) (s : ScriptPlace) (t : IsBeforeTurn g b script x old s) where

@@ -18,8 +18,9 @@ use Rattle.sdr_words.specs.Bindings.{bound, event_of}
 use Rattle.sdr_daemon.proofs.SayLemmas.{begun, begun_open, cut_off, line_off, line_on}
 use Rattle.sdr_daemon.proofs.TurnLemmas.{starves}
 use Rattle.sdr_daemon.specs.Progressing.{MeansToLeave, steps_ahead}
-use Rattle.sdr_daemon.specs.TakingTurns.{BeginComesTo, ComesToWork, DoesLine, EndsTurn, GoesBy, IsBeforeTurn, LineComesTo, MayTakeTurn, SaysLine, TakesTurn}
+use Rattle.sdr_daemon.specs.TakingTurns.{DoesLine, EndsTurn, GoesBy, IsBeforeTurn, MaySayNext, MayTakeTurn, SaysLine, TakesTurn}
 use Rattle.sdr_daemon.specs.TurnEvents.{before_of}
+use Rattle.sdr_daemon.specs.Working.{BeginComesTo, ComesToWork, LineComesTo}
 use Rattle.sdr_daemon.specs.declared.script_place.ScriptPlace.{ScriptPlace}
 use Rattle.sdr_daemon.specs.declared.turn.LineOutcome.{LineOutcome}
 
@@ -33,23 +34,22 @@ names_held step after answer s s' m none = by m.names
 
 module _ {T : Type 0} (g : Ghosts T) (b : RunStart) (script : List ScriptStep) (old : LoggedLock T) (s : ScriptPlace) where
   pub begins_so : (new : LoggedLock T) (sa : ScriptPlace) (step : ScriptStep) (after : ℕ) (event : Event) (outcome : LineOutcome) → SaysLine g step after event old new s sa outcome → (outcome ≡ outcomes.Unsaid → ⊥)
-      → event ≡ events.Begin → steps_ahead script s.daemon s.place ≡ step ∷ steps_ahead script s.daemon after → after ≤ length script → s.leaving ≡ None → event_of s.names step ≡ events.Begin
-      → old.lock.roll.failed ≡ None → BeginComesTo outcome g b script old new s (record sa { drawn = sa.drawn + 1 })
-  begins_so new sa step after event outcome (SaysLine.unsaid is core seat) said begin here within none made sound = absurd (said is)
-  begins_so new sa step after event outcome (SaysLine.said came makes moves goes) said begin here within none made sound = by outcome goes
+      → event ≡ events.Begin → MaySayNext script old.lock.roll s step after events.Begin → BeginComesTo outcome g b script old new s (record sa { drawn = sa.drawn + 1 })
+  begins_so new sa step after event outcome (SaysLine.unsaid is core seat) said begin may = absurd (said is)
+  begins_so new sa step after event outcome (SaysLine.said came makes moves goes) said begin may = by outcome goes
     where
       makes_begin : MakesCoreStep g s.daemon step.line events.Begin came old.lock old.log new.lock new.log
       makes_begin = subst (λ (ev : Event). MakesCoreStep g s.daemon step.line ev came old.lock old.log new.lock new.log) begin makes
 
       comes : ComesToWork g b script old new s (record sa { drawn = sa.drawn + 1 })
       comes x t =
-          begun g b script x old s t new (record sa { drawn = sa.drawn + 1 }) step after came here within none made sound makes_begin moves.place moves.daemon
+          begun g b script x old s t new (record sa { drawn = sa.drawn + 1 }) step after came may.ahead may.within may.stays may.made may.sound makes_begin moves.place moves.daemon
           (ap (λ n. n + 1) moves.drawn) (names_held step after came.answer s sa moves)
 
       by : (w : LineOutcome) → GoesBy w came.answer s.leaving sa.leaving → BeginComesTo w g b script old new s (record sa { drawn = sa.drawn + 1 })
-      by outcomes.On goes = (comes, goes.1 ∙ none)
+      by outcomes.On goes = (comes, goes.1 ∙ may.stays)
       by outcomes.Closed goes =
-          λ x t. true≢false (sym (subst IsSome (begun_open g b script x old s t new step.line came sound makes_begin) goes))
+          λ x t. true≢false (sym (subst IsSome (begun_open g b script x old s t new step.line came may.sound makes_begin) goes))
       by outcomes.Starved goes = comes
       by outcomes.Unsaid goes = absurd goes
 

@@ -1,5 +1,7 @@
+pub mod Coming
 pub mod Progressing
 pub mod Scripts
 pub mod TakingTurns
 pub mod TurnEvents
 pub mod Turns
+pub mod Working

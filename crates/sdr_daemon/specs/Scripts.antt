@@ -1,5 +1,5 @@
 -- When a journal keeps to the scripts: each daemon's entries are its lines in order.
-use Rattle.std.specs.Prelude.{◌≡◌, ◌<◌, ◌≤◌, ◌⊎◌, ◌^◌, ◌&&◌, ℕ, List, [], ◌∷◌, ◌++◌, ◌==◌, All, true, not, filter, flat_map, nat_lt, Option, None, Some, ⊤}
+use Rattle.std.specs.Prelude.{◌≡◌, ◌<◌, ◌≤◌, ◌⊎◌, ◌^◌, ◌&&◌, ℕ, List, [], ◌∷◌, ◌++◌, ◌==◌, All, Bool, true, false, not, filter, flat_map, nat_lt, Option, None, Some, ⊤}
 use Rattle.std.specs.List.{AllByRecursion, list_all, list_any}
 use Rattle.sdr_base.specs.Media.{Told}
 use Rattle.sdr_machine.specs.Ground.{State}
@@ -10,6 +10,7 @@ use Rattle.sdr_model.specs.declared.event.Leave.TheVariants as leaves
 use Rattle.sdr_model.specs.declared.event.Leave.{Leave}
 use Rattle.sdr_model.specs.declared.journal.Entry.{Entry}
 use Rattle.sdr_model.specs.declared.journal.What.TheVariants as whats
+use Rattle.sdr_model.specs.declared.journal.What.{What}
 use Rattle.sdr_model.specs.declared.script.ScriptStep.{ScriptStep}
 use Rattle.sdr_words.specs.Bindings.{Binding, event_of}
 use Rattle.sdr_words.specs.Daemons.{daemons_of}
@@ -69,6 +70,15 @@ pub record IsLookRefused (told : Option Told) (daemons : List ℕ) (first : Stat
   pub before : State
   pub after : Lead told daemons [] first (filter (λ (e : Entry). nat_lt e.number number) journal) before
   pub none : pending_of before.world ticket ≡ Option.None
+
+-- whether a daemon leaves by this, for want of memory
+abbrev pub leaves_for_memory : What → Bool
+leaves_for_memory (whats.Leaves leaves.Memory) = true
+leaves_for_memory what = false
+
+-- whether the entry is a leave for want of memory
+abbrev pub is_memory_leave : Entry → Bool
+is_memory_leave e = leaves_for_memory e.what
 
 -- The journal keeps to the scripts of the daemons that the script names: the entries of each keep to its lines, and no other has one.
 pub record KeepsToScripts (told : Option Told) (first : State) (script : List ScriptStep) (journal : List Entry) : Type 0 where

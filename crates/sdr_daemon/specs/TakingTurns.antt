@@ -1,5 +1,5 @@
 -- What a turn of a daemon does to a core and to the daemon's progress.
-use Rattle.std.specs.Prelude.{◌≡◌, ◌<◌, ◌≤◌, ◌⊎◌, ◌^◌, ◌+◌, ◌++◌, ℕ, List, [], ◌∷◌, Bool, false, not, true, Option, None, Some, IsSome, is_some, length, slice_get, slice_index_or, slice_set, ⊤}
+use Rattle.std.specs.Prelude.{◌≡◌, ◌<◌, ◌≤◌, ◌⊎◌, ◌^◌, ◌+◌, ℕ, List, [], ◌∷◌, Bool, false, not, true, Option, None, Some, IsSome, is_some, length, slice_get, slice_index_or, slice_set, ⊤}
 use Rattle.std.specs.Option.{option_map_or}
 use Rattle.sdr_core.specs.CoreKept.{KeepsRun, LoggedLock, MakesCoreStep, RunStart}
 use Rattle.sdr_daemon.specs.declared.turn.LineOutcome.TheVariants as outcomes
@@ -15,13 +15,10 @@ use Rattle.sdr_model.specs.declared.event.Event.{Event}
 use Rattle.sdr_model.specs.declared.event.Leave.TheVariants as leaves
 use Rattle.sdr_model.specs.declared.event.Leave.{Leave}
 use Rattle.sdr_model.specs.declared.journal.Entry.{Entry}
-use Rattle.sdr_model.specs.declared.journal.Said.{Said}
 use Rattle.sdr_model.specs.declared.script.ScriptStep.{ScriptStep}
-use Rattle.sdr_words.specs.Bindings.{bound}
-use Rattle.sdr_daemon.specs.Progressing.{IsOnWay, ProgressHolds, ScriptedCore, WasLookRefused, steps_ahead}
-use Rattle.sdr_daemon.specs.Scripts.{HasKeptSoFar}
-use Rattle.sdr_daemon.specs.TurnEvents.{BeforeTurn, HasSaid, IsOver, before_of}
-use Rattle.sdr_daemon.specs.Turns.{Phase, Reached, SayLines, entries_by, names_after, opens_work, steps_by}
+use Rattle.sdr_words.specs.Bindings.{bound, event_of}
+use Rattle.sdr_daemon.specs.Progressing.{IsOnWay, ProgressHolds, ScriptedCore, steps_ahead}
+use Rattle.sdr_daemon.specs.TurnEvents.{BeforeTurn, IsOver, before_of}
 use Rattle.sdr_daemon.specs.declared.script_place.ScriptPlace.{ScriptPlace}
 use Rattle.sdr_daemon.specs.declared.turn.LineOutcome.{LineOutcome}
 
@@ -106,44 +103,17 @@ pub data SaysLine {T : Type 0} (g : Ghosts T) (step : ScriptStep) (after : ℕ) 
   said : (came : Came) → MakesCoreStep g s.daemon step.line event came old.lock old.log new.lock new.log → DoesLine step after came.answer s s'
       → GoesBy outcome came.answer s.leaving s'.leaving → SaysLine g step after event old new s s' outcome
 
--- A daemon is in the transaction of a turn, in which it has said these lines.
-pub record IsInWork {T : Type 0} (g : Ghosts T) (b : RunStart) (script : List ScriptStep) (o : BeforeTurn) (k : LoggedLock T) (first s : ScriptPlace) : Type 0 where
-  pub run : KeepsRun g b k
-  pub lines : List ScriptStep
-  pub said : List Said
-  pub within : HasSaid o said k.lock.roll k.log
-  pub at : Reached
-  pub kept : HasKeptSoFar (WasLookRefused b o.roll.drawn o.journal) (steps_by first.daemon script) (lines ++ steps_ahead script first.daemon s.place) (entries_by first.daemon o.journal) at
-  pub ready : at.phase ≡ Phase.ready
-  pub below : at.number ≤ o.roll.drawn
-  pub say : SayLines at.names lines said
-  pub names : s.leaving ≡ None → s.names ≡ names_after at.names lines said
-  pub opens : opens_work said ≡ true
-  pub daemon : s.daemon ≡ first.daemon
-  pub drawn : s.drawn ≡ first.drawn + 1
-  pub place : s.place ≤ length script
-
--- whatever the daemon was before, it is in work now
-abbrev pub ComesToWork : {T : Type 0} → Ghosts T → RunStart → List ScriptStep → LoggedLock T → LoggedLock T → ScriptPlace → ScriptPlace → Type 0
-ComesToWork g b script old new s s' = (x : Daemon) → IsBeforeTurn g b script x old s → IsInWork g b script (before_of old x) new s s'
-
 -- A daemon may take a turn: some daemon of the roll is about to.
 pub record MayTakeTurn {T : Type 0} (g : Ghosts T) (b : RunStart) (script : List ScriptStep) (k : LoggedLock T) (s : ScriptPlace) : Type 0 where
   pub daemon : Daemon
   pub at : IsBeforeTurn g b script daemon k s
 
--- What a begin comes to: a transaction in which the daemon goes on, or from which it leaves; or none, for want of memory. The core was `old`
--- and the daemon at `s` before it; they are `new` and `s'` behind it.
-abbrev pub BeginComesTo : {T : Type 0} → LineOutcome → Ghosts T → RunStart → List ScriptStep → LoggedLock T → LoggedLock T → ScriptPlace → ScriptPlace → Type 0
-BeginComesTo outcomes.On g b script old new s s' = ComesToWork g b script old new s s' × (s'.leaving ≡ None)
-BeginComesTo outcomes.Starved g b script old new s s' = ComesToWork g b script old new s s'
-BeginComesTo outcomes.Closed g b script old new s s' = (x : Daemon) → IsBeforeTurn g b script x old s → ⊥
-BeginComesTo outcomes.Unsaid g b script old new s s' = (new ≡ old) × (s' ≡ s)
-
--- What a line of a transaction comes to: the daemon goes on, or its turn is over, or it leaves for want of memory. The core was `old` and the
--- daemon at `s` before the turn; they were `k` and `sa` before the line, and are `new` and `sb` behind it.
-abbrev pub LineComesTo : {T : Type 0} → LineOutcome → Ghosts T → RunStart → List ScriptStep → ℕ → LoggedLock T → LoggedLock T → LoggedLock T → ScriptPlace → ScriptPlace → ScriptPlace → Type 0
-LineComesTo outcomes.On g b script after old k new s sa sb = ComesToWork g b script old new s sb × (sb.leaving ≡ None) × (sb.place ≡ after)
-LineComesTo outcomes.Closed g b script after old k new s sa sb = TakesTurn g b script old new s sb
-LineComesTo outcomes.Starved g b script after old k new s sa sb = ComesToWork g b script old new s sb
-LineComesTo outcomes.Unsaid g b script after old k new s sa sb = (new ≡ k) × (sb ≡ sa)
+-- A daemon may say the next line of its script, which makes this event: it doesn't mean to leave, its numbers aren't spent, and the disk
+-- hasn't failed. Its script goes on at `after`.
+pub record MaySayNext (script : List ScriptStep) (r : Roll) (s : ScriptPlace) (step : ScriptStep) (after : ℕ) (event : Event) : Type 0 where
+  pub ahead : steps_ahead script s.daemon s.place ≡ step ∷ steps_ahead script s.daemon after
+  pub within : after ≤ length script
+  pub stays : s.leaving ≡ None
+  pub few : s.drawn + 1 < 2 ^ 40
+  pub sound : r.failed ≡ None
+  pub made : event_of s.names step ≡ event

@@ -6,6 +6,7 @@ ghost use Rattle.sdr_model.specs.declared.script.ScriptStep.{ScriptStep};
 use sdr_model::{Leave, ScriptStep};
 use sdr_words::Bindings;
 use std::alloc::Global;
+use std::default::MadeWith;
 use std::marker::Brand;
 
 /// The script that daemons run. The caller that hands it in picks it.
@@ -16,6 +17,9 @@ pub trait Scripted {
 impl Scripted for Brand {
     ghost script = { [] };
 }
+
+/// A daemon that has drawn so many numbers leaves with the next one.
+pub const MOST_DRAWN: u64 = 1_099_511_627_775;
 
 /// How far a daemon is in its script.
 #[derive(Drop)]
@@ -41,6 +45,13 @@ pub fn first_progress(alloc: Global, daemon: u8) -> ScriptPlace
         drawn: 0,
         leaving: None,
         names: Bindings::new(alloc),
+    }
+}
+
+// The blank of an unused place.
+impl MadeWith<Global> for ScriptPlace {
+    fn made_with(alloc: Global) -> ScriptPlace {
+        first_progress(alloc, 0)
     }
 }
 

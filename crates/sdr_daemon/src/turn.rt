@@ -4,20 +4,18 @@ ghost use Rattle.sdr_core.specs.CoreKept.{MakesCoreStep};
 ghost use Rattle.sdr_core.specs.Leaving.{LastsOn};
 ghost use Rattle.sdr_daemon.specs.Progressing.{steps_ahead};
 ghost use Rattle.sdr_daemon.specs.Scripts.{IsLeaveDue};
-ghost use Rattle.sdr_daemon.specs.TakingTurns.{BeginComesTo, DoesLine, MayDepart, MayTakeTurn, SaysLine, TakesTurn};
+ghost use Rattle.sdr_daemon.specs.TakingTurns.{DoesLine, MayDepart, MaySayNext, MayTakeTurn, SaysLine, TakesTurn};
 ghost use Rattle.sdr_daemon.specs.Turns.{is_refused_outside};
+ghost use Rattle.sdr_daemon.specs.Working.{BeginComesTo};
 ghost use Rattle.sdr_machine.specs.Core.{closed_by};
 ghost use Rattle.sdr_words.specs.Bindings.{event_of};
 
-use crate::script_place::{ScriptPlace, Scripted, next_step};
+use crate::script_place::{MOST_DRAWN, ScriptPlace, Scripted, next_step};
 use sdr_base::Refusal;
 use sdr_core::{Core, Origin};
 use sdr_machine::{Came, Tells};
 use sdr_model::{Answer, Event, Leave, Reply, ScriptStep};
 use std::alloc::Global;
-
-// A daemon that has drawn so many numbers leaves with the next one.
-const MOST_DRAWN: u64 = 1_099_511_627_775;
 
 /// What came of a line.
 #[derive(Clone, Copy)]
@@ -156,15 +154,10 @@ fn look<T: Tells, J: Origin, S: Scripted>(
     ticket: u64,
 )
     requires drawn { core.old.lock.roll.drawn < 2 ^ 60 }
-    requires few { progress.old.drawn + 1 < 2 ^ 40 }
     requires lasts { LastsOn T.HasGround core.old.lock.base }
-    requires ahead { steps_ahead S.script progress.old.daemon progress.old.place
-        ≡ step.now ∷ steps_ahead S.script progress.old.daemon after }
-    requires within { after ≤ length S.script }
-    requires stays { progress.old.leaving ≡ None }
-    requires sound { core.old.lock.roll.failed ≡ None }
+    requires next { MaySayNext S.script core.old.lock.roll progress.old step.now after
+        (Event.Look ticket) }
     requires event { event.now ≡ Event.Look ticket }
-    requires made { event_of progress.old.names step.now ≡ Event.Look ticket }
     ensures ends { TakesTurn T.HasGround J.begins S.script core.old core.new progress.old
         progress.new }
     ensures lasts { LastsOn T.HasGround core.new.lock.base }
@@ -190,15 +183,9 @@ fn begin<T: Tells, J: Origin, S: Scripted>(
     event: &Event,
 ) -> LineOutcome
     requires drawn { core.old.lock.roll.drawn < 2 ^ 60 }
-    requires few { progress.old.drawn + 1 < 2 ^ 40 }
     requires lasts { LastsOn T.HasGround core.old.lock.base }
-    requires ahead { steps_ahead S.script progress.old.daemon progress.old.place
-        ≡ step.now ∷ steps_ahead S.script progress.old.daemon after }
-    requires within { after ≤ length S.script }
-    requires stays { progress.old.leaving ≡ None }
-    requires sound { core.old.lock.roll.failed ≡ None }
+    requires next { MaySayNext S.script core.old.lock.roll progress.old step.now after Event.Begin }
     requires event { event.now ≡ Event.Begin }
-    requires made { event_of progress.old.names step.now ≡ Event.Begin }
     ensures begins { BeginComesTo result T.HasGround J.begins S.script core.old core.new
         progress.old progress.new }
     ensures lasts { LastsOn T.HasGround core.new.lock.base }
@@ -257,15 +244,9 @@ fn work<T: Tells, J: Origin, S: Scripted>(
     requires at { MayTakeTurn T.HasGround J.begins S.script core.old progress.old }
     requires script { script.now ≡ S.script }
     requires drawn { core.old.lock.roll.drawn + 1 < 2 ^ 60 }
-    requires few { progress.old.drawn + 1 < 2 ^ 40 }
     requires lasts { LastsOn T.HasGround core.old.lock.base }
-    requires ahead { steps_ahead S.script progress.old.daemon progress.old.place
-        ≡ step.now ∷ steps_ahead S.script progress.old.daemon after }
-    requires within { after ≤ length S.script }
-    requires stays { progress.old.leaving ≡ None }
-    requires sound { core.old.lock.roll.failed ≡ None }
+    requires next { MaySayNext S.script core.old.lock.roll progress.old step.now after Event.Begin }
     requires event { event.now ≡ Event.Begin }
-    requires made { event_of progress.old.names step.now ≡ Event.Begin }
     ensures ends { TakesTurn T.HasGround J.begins S.script core.old core.new progress.old
         progress.new }
     ensures lasts { LastsOn T.HasGround core.new.lock.base }
@@ -305,9 +286,7 @@ pub fn turn<T: Tells, J: Origin, S: Scripted>(
     requires at { MayTakeTurn T.HasGround J.begins S.script core.old progress.old }
     requires script { script.now ≡ S.script }
     requires drawn { core.old.lock.roll.drawn + 1 < 2 ^ 60 }
-    requires few { progress.old.drawn < 2 ^ 40 }
     requires lasts { LastsOn T.HasGround core.old.lock.base }
-    requires within { progress.old.place ≤ length S.script }
     ensures ends { TakesTurn T.HasGround J.begins S.script core.old core.new progress.old
         progress.new }
     ensures lasts { LastsOn T.HasGround core.new.lock.base }

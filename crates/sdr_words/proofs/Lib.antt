@@ -4,6 +4,7 @@ pub mod CanonicalArgs
 pub mod CanonicalFields
 pub mod CanonicalLine
 pub mod DraftLemmas
+pub mod EventLemmas
 pub mod FieldsLemmas
 pub mod InputLemmas
 pub mod ReadSteps

@@ -104,6 +104,12 @@ event_by verbs.Request g = events.Say (calls.Request g.account (given_number g 0
 event_by verbs.Awarded g = events.Say (calls.Awarded (given_number g 0))
 event_by verbs.Shred g = events.Say (calls.Shred (given_number g 0))
 
+-- whether the event is a begin or a look at a ticket
+abbrev pub is_begin_or_look : Event → Bool
+is_begin_or_look events.Begin = true
+is_begin_or_look (events.Look ticket) = true
+is_begin_or_look event = false
+
 -- whether the verb is one on raw objects, or on what is made of blocks, that takes numbers alone, and an order
 abbrev pub takes_things : Verb → Bool
 takes_things verbs.Malloc = true

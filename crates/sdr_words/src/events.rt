@@ -1,11 +1,13 @@
 // The events that verbs make of their arguments.
-ghost use Rattle.std.specs.Prelude.{◌≡◌, IfSome, IsNone, false, min};
+ghost use Rattle.std.specs.Prelude.{◌≡◌, IfSome, IsNone, List, false, min};
 ghost use Rattle.sdr_model.specs.declared.event.Event.TheVariants as events;
-ghost use Rattle.sdr_words.specs.Events.{event_by, takes_objects, takes_things};
+ghost use Rattle.sdr_words.specs.Bindings.{Binding, event_of};
+ghost use Rattle.sdr_words.specs.Events.{event_by, is_begin_or_look, takes_objects, takes_things};
+ghost use Rattle.sdr_words.specs.declared.given.Given.{Given};
 
-use crate::Verb;
 use crate::given::Given;
-use sdr_model::{Call, Event};
+use crate::{Verb, verb_at};
+use sdr_model::{Call, Event, ScriptStep};
 
 // A number as the type of a name.
 fn as_type(number: u64) -> u32
@@ -138,4 +140,19 @@ pub fn event_by(verb: Verb, given: Given) -> Event
         Verb::AppendTrailer => Event::Say(Call::AppendTrailer(a, b, text)),
         _ => unreachable!(),
     }
+}
+
+// Whether the verb is `begin` or `await`.
+#[tactic(auto, using(crate::proofs::EventLemmas::other_verbs))]
+fn is_begin_or_await(verb: Verb) -> bool
+    ensures { (given : Given) → result ≡ is_begin_or_look (event_by verb given) }
+{
+    matches!(verb, Verb::Begin | Verb::Await)
+}
+
+/// Whether the event of a step is a begin or a look at a ticket, whatever its names hold. It takes no memory.
+pub fn begins_or_looks(step: &ScriptStep) -> bool
+    ensures { (names : List Binding) → result ≡ is_begin_or_look (event_of names step.now) }
+{
+    is_begin_or_await(verb_at(step.verb as usize))
 }

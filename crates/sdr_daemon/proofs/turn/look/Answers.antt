@@ -11,12 +11,12 @@ use Rattle.sdr_daemon.proofs.turn.look.Goals as goal
 pub returns-in_default-clause-ends : goal.returns-in_default-clause-ends
 returns-in_default-clause-ends g c x t =
     subst (λ (k : LoggedLock g.row.T.Denot). EndsTurn g.J.Origin.begins g.S.Scripted.script (before_of c.args.core.now x) k c.args.progress.now (record c.args.progress.now { leaving = Some leaves.Memory }))
-    (sym c.in_default.ensures.err) (starves g.T.HasGround g.J.Origin.begins g.S.Scripted.script x c.args.core.now c.args.progress.now t c.requires.stays)
+    (sym c.in_default.ensures.err) (starves g.T.HasGround g.J.Origin.begins g.S.Scripted.script x c.args.core.now c.args.progress.now t c.requires.next.stays)
 
 pub returns-in-Waits-clause-ends : goal.returns-in-Waits-clause-ends
 returns-in-Waits-clause-ends g c x t =
     looked g.T.HasGround g.J.Origin.begins g.S.Scripted.script x c.args.core.now c.args.progress.now t c.event.new.self _ c.args.step.now c.args.after c.args.ticket c.in-Ok.came
-    c.requires.ahead c.requires.within c.requires.stays c.requires.made c.requires.sound c.requires.few
+    c.requires.next.ahead c.requires.next.within c.requires.next.stays c.requires.next.made c.requires.next.sound c.requires.next.few
     (subst (λ (ev : Event). MakesCoreStep g.T.HasGround c.args.progress.now.daemon c.args.step.now.line ev c.in-Ok.came c.args.core.now.lock c.args.core.now.log c.event.new.self.lock c.event.new.self.log) c.requires.event c.in-Ok.ensures.makes)
     (inl (c.in-Waits.is, refl))
 
@@ -24,7 +24,7 @@ pub returns : goal.returns
 returns g c = record {
   ends = λ x t.
       looked g.T.HasGround g.J.Origin.begins g.S.Scripted.script x c.args.core.now c.args.progress.now t c.event.new.self c.note.new.progress c.args.step.now c.args.after c.args.ticket c.in-Ok.came
-      c.requires.ahead c.requires.within c.requires.stays c.requires.made c.requires.sound c.requires.few
+      c.requires.next.ahead c.requires.next.within c.requires.next.stays c.requires.next.made c.requires.next.sound c.requires.next.few
       (subst (λ (ev : Event). MakesCoreStep g.T.HasGround c.args.progress.now.daemon c.args.step.now.line ev c.in-Ok.came c.args.core.now.lock c.args.core.now.log c.event.new.self.lock c.event.new.self.log) c.requires.event c.in-Ok.ensures.makes)
       (inr (c.in_default-answer.not-Waits, c.note.ensures.does));
   lasts = λ n. c.in-Ok.ensures.makes.asks.kept.lasts n (c.requires.lasts (suc n));

@@ -3,7 +3,7 @@ use Rattle.sdr_model.specs.declared.event.Leave.TheVariants as leaves
 use Rattle.sdr_model.specs.declared.script.ScriptStep.{ScriptStep}
 use Rattle.sdr_daemon.proofs.WorkLemmas.{cut_so, line_so, starved_so, unsaid_so, work_drawn, work_place}
 use Rattle.sdr_daemon.specs.Progressing.{steps_ahead}
-use Rattle.sdr_daemon.specs.TakingTurns.{BeginComesTo, ComesToWork, LineComesTo}
+use Rattle.sdr_daemon.specs.Working.{BeginComesTo, ComesToWork, LineComesTo}
 use Rattle.sdr_daemon.specs.declared.turn.LineOutcome.{LineOutcome}
 use Rattle.sdr_daemon.proofs.turn.work.Goals as goal
 
@@ -21,12 +21,12 @@ pub returns-in-Starved-clause-ends : goal.returns-in-Starved-clause-ends
 returns-in-Starved-clause-ends g c =
     cut_so g.T.HasGround g.J.Origin.begins g.S.Scripted.script c.args.core.now c.args.progress.now c.begin.new.core c.begin.new.progress
     (subst (λ (w : LineOutcome). BeginComesTo w g.T.HasGround g.J.Origin.begins g.S.Scripted.script c.args.core.now c.begin.new.core c.args.progress.now c.begin.new.progress) c.in-Starved.is c.begin.ensures.begins)
-    c.requires.few c.cut.new.core c.cut.new.progress leaves.Memory c.cut.result c.cut.ensures.makes c.cut.ensures.progress tt
+    c.requires.next.few c.cut.new.core c.cut.new.progress leaves.Memory c.cut.result c.cut.ensures.makes c.cut.ensures.progress tt
 
 pub returns-in-Unsaid-clause-ends : goal.returns-in-Unsaid-clause-ends
 returns-in-Unsaid-clause-ends g c =
     let same = subst (λ (w : LineOutcome). BeginComesTo w g.T.HasGround g.J.Origin.begins g.S.Scripted.script c.args.core.now c.begin.new.core c.args.progress.now c.begin.new.progress) c.in-Unsaid.is c.begin.ensures.begins in
-    unsaid_so g.T.HasGround g.J.Origin.begins g.S.Scripted.script c.args.core.now c.args.progress.now c.begin.new.core c.begin.new.progress c.requires.stays same.0 same.1
+    unsaid_so g.T.HasGround g.J.Origin.begins g.S.Scripted.script c.args.core.now c.args.progress.now c.begin.new.core c.begin.new.progress c.requires.next.stays same.0 same.1
 
 pub next_step-requires : goal.next_step-requires
 next_step-requires g c = record {
@@ -44,7 +44,7 @@ loop-step-preserved g c =
     let here : steps_ahead script c.loop-step.progress.daemon c.loop-step.progress.place ≡ c.in-Some.step.now ∷ steps_ahead script c.loop-step.progress.daemon c.in-Some.after =
     subst (λ (l : List ScriptStep). steps_ahead l c.loop-step.progress.daemon c.loop-step.progress.place ≡ c.in-Some.step.now ∷ steps_ahead l c.loop-step.progress.daemon c.in-Some.after) c.requires.script c.in-Some.ensures.next in
     let by : LineComesTo c.line.result g.T.HasGround g.J.Origin.begins script c.in-Some.after c.args.core.now c.loop-step.core c.line.new.core c.args.progress.now c.loop-step.progress c.line.new.progress =
-    line_so g.T.HasGround g.J.Origin.begins script c.args.core.now c.args.progress.now c.loop-step.core c.loop-step.progress c.loop-step.invariant.work c.requires.few
+    line_so g.T.HasGround g.J.Origin.begins script c.args.core.now c.args.progress.now c.loop-step.core c.loop-step.progress c.loop-step.invariant.work c.requires.next.few
     c.line.new.core c.line.new.progress c.in-Some.step.now c.in-Some.after c.line.result c.line.ensures.says here
     (subst (λ (l : List ScriptStep). c.in-Some.after ≤ length l) c.requires.script c.in-Some.ensures.behind.1) c.loop-step.invariant.stays in
     let of = λ (w : LineOutcome). LineComesTo w g.T.HasGround g.J.Origin.begins script c.in-Some.after c.args.core.now c.loop-step.core c.line.new.core c.args.progress.now c.loop-step.progress c.line.new.progress in
@@ -57,7 +57,7 @@ returns-in-Closed-line-clause-ends g c =
     let here : steps_ahead script c.loop-step.progress.daemon c.loop-step.progress.place ≡ c.in-Some.step.now ∷ steps_ahead script c.loop-step.progress.daemon c.in-Some.after =
     subst (λ (l : List ScriptStep). steps_ahead l c.loop-step.progress.daemon c.loop-step.progress.place ≡ c.in-Some.step.now ∷ steps_ahead l c.loop-step.progress.daemon c.in-Some.after) c.requires.script c.in-Some.ensures.next in
     let by : LineComesTo c.line.result g.T.HasGround g.J.Origin.begins script c.in-Some.after c.args.core.now c.loop-step.core c.line.new.core c.args.progress.now c.loop-step.progress c.line.new.progress =
-    line_so g.T.HasGround g.J.Origin.begins script c.args.core.now c.args.progress.now c.loop-step.core c.loop-step.progress c.loop-step.invariant.work c.requires.few
+    line_so g.T.HasGround g.J.Origin.begins script c.args.core.now c.args.progress.now c.loop-step.core c.loop-step.progress c.loop-step.invariant.work c.requires.next.few
     c.line.new.core c.line.new.progress c.in-Some.step.now c.in-Some.after c.line.result c.line.ensures.says here
     (subst (λ (l : List ScriptStep). c.in-Some.after ≤ length l) c.requires.script c.in-Some.ensures.behind.1) c.loop-step.invariant.stays in
     let of = λ (w : LineOutcome). LineComesTo w g.T.HasGround g.J.Origin.begins script c.in-Some.after c.args.core.now c.loop-step.core c.line.new.core c.args.progress.now c.loop-step.progress c.line.new.progress in
@@ -69,7 +69,7 @@ cut-requires-in-Starved-line-clause-drawn g c =
     let here : steps_ahead script c.loop-step.progress.daemon c.loop-step.progress.place ≡ c.in-Some.step.now ∷ steps_ahead script c.loop-step.progress.daemon c.in-Some.after =
     subst (λ (l : List ScriptStep). steps_ahead l c.loop-step.progress.daemon c.loop-step.progress.place ≡ c.in-Some.step.now ∷ steps_ahead l c.loop-step.progress.daemon c.in-Some.after) c.requires.script c.in-Some.ensures.next in
     let by : LineComesTo c.line.result g.T.HasGround g.J.Origin.begins script c.in-Some.after c.args.core.now c.loop-step.core c.line.new.core c.args.progress.now c.loop-step.progress c.line.new.progress =
-    line_so g.T.HasGround g.J.Origin.begins script c.args.core.now c.args.progress.now c.loop-step.core c.loop-step.progress c.loop-step.invariant.work c.requires.few
+    line_so g.T.HasGround g.J.Origin.begins script c.args.core.now c.args.progress.now c.loop-step.core c.loop-step.progress c.loop-step.invariant.work c.requires.next.few
     c.line.new.core c.line.new.progress c.in-Some.step.now c.in-Some.after c.line.result c.line.ensures.says here
     (subst (λ (l : List ScriptStep). c.in-Some.after ≤ length l) c.requires.script c.in-Some.ensures.behind.1) c.loop-step.invariant.stays in
     let work : ComesToWork g.T.HasGround g.J.Origin.begins script c.args.core.now c.line.new.core c.args.progress.now c.line.new.progress =
@@ -83,13 +83,13 @@ returns-in-Starved-line-clause-ends g c =
     let here : steps_ahead script c.loop-step.progress.daemon c.loop-step.progress.place ≡ c.in-Some.step.now ∷ steps_ahead script c.loop-step.progress.daemon c.in-Some.after =
     subst (λ (l : List ScriptStep). steps_ahead l c.loop-step.progress.daemon c.loop-step.progress.place ≡ c.in-Some.step.now ∷ steps_ahead l c.loop-step.progress.daemon c.in-Some.after) c.requires.script c.in-Some.ensures.next in
     let by : LineComesTo c.line.result g.T.HasGround g.J.Origin.begins script c.in-Some.after c.args.core.now c.loop-step.core c.line.new.core c.args.progress.now c.loop-step.progress c.line.new.progress =
-    line_so g.T.HasGround g.J.Origin.begins script c.args.core.now c.args.progress.now c.loop-step.core c.loop-step.progress c.loop-step.invariant.work c.requires.few
+    line_so g.T.HasGround g.J.Origin.begins script c.args.core.now c.args.progress.now c.loop-step.core c.loop-step.progress c.loop-step.invariant.work c.requires.next.few
     c.line.new.core c.line.new.progress c.in-Some.step.now c.in-Some.after c.line.result c.line.ensures.says here
     (subst (λ (l : List ScriptStep). c.in-Some.after ≤ length l) c.requires.script c.in-Some.ensures.behind.1) c.loop-step.invariant.stays in
     let work : ComesToWork g.T.HasGround g.J.Origin.begins script c.args.core.now c.line.new.core c.args.progress.now c.line.new.progress =
     starved_so g.T.HasGround g.J.Origin.begins script c.args.core.now c.args.progress.now c.loop-step.core c.line.new.core c.loop-step.progress c.line.new.progress c.in-Some.after c.line.result
     c.loop-step.invariant.work by c.in-Starved-line.is in
-    cut_so g.T.HasGround g.J.Origin.begins script c.args.core.now c.args.progress.now c.line.new.core c.line.new.progress work c.requires.few
+    cut_so g.T.HasGround g.J.Origin.begins script c.args.core.now c.args.progress.now c.line.new.core c.line.new.progress work c.requires.next.few
     c.cut-in-Starved-line.new.core c.cut-in-Starved-line.new.progress leaves.Memory c.cut-in-Starved-line.result c.cut-in-Starved-line.ensures.makes c.cut-in-Starved-line.ensures.progress tt
 
 pub cut-requires-2-clause-drawn : goal.cut-requires-2-clause-drawn
@@ -98,6 +98,6 @@ cut-requires-2-clause-drawn g c =
 
 pub returns-clause-ends : goal.returns-clause-ends
 returns-clause-ends g c =
-    cut_so g.T.HasGround g.J.Origin.begins g.S.Scripted.script c.args.core.now c.args.progress.now c.loop-step.core c.loop-step.progress c.loop-step.invariant.work c.requires.few
+    cut_so g.T.HasGround g.J.Origin.begins g.S.Scripted.script c.args.core.now c.args.progress.now c.loop-step.core c.loop-step.progress c.loop-step.invariant.work c.requires.next.few
     c.cut-2.new.core c.cut-2.new.progress leaves.Done c.cut-2.result c.cut-2.ensures.makes c.cut-2.ensures.progress
     (subst (λ (l : List ScriptStep). steps_ahead l c.loop-step.progress.daemon c.loop-step.progress.place ≡ []) c.requires.script (c.in_default.ensures.none refl))

@@ -1,6 +1,6 @@
 use Rattle.std.proofs.Common.{◌≡◌, ◌-◌, None, length}
 use Rattle.sdr_core.specs.Leaving.{LastsOn}
-use Rattle.sdr_daemon.specs.TakingTurns.{ComesToWork}
+use Rattle.sdr_daemon.specs.Working.{ComesToWork}
 use Rattle.sdr_daemon.proofs.turn.work.Given as goal
 
 abbrev pub invariant-loop-step : goal.invariant-loop-step
