@@ -1,5 +1,5 @@
 -- When a journal keeps to the scripts: each daemon's entries are its lines in order.
-use Rattle.std.specs.Prelude.{◌≡◌, ◌<◌, ◌≤◌, ◌⊎◌, ◌^◌, ◌&&◌, ℕ, List, [], ◌∷◌, ◌++◌, ◌==◌, All, true, not, filter, flat_map, nat_lt, Option, None, Some, ⊤}
+use Rattle.std.specs.Prelude.{◌≡◌, ◌<◌, ◌≤◌, ◌⊎◌, ◌^◌, ◌&&◌, ℕ, List, [], ◌∷◌, ◌++◌, ◌==◌, All, Bool, true, false, not, filter, flat_map, nat_lt, Option, None, Some, ⊤}
 use Rattle.std.specs.List.{AllByRecursion, list_all, list_any}
 use Rattle.sdr_base.specs.Media.{Told}
 use Rattle.sdr_machine.specs.Ground.{State}
@@ -10,6 +10,7 @@ use Rattle.sdr_model.specs.declared.event.Leave.TheVariants as leaves
 use Rattle.sdr_model.specs.declared.event.Leave.{Leave}
 use Rattle.sdr_model.specs.declared.journal.Entry.{Entry}
 use Rattle.sdr_model.specs.declared.journal.What.TheVariants as whats
+use Rattle.sdr_model.specs.declared.journal.What.{What}
 use Rattle.sdr_model.specs.declared.script.ScriptStep.{ScriptStep}
 use Rattle.sdr_words.specs.Bindings.{Binding, event_of}
 use Rattle.sdr_words.specs.Daemons.{daemons_of}
@@ -76,3 +77,12 @@ pub record KeepsToScripts (told : Option Told) (first : State) (script : List Sc
       AllByRecursion (λ id. DaemonKeepsToScript (IsLookRefused told (daemons_of script) first journal) journal (steps_by id script) (entries_by id journal))
       (daemons_of script)
   pub others : All (λ (e : Entry). list_any (λ id. id == e.daemon) (daemons_of script) ≡ true) journal
+
+-- whether it is a leave for want of memory
+abbrev pub is_memory_what : What → Bool
+is_memory_what (whats.Leaves leaves.Memory) = true
+is_memory_what what = false
+
+-- whether an entry is a leave for want of memory
+abbrev pub is_memory_leave : Entry → Bool
+is_memory_leave e = is_memory_what e.what

@@ -19,9 +19,11 @@
 //! entry (`DroppedRow`), a first transaction of other lines (`ExchangedRow`). Whether these journals are legal isn't said there.
 #![tactic(auto)]
 
+mod running;
 mod script_place;
 mod scripted_run;
 mod turn;
 
+pub use running::{RanDaemons, run_all};
 pub use script_place::{ScriptPlace, Scripted};
 pub use scripted_run::ScriptedRun;
