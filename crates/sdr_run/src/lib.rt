@@ -22,13 +22,16 @@
 //! Only tested: each call's answers (`tests/cases`).
 #![tactic(auto)]
 
+mod daemons;
 mod handed;
 mod handed_ground;
+mod opening;
 mod playing;
 mod replaying;
 mod running;
 mod sending;
 
+pub use daemons::run_daemons;
 pub use handed::{Handed, HandedIn};
 pub use playing::{Ran, play};
 pub use replaying::replay;

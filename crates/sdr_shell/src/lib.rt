@@ -20,15 +20,18 @@ mod form;
 mod formatting;
 mod inspecting;
 mod last_line;
+mod live_call;
 mod outcome;
 mod recovering;
 mod replaying;
+mod running;
 mod shutting;
 mod status;
 mod top_call;
 
 pub use commands::still;
 pub use form::{Form, form_of};
+pub use live_call::live;
 pub use outcome::RunOutcome;
 pub use status::{
     DAMAGED, DISK_FAULT, DONE, INPUT_FAULT, NO_MEMORY, NOT_FORMATTED, OUTPUT_FAULT, REFUSED_LINE,

@@ -1,0 +1,27 @@
+use Rattle.std.proofs.Common.{◌∙◌, List, ap, subst, sym}
+use Rattle.sdr_core.specs.CoreKept.{BeginsOn}
+use Rattle.sdr_daemon.specs.Scripts.{KeepsToScripts}
+use Rattle.sdr_model.specs.declared.script.ScriptStep.{ScriptStep}
+use Rattle.sdr_run.proofs.PlayingLemmas.{fresh_core}
+use Rattle.sdr_words.specs.Daemons.{daemons_of}
+use Rattle.sdr_run.proofs.daemons.run_out.Goals as goal
+
+pub run_all-requires-clause-fresh : goal.run_all-requires-clause-fresh
+run_all-requires-clause-fresh g c =
+    fresh_core g.T.HasGround g.J.Origin.begins c.deref.result.now c.args.base c.in-Ok.core
+    (c.deref.ensures.value ∙ c.in-Ok-daemons.ensures.named ∙ ap daemons_of c.as_slice.ensures ∙ c.requires.begins.daemons_are) c.requires.lasts
+    c.in-Ok.ensures.made
+
+pub run_all-requires-clause-named : goal.run_all-requires-clause-named
+run_all-requires-clause-named g c = sym c.requires.begins.daemons_are ∙ ap daemons_of c.requires.script
+
+pub returns-in-Ok-clause-ran : goal.returns-in-Ok-clause-ran
+returns-in-Ok-clause-ran g c =
+    let e = c.run_all.ensures in
+    record {
+      keeps = subst (λ (script : List ScriptStep). KeepsToScripts g.J.Origin.begins.told g.J.Origin.begins.first script c.run_all.result.journal)
+          (sym c.requires.script) e.keeps;
+      run = e.run;
+      failed = e.failed;
+      wanting = e.starved;
+    }
