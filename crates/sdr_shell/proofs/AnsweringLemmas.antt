@@ -16,7 +16,6 @@ use Rattle.sdr_shell.proofs.OnHeapLemmas as heap_run
 use Rattle.sdr_shell.proofs.RecoverLemmas as recovery
 use Rattle.sdr_shell.proofs.StillLemmas.{reads_none}
 use Rattle.sdr_shell.specs.Answers.{AnswersDry, AnswersFormat, Seen, Wrote, change_of, seen}
-use Rattle.sdr_shell.specs.Form.{still_form}
 use Rattle.sdr_shell.specs.Formatting.{HasFormatted, IsFormatStatus, LeavesDisk}
 use Rattle.sdr_shell.specs.Inspecting.{AnswersInspect}
 use Rattle.sdr_shell.specs.Recovering.{AnswersRecover}
@@ -81,13 +80,12 @@ module _ {D M S K : Type 0} (d : DiskGhosts D) (m : MediaGhosts M) (s : SourceGh
   abbrev sink : K → Seen
   sink = seen k.taken k.faults
 
-  -- what `still` gives back is answered to the form that it was found to be
-  pub still_at : (form known : Option Form) (r given : RunOutcome D M) → form ≡ known → r ≡ given
-      → AnswersForm d m s k (still_form known) disk files input input' output output' given
-      → AnswersForm d m s k (still_form form) disk files input input' output output' r
-  still_at form known r given is same a =
-      subst (λ (x : RunOutcome D M). AnswersForm d m s k (still_form form) disk files input input' output output' x) (sym same)
-      (subst (λ (f : Option Form). AnswersForm d m s k (still_form f) disk files input input' output output' given) (sym is) a)
+  -- what is given back is answered to the form that the words were found to be
+  pub form_at : (form known : Option Form) (r given : RunOutcome D M) → form ≡ known → r ≡ given
+      → AnswersForm d m s k known disk files input input' output output' given → AnswersForm d m s k form disk files input input' output output' r
+  form_at form known r given is same a =
+      subst (λ (x : RunOutcome D M). AnswersForm d m s k form disk files input input' output output' x) (sym same)
+      (subst (λ (f : Option Form). AnswersForm d m s k f disk files input input' output output' given) (sym is) a)
 
   -- to words that are no form
   pub answers_usage : Wrote (sink output) (sink output') (codes "usage\n") → k.faults output ≤ k.faults output'

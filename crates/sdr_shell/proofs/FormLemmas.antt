@@ -2,6 +2,7 @@
 use Rattle.std.proofs.Common.{◌≡◌, List, [], ◌∷◌, ℕ, Bool, true, false, Option, None, Some, refl, sym, subst, true≢false}
 use Rattle.std.specs.Prelude.{codes, nat_eq, if◌then◌else◌}
 use Rattle.std.specs.Cmp.Lexicographic.{bytes_decides, pointwise}
+use Rattle.std.specs.Rc.{rc_str_bytes}
 use Rattle.std.specs.declared.alloc.Global.{Global}
 use Rattle.std.specs.declared.rc.RcStr.{RcStr}
 use Rattle.sdr_log.specs.declared.frame.Frame.{Frame}
@@ -12,7 +13,7 @@ use Rattle.sdr_shell.specs.declared.form.Form.TheVariants as forms
 -- a word that is `run` isn't `format`
 run_is_not_format : (word : RcStr Global) → is_word word (codes "run") ≡ true → is_word word (codes "format") ≡ false
 run_is_not_format word is =
-    subst (λ (l : List ℕ). pointwise nat_eq l (codes "format") ≡ false) (sym ((bytes_decides _ (codes "run")).0 is)) refl
+    subst (λ (l : List ℕ). pointwise nat_eq l (codes "format") ≡ false) (sym ((bytes_decides (rc_str_bytes word) (codes "run")).0 is)) refl
 
 -- a form that is told first is `run`
 live_first : (first : Bool) (other : Option Form) → first ≡ true

@@ -183,7 +183,7 @@ pub fn answer_form<
     };
     match asked.form {
         Form::Dry => answer_in_memory(rt, asked.words, media, input, output),
-        Form::Replay => replay_on_file(rt, asked, path, bytes, media, input, output),
+        Form::Replay | Form::Run => replay_on_file(rt, asked, path, bytes, media, input, output),
         _ => answer_on_file(rt, asked, path, bytes, media, input, output),
     }
 }

@@ -8,7 +8,7 @@ use Rattle.sdr_run.proofs.opening.open_handed.Goals as goal
 pub new-in-Ok-requires : goal.new-in-Ok-requires
 new-in-Ok-requires g c =
     let e = c.in-Ok.ensures in
-    stays_opened g.D.Disk g.J.HandedIn.was c.new-held.result c.args.disk c.in-Ok.ground c.requires c.new-held.ensures e.opened e.disk e.inside
+    stays_opened g.D.Disk g.J.HandedIn.was c.new-held.result c.args.disk c.in-Ok.ground c.requires.handed c.new-held.ensures e.opened e.disk e.inside
 
 pub returns-in-Ok-clause-opened : goal.returns-in-Ok-clause-opened
 returns-in-Ok-clause-opened g c =

@@ -1,5 +1,5 @@
-use Rattle.std.proofs.Common.{rules, ◌≡◌, ◌∙◌, None, Some, ap, is_some, sym, subst}
-use Rattle.sdr_shell.proofs.AnsweringLemmas.{answers_dry, answers_format, answers_inspect, answers_recover, answers_replay, answers_usage, still_at}
+use Rattle.std.proofs.Common.{rules, ◌≡◌, ◌⊎◌, None, Some, ap, inl, inr, refl}
+use Rattle.sdr_shell.proofs.AnsweringLemmas.{answers_dry, answers_format, answers_inspect, answers_recover, answers_replay, answers_usage, form_at}
 use Rattle.sdr_shell.proofs.StillLemmas.{dry_completes, format_completes, not_run, spells_none}
 use Rattle.sdr_shell.specs.Answers.{AnswersDry, AnswersFormat, seen}
 use Rattle.sdr_shell.specs.Form.{form_of, still_form}
@@ -28,8 +28,8 @@ returns-in-Some-Dry g c =
       complete = λ bytes told ok no_input no_output. dry_completes _ _ _ _ _ _ _ _ bytes e.known e.input e.output e.refused told ok no_input no_output;
     } in
     let form : form_of c.args.words.now ≡ Some Dry = search rules in
-    still_at g.D.Disk g.M.Media g.S.Source g.K.Sink c.args.disk c.args.media c.args.input.now c.dry-status.new.input c.args.output.now
-    c.dry-status.new.output (form_of c.args.words.now) (Some Dry) c.without_journal.result _ form c.without_journal.ensures
+    form_at g.D.Disk g.M.Media g.S.Source g.K.Sink c.args.disk c.args.media c.args.input.now c.dry-status.new.input c.args.output.now
+    c.dry-status.new.output (still_form (form_of c.args.words.now)) (Some Dry) c.without_journal.result _ (ap still_form form) c.without_journal.ensures
     (answers_dry g.D.Disk g.M.Media g.S.Source g.K.Sink c.args.disk c.args.media c.args.input.now c.dry-status.new.input c.args.output.now
     c.dry-status.new.output c.dry-status.result c.dry-status.new.media answers e.later e.reads e.each e.media)
 
@@ -54,8 +54,8 @@ returns-in-Some-Format g c =
       complete = λ enough no_disk no_output. format_completes _ _ _ _ _ _ _ e.known e.small e.fault e.output enough no_disk no_output;
     } in
     let form : form_of c.args.words.now ≡ Some (Format frame) = cc (c.in-Some-Format.ensures.form) in
-    still_at g.D.Disk g.M.Media g.S.Source g.K.Sink c.args.disk c.args.media c.args.input.now c.args.input.now c.args.output.now
-    c.format_disk-status.new.output (form_of c.args.words.now) (Some (Format frame)) c.without_journal-in-Some-Format.result _ form
+    form_at g.D.Disk g.M.Media g.S.Source g.K.Sink c.args.disk c.args.media c.args.input.now c.args.input.now c.args.output.now
+    c.format_disk-status.new.output (still_form (form_of c.args.words.now)) (Some (Format frame)) c.without_journal-in-Some-Format.result _ (ap still_form form)
     c.without_journal-in-Some-Format.ensures
     (answers_format g.D.Disk g.M.Media g.S.Source g.K.Sink c.args.disk c.args.media c.args.input.now c.args.input.now c.args.output.now
     c.format_disk-status.new.output frame c.format_disk-status.result c.format_disk-status.new.disk answers e.synced e.later e.same e.tells e.size)
@@ -63,8 +63,8 @@ returns-in-Some-Format g c =
 pub returns-in-Some-Replay : goal.returns-in-Some-Replay
 returns-in-Some-Replay g c =
     let form : form_of c.args.words.now ≡ Some Replay = search rules in
-    still_at g.D.Disk g.M.Media g.S.Source g.K.Sink c.args.disk c.args.media c.args.input.now c.replay_input.new.input c.args.output.now
-    c.replay_input.new.output (form_of c.args.words.now) (Some Replay) c.replay_input.result c.replay_input.result form refl
+    form_at g.D.Disk g.M.Media g.S.Source g.K.Sink c.args.disk c.args.media c.args.input.now c.replay_input.new.input c.args.output.now
+    c.replay_input.new.output (still_form (form_of c.args.words.now)) (Some Replay) c.replay_input.result c.replay_input.result (ap still_form form) refl
     (answers_replay g.D.Disk g.M.Media g.S.Source g.K.Sink c.args.disk c.args.media c.args.input.now c.replay_input.new.input c.args.output.now
     c.replay_input.new.output c.replay_input.result c.replay_input.ensures)
 
@@ -72,8 +72,8 @@ pub returns-in-Some-Recover : goal.returns-in-Some-Recover
 returns-in-Some-Recover g c =
     let e = c.recover_disk-status.ensures in
     let form : form_of c.args.words.now ≡ Some Recover = search rules in
-    still_at g.D.Disk g.M.Media g.S.Source g.K.Sink c.args.disk c.args.media c.args.input.now c.args.input.now c.args.output.now
-    c.recover_disk-status.new.output (form_of c.args.words.now) (Some Recover) c.without_journal-in-Some-Recover.result _ form
+    form_at g.D.Disk g.M.Media g.S.Source g.K.Sink c.args.disk c.args.media c.args.input.now c.args.input.now c.args.output.now
+    c.recover_disk-status.new.output (still_form (form_of c.args.words.now)) (Some Recover) c.without_journal-in-Some-Recover.result _ (ap still_form form)
     c.without_journal-in-Some-Recover.ensures
     (answers_recover g.D.Disk g.M.Media g.S.Source g.K.Sink c.args.disk c.args.media c.args.input.now c.args.input.now c.args.output.now
     c.recover_disk-status.new.output c.recover_disk-status.result.status c.recover_disk-status.result.disk e.answers e.later e.keeps)
@@ -82,8 +82,17 @@ pub returns-in-Some-Inspect : goal.returns-in-Some-Inspect
 returns-in-Some-Inspect g c =
     let e = c.inspect_disk-status.ensures in
     let form : form_of c.args.words.now ≡ Some Inspect = search rules in
-    still_at g.D.Disk g.M.Media g.S.Source g.K.Sink c.args.disk c.args.media c.args.input.now c.args.input.now c.args.output.now
-    c.inspect_disk-status.new.output (form_of c.args.words.now) (Some Inspect) c.without_journal-in-Some-Inspect.result _ form
+    form_at g.D.Disk g.M.Media g.S.Source g.K.Sink c.args.disk c.args.media c.args.input.now c.args.input.now c.args.output.now
+    c.inspect_disk-status.new.output (still_form (form_of c.args.words.now)) (Some Inspect) c.without_journal-in-Some-Inspect.result _ (ap still_form form)
     c.without_journal-in-Some-Inspect.ensures
     (answers_inspect g.D.Disk g.M.Media g.S.Source g.K.Sink c.args.disk c.args.media c.args.input.now c.args.input.now c.args.output.now
     c.inspect_disk-status.new.output c.inspect_disk-status.result c.inspect_disk-status.new.disk e.answers e.later e.size)
+
+pub returns-in-Some-Run : goal.returns-in-Some-Run
+returns-in-Some-Run g c =
+    let form : still_form (form_of c.args.words.now) ≡ None = ? in
+    form_at g.D.Disk g.M.Media g.S.Source g.K.Sink c.args.disk c.args.media c.args.input.now c.args.input.now c.args.output.now
+    c.last_line.new.output (still_form (form_of c.args.words.now)) None c.without_journal-in-Some-Run.result _ form
+    c.without_journal-in-Some-Run.ensures
+    (answers_usage g.D.Disk g.M.Media g.S.Source g.K.Sink c.args.disk c.args.media c.args.input.now c.args.input.now c.args.output.now
+    c.last_line.new.output c.last_line.ensures.written c.last_line.ensures.later)
