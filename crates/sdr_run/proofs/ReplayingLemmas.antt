@@ -48,15 +48,17 @@ ground_of d m condition = ground_where condition d.bytes d.moment d.faults d.may
 -- what opening told of the same disk
 pub opened_so : {D M : Type 0} (d : DiskGhosts D) (given disk : D) (files : M) (g : Grounded D M) → given ≡ disk → g.media ≡ files
     → IsOpen d.bytes d.moment d.may_hold_after given g → KeepsDisk d.size d.bytes given g.heap.cells.disk
+    → IfTold (d.bytes g.heap.cells.disk) (d.may_hold_after g.heap.cells.disk (d.moment g.heap.cells.disk))
     → Both (d.bytes given) (d.bytes g.heap.cells.disk) KeepsRest → d.faults given ≤ d.faults g.heap.cells.disk
     → d.moment given ≤ d.moment g.heap.cells.disk → IfTold (d.bytes given) (λ x. MayBeOpened x (d.may_hold_after given (d.moment given))
     → AtEach d.moment d.may_hold_after given g.heap.cells.disk (GivesSame x)) → OpenedSo d disk files g
-opened_so {D} d given disk files g same with_media open_so keeps rest later forward any_moment =
+opened_so {D} d given disk files g same with_media open_so keeps read rest later forward any_moment =
     subst (λ (x : D). OpenedSo d x files g) same
     (record {
       with_media = with_media;
       open_so = open_so;
       keeps = keeps;
+      read = read;
       rest = rest;
       later = later;
       forward = forward;
@@ -85,10 +87,8 @@ opened_unrun {D} d disk left files g why o left_is is =
       later = o.later;
     }))
 
--- A heap that was opened on a disk, whose bytes as read are one of the images now, with media, under a condition that is met where the disk
--- was settled.
-module _ {D M : Type 0} (d : DiskGhosts D) (m : MediaGhosts M) (read_now : (x : D) → IfTold (d.bytes x) (d.may_hold_after x (d.moment x)))
-    (disk : D) (files : M) (script : List ScriptStep) (g : Grounded D M) (condition : Type 0) (met : condition ↔ IsSettled d disk)
+-- A heap that was opened on a disk with media, under a condition that is met where the disk was settled.
+module _ {D M : Type 0} (d : DiskGhosts D) (m : MediaGhosts M) (disk : D) (files : M) (script : List ScriptStep) (g : Grounded D M) (condition : Type 0) (met : condition ↔ IsSettled d disk)
     (o : OpenedSo d disk files g) where
   -- what was opened stands for the first state
   stands : StandsWhere condition d.bytes d.moment d.may_hold_after g (standing_at (first_on g) [])
@@ -107,7 +107,7 @@ module _ {D M : Type 0} (d : DiskGhosts D) (m : MediaGhosts M) (read_now : (x : 
       let was = told_before (d.bytes disk) (d.bytes now) left.bytes left.tells o.keeps.tells in
       let at = o.same settled was.0 was.1 in
       let here : g.moment ≡ d.moment now = both.moment_is left.bytes left.tells in
-      let read : d.may_hold_after now (d.moment now) left.bytes = read_now now left.bytes left.tells in
+      let read : d.may_hold_after now (d.moment now) left.bytes = o.read left.bytes left.tells in
       let opened : OpensAs left.bytes (first_on g) = crash_now d.bytes d.moment d.may_hold_after g (standing_at (first_on g) []) left.bytes both
       (record { bytes = left.bytes; tells = left.tells; left = subst (λ (n : ℕ). d.may_hold_after now n left.bytes) (sym here) read }) in
       let now_same : put_back_of left.bytes ≡ put_back_of was.0 = at.each (d.moment now) left.bytes at.later (omega arith) read in

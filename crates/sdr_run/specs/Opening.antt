@@ -14,6 +14,8 @@ pub record OpenedSo {D M : Type 0} (d : DiskGhosts D) (disk : D) (files : M) (g 
   pub with_media : g.media ≡ files
   pub open_so : IsOpen d.bytes d.moment d.may_hold_after disk g
   pub keeps : KeepsDisk d.size d.bytes disk g.heap.cells.disk
+  -- the bytes that it tells are one of the images that a crash may leave now
+  pub read : IfTold (d.bytes g.heap.cells.disk) (d.may_hold_after g.heap.cells.disk (d.moment g.heap.cells.disk))
   pub rest : Both (d.bytes disk) (d.bytes g.heap.cells.disk) KeepsRest
   pub later : d.faults disk ≤ d.faults g.heap.cells.disk
   pub forward : d.moment disk ≤ d.moment g.heap.cells.disk

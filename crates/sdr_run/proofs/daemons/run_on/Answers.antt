@@ -4,8 +4,8 @@ use Rattle.sdr_station.specs.Grounded.{Grounded}
 use Rattle.sdr_run.proofs.daemons.run_on.Goals as goal
 
 pub run_out-requires-clause-begins : goal.run_out-requires-clause-begins
-run_out-requires-clause-begins g c =
-    begins_opened g.D.Disk g.M.Media g.met.D.Disk.read_now c.args.disk c.args.media c.args.script c.in-Ok.base g.J.HandedIn.condition
+run_out-requires-clause-begins g c lives outlive =
+    begins_opened g.D.Disk g.M.Media c.args.disk c.args.media c.args.script c.in-Ok.base g.J.HandedIn.condition
     c.requires.settled c.in-Ok.ensures.opened g.J.HandedIn.was c.requires.handed
 
 pub returns-in-Err-run_out-clause-shut : goal.returns-in-Err-run_out-clause-shut
@@ -18,6 +18,6 @@ returns-in-Err-run_out-clause-shut g c =
 pub returns-in-Ok-run_out-clause-ran : goal.returns-in-Ok-run_out-clause-ran
 returns-in-Ok-run_out-clause-ran g c =
     let p = c.into_parts.ensures in
-    daemons_ran g.D.Disk g.M.Media g.met.D.Disk.read_now c.args.disk c.args.media c.args.script c.in-Ok.base g.J.HandedIn.condition
+    daemons_ran g.D.Disk g.M.Media c.args.disk c.args.media c.args.script c.in-Ok.base g.J.HandedIn.condition
     c.requires.settled c.in-Ok.ensures.opened g.J.HandedIn.was c.requires.handed c.in-Ok-run_out.ran c.into_parts.result
     c.in-Ok-run_out.ensures.ran p.disk p.size p.stays p.seen p.media

@@ -5,8 +5,8 @@ use Rattle.sdr_run.specs.Opening.{OpenedSo}
 use Rattle.sdr_station.specs.Grounded.{Grounded}
 use Rattle.sdr_run.proofs.opening.open_handed.Goals as goal
 
-pub new-in-Ok-requires : goal.new-in-Ok-requires
-new-in-Ok-requires g c =
+pub new-requires-in-Ok : goal.new-requires-in-Ok
+new-requires-in-Ok g c =
     let e = c.in-Ok.ensures in
     stays_opened g.D.Disk g.J.HandedIn.was c.new-held.result c.args.disk c.in-Ok.ground c.requires.handed c.new-held.ensures e.opened e.disk e.inside
 
@@ -17,7 +17,8 @@ returns-in-Ok-clause-opened g c =
     let d = g.D.Disk in
     let e = c.in-Ok.ensures in
     subst (λ (x : Grounded D M). OpenedSo d c.args.disk c.args.media x) (sym c.new-in-Ok.ensures)
-    (opened_so d c.new-held.result c.args.disk c.args.media c.in-Ok.ground c.new-held.ensures e.media e.opened e.disk e.inside e.later e.forward e.any_moment)
+    (opened_so d c.new-held.result c.args.disk c.args.media c.in-Ok.ground c.new-held.ensures e.media e.opened e.disk
+    (g.met.D.Disk.read_now c.in-Ok.ground.heap.cells.disk) e.inside e.later e.forward e.any_moment)
 
 pub returns-in-Err-clause-shut : goal.returns-in-Err-clause-shut
 returns-in-Err-clause-shut g c =

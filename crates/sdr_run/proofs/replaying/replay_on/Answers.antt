@@ -6,7 +6,7 @@ use Rattle.sdr_run.proofs.replaying.replay_on.Goals as goal
 
 pub play-requires-clause-begins : goal.play-requires-clause-begins
 play-requires-clause-begins g c =
-    begins_opened g.D.Disk g.M.Media g.met.D.Disk.read_now c.args.disk c.args.media c.args.script.now c.in-Ok.base g.J.HandedIn.condition
+    begins_opened g.D.Disk g.M.Media c.args.disk c.args.media c.args.script.now c.in-Ok.base g.J.HandedIn.condition
     c.requires.settled c.in-Ok.ensures.opened g.J.HandedIn.was c.requires.handed
 
 pub returns-in-Err-play-clause-shut : goal.returns-in-Err-play-clause-shut
@@ -20,6 +20,6 @@ pub returns-in-Ok-play-clause-ran : goal.returns-in-Ok-play-clause-ran
 returns-in-Ok-play-clause-ran g c =
     let seen : g.row.K.Denot → Output = output g.K.Sink.taken g.K.Sink.faults in
     let w = c.with_parts.ensures in
-    replayed g.D.Disk g.M.Media g.met.D.Disk.read_now c.args.disk c.args.media c.args.script.now c.in-Ok.base g.J.HandedIn.condition
+    replayed g.D.Disk g.M.Media c.args.disk c.args.media c.args.script.now c.in-Ok.base g.J.HandedIn.condition
     c.requires.settled c.in-Ok.ensures.opened g.J.HandedIn.was c.requires.handed (seen c.args.out.now) (seen c.play.new.out) c.in-Ok-play.ran
     c.with_parts.result c.in-Ok-play.ensures.ran w.same w.disk w.size w.stays w.seen w.media
