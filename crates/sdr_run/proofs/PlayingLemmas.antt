@@ -1,5 +1,5 @@
 -- A schedule that runs, and what it has printed.
-use Rattle.std.proofs.Common.{arith, ◌≡◌, ◌∙◌, ◌≤◌, ℕ, List, [], ◌∷◌, ◌++◌, Bool, true, false, not, Option, refl, sym, ap, subst, append_assoc}
+use Rattle.std.proofs.Common.{◌≡◌, ◌∙◌, ◌≤◌, ℕ, List, [], ◌∷◌, ◌++◌, Bool, true, false, not, Option, refl, sym, ap, subst, append_assoc}
 use Rattle.std.proofs.KnownBytes.{Appends-nil, Appends-trans}
 use Rattle.std.specs.Io.KnownBytes.{Appends}
 use Rattle.sdr_base.proofs.WrittenLemmas.{rose_later}
@@ -10,7 +10,7 @@ use Rattle.sdr_core.specs.Leaving.{LastsOn, RunLeads}
 use Rattle.sdr_daemon.specs.Progressing.{IsFresh}
 use Rattle.sdr_core.proofs.CausedLemmas.{answer_caused, caused_later, caused_more, failed_refl, media_later}
 use Rattle.sdr_run.proofs.ScheduleLemmas.{bindings_after-push, follows-push, run_text-push, runs-push}
-use Rattle.sdr_core.specs.Caused.{AreCaused, HaveFailed, IsCaused, from_to}
+use Rattle.sdr_core.specs.Caused.{AreCaused, from_to}
 use Rattle.sdr_run.specs.Schedule.{MakesEvent, bindings_after, run_text}
 use Rattle.sdr_words.specs.Daemons.{daemons_of}
 use Rattle.sdr_machine.specs.Core.{CoreStep, RunsCore, first_core}

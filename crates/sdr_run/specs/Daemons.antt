@@ -1,5 +1,5 @@
 -- Daemons that run their scripts on the heap of a disk.
-use Rattle.std.specs.Prelude.{◌≡◌, ℕ, List, Bool, not}
+use Rattle.std.specs.Prelude.{◌≡◌, List, Bool, not}
 use Rattle.std.specs.List.{list_any}
 use Rattle.sdr_base.specs.declared.media.Media.{Ghosts as MediaGhosts}
 use Rattle.sdr_core.specs.Caused.{EntriesAreCaused, MediaChange, media_change}

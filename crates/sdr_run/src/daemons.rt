@@ -95,12 +95,7 @@ fn run_on<
 /// Runs the daemons that a script names on the heap of a disk, whose sources name these media: each in a thread of its own, through
 /// its own lines. Where the heap isn't opened, or memory is wanting before the first event, the cause comes with the disk
 /// and the media: not formatted, damaged, a disk fault, or want of memory. It may wait, and what it ensures holds if it returns.
-pub fn run_daemons<
-    R: Threads + Wait + Sync,
-    D: Disk + Send,
-    M: Media + Send,
-    G: Gate + Sync,
->(
+pub fn run_daemons<R: Threads + Wait + Sync, D: Disk + Send, M: Media + Send, G: Gate + Sync>(
     rt: &R,
     alloc: Global,
     script: Script,
