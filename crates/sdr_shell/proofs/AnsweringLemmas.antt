@@ -68,12 +68,12 @@ format_leaves status (inr (inr (inl is))) leaves = elim leaves [
 ]
 format_leaves status (inr (inr (inr is))) leaves = is
 
+-- what is given back where there is no entry
+abbrev pub unrun : {D M : Type 0} → ℕ → D → M → RunOutcome D M
+unrun status disk files = record { status = status; journal = []; disk = disk; media = files }
+
 module _ {D M S K : Type 0} (d : DiskGhosts D) (m : MediaGhosts M) (s : SourceGhosts S) (k : SinkGhosts K) (disk : D) (files : M) (input input' : S)
     (output output' : K) where
-  -- what is given back where there is no entry
-  abbrev pub unrun : ℕ → D → M → RunOutcome D M
-  unrun status disk' files' = record { status = status; journal = []; disk = disk'; media = files' }
-
   abbrev source : S → Seen
   source = seen s.left s.faults
 

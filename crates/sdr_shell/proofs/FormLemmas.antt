@@ -37,9 +37,9 @@ live_words (word ∷ second ∷ third ∷ fourth ∷ words) is = refl
 -- no other form of one word is `run`
 still_first : (first dry replay recover inspect : Bool) → first ≡ false
     → still_form (if first then Some forms.Run else (if dry then Some forms.Dry else (if replay then Some forms.Replay
-      else (if recover then Some forms.Recover else (if inspect then Some forms.Inspect else None)))))
+    else (if recover then Some forms.Recover else (if inspect then Some forms.Inspect else None)))))
     ≡ (if first then Some forms.Run else (if dry then Some forms.Dry else (if replay then Some forms.Replay
-      else (if recover then Some forms.Recover else (if inspect then Some forms.Inspect else None)))))
+    else (if recover then Some forms.Recover else (if inspect then Some forms.Inspect else None)))))
 still_first true dry replay recover inspect is = absurd (true≢false is)
 still_first false true replay recover inspect is = refl
 still_first false false true recover inspect is = refl

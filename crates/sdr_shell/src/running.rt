@@ -35,13 +35,7 @@ fn print_journal<K: Sink>(journal: &[Entry], output: &mut K) -> bool
 }
 
 // Runs the daemons of scripts that were read.
-fn run_scripts<
-    R: Threads + Wait + Sync,
-    D: Disk + Send,
-    M: Media + Send,
-    K: Sink,
-    G: Gate + Sync,
->(
+fn run_scripts<R: Threads + Wait + Sync, D: Disk + Send, M: Media + Send, K: Sink, G: Gate + Sync>(
     rt: &R,
     alloc: Global,
     script: Script,

@@ -1,10 +1,12 @@
 use Rattle.std.proofs.Common.{rules, ◌≡◌, ◌⊎◌, None, Some, ap, inl, inr, refl}
-use Rattle.sdr_shell.proofs.AnsweringLemmas.{answers_dry, answers_format, answers_inspect, answers_recover, answers_replay, answers_usage, form_at}
+use Rattle.sdr_shell.proofs.AnsweringLemmas.{answers_dry, answers_format, answers_inspect, answers_recover, answers_replay, answers_usage, form_at, unrun}
 use Rattle.sdr_shell.proofs.StillLemmas.{dry_completes, format_completes, not_run, spells_none}
 use Rattle.sdr_shell.specs.Answers.{AnswersDry, AnswersFormat, seen}
 use Rattle.sdr_shell.specs.Form.{form_of, still_form}
-use Rattle.sdr_shell.specs.declared.form.Form.TheVariants.{Dry, Format, Inspect, Recover, Replay}
+use Rattle.sdr_shell.specs.declared.form.Form.TheVariants.{Dry, Format, Inspect, Recover, Replay, Run}
+use Rattle.sdr_shell.specs.declared.status.TheConstants.{USAGE}
 use Rattle.sdr_shell.proofs.commands.still.Goals as goal
+use Rattle.sdr_shell.proofs.commands.still.Goals.{in-Some+in-Run-1, in-None-1}
 
 pub returns-in-Some-Dry : goal.returns-in-Some-Dry
 returns-in-Some-Dry g c =
@@ -29,7 +31,7 @@ returns-in-Some-Dry g c =
     } in
     let form : form_of c.args.words.now ≡ Some Dry = search rules in
     form_at g.D.Disk g.M.Media g.S.Source g.K.Sink c.args.disk c.args.media c.args.input.now c.dry-status.new.input c.args.output.now
-    c.dry-status.new.output (still_form (form_of c.args.words.now)) (Some Dry) c.without_journal.result _ (ap still_form form) c.without_journal.ensures
+    c.dry-status.new.output (still_form (form_of c.args.words.now)) (Some Dry) c.without_journal.result (unrun c.dry-status.result c.args.disk c.dry-status.new.media) (ap still_form form) c.without_journal.ensures
     (answers_dry g.D.Disk g.M.Media g.S.Source g.K.Sink c.args.disk c.args.media c.args.input.now c.dry-status.new.input c.args.output.now
     c.dry-status.new.output c.dry-status.result c.dry-status.new.media answers e.later e.reads e.each e.media)
 
@@ -55,7 +57,8 @@ returns-in-Some-Format g c =
     } in
     let form : form_of c.args.words.now ≡ Some (Format frame) = cc (c.in-Some-Format.ensures.form) in
     form_at g.D.Disk g.M.Media g.S.Source g.K.Sink c.args.disk c.args.media c.args.input.now c.args.input.now c.args.output.now
-    c.format_disk-status.new.output (still_form (form_of c.args.words.now)) (Some (Format frame)) c.without_journal-in-Some-Format.result _ (ap still_form form)
+    c.format_disk-status.new.output (still_form (form_of c.args.words.now)) (Some (Format frame)) c.without_journal-in-Some-Format.result
+    (unrun c.format_disk-status.result c.format_disk-status.new.disk c.args.media) (ap still_form form)
     c.without_journal-in-Some-Format.ensures
     (answers_format g.D.Disk g.M.Media g.S.Source g.K.Sink c.args.disk c.args.media c.args.input.now c.args.input.now c.args.output.now
     c.format_disk-status.new.output frame c.format_disk-status.result c.format_disk-status.new.disk answers e.synced e.later e.same e.tells e.size)
@@ -73,7 +76,8 @@ returns-in-Some-Recover g c =
     let e = c.recover_disk-status.ensures in
     let form : form_of c.args.words.now ≡ Some Recover = search rules in
     form_at g.D.Disk g.M.Media g.S.Source g.K.Sink c.args.disk c.args.media c.args.input.now c.args.input.now c.args.output.now
-    c.recover_disk-status.new.output (still_form (form_of c.args.words.now)) (Some Recover) c.without_journal-in-Some-Recover.result _ (ap still_form form)
+    c.recover_disk-status.new.output (still_form (form_of c.args.words.now)) (Some Recover) c.without_journal-in-Some-Recover.result
+    (unrun c.recover_disk-status.result.status c.recover_disk-status.result.disk c.args.media) (ap still_form form)
     c.without_journal-in-Some-Recover.ensures
     (answers_recover g.D.Disk g.M.Media g.S.Source g.K.Sink c.args.disk c.args.media c.args.input.now c.args.input.now c.args.output.now
     c.recover_disk-status.new.output c.recover_disk-status.result.status c.recover_disk-status.result.disk e.answers e.later e.keeps)
@@ -83,16 +87,21 @@ returns-in-Some-Inspect g c =
     let e = c.inspect_disk-status.ensures in
     let form : form_of c.args.words.now ≡ Some Inspect = search rules in
     form_at g.D.Disk g.M.Media g.S.Source g.K.Sink c.args.disk c.args.media c.args.input.now c.args.input.now c.args.output.now
-    c.inspect_disk-status.new.output (still_form (form_of c.args.words.now)) (Some Inspect) c.without_journal-in-Some-Inspect.result _ (ap still_form form)
+    c.inspect_disk-status.new.output (still_form (form_of c.args.words.now)) (Some Inspect) c.without_journal-in-Some-Inspect.result
+    (unrun c.inspect_disk-status.result c.inspect_disk-status.new.disk c.args.media) (ap still_form form)
     c.without_journal-in-Some-Inspect.ensures
     (answers_inspect g.D.Disk g.M.Media g.S.Source g.K.Sink c.args.disk c.args.media c.args.input.now c.args.input.now c.args.output.now
     c.inspect_disk-status.new.output c.inspect_disk-status.result c.inspect_disk-status.new.disk e.answers e.later e.size)
 
 pub returns-in-Some-Run : goal.returns-in-Some-Run
 returns-in-Some-Run g c =
-    let form : still_form (form_of c.args.words.now) ≡ None = ? in
+    let form : still_form (form_of c.args.words.now) ≡ None =
+    elim c.in-Some-Run-1.branch [
+      | in-Some+in-Run-1 w ↦ let is : form_of c.args.words.now ≡ Some Run = search rules in ap still_form is
+      | in-None-1 w ↦ let is : form_of c.args.words.now ≡ None = search rules in ap still_form is
+    ] in
     form_at g.D.Disk g.M.Media g.S.Source g.K.Sink c.args.disk c.args.media c.args.input.now c.args.input.now c.args.output.now
-    c.last_line.new.output (still_form (form_of c.args.words.now)) None c.without_journal-in-Some-Run.result _ form
+    c.last_line.new.output (still_form (form_of c.args.words.now)) None c.without_journal-in-Some-Run.result (unrun USAGE c.args.disk c.args.media) form
     c.without_journal-in-Some-Run.ensures
     (answers_usage g.D.Disk g.M.Media g.S.Source g.K.Sink c.args.disk c.args.media c.args.input.now c.args.input.now c.args.output.now
     c.last_line.new.output c.last_line.ensures.written c.last_line.ensures.later)

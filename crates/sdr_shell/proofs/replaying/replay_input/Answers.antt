@@ -12,7 +12,7 @@ use Rattle.sdr_shell.proofs.replaying.replay_input.Goals as goal
 pub returns-in-Ok : goal.returns-in-Ok
 returns-in-Ok g c =
     let e = c.read_script.ensures in
-    script_ran g.D.Disk g.M.Media g.S.Source g.K.Sink ReplaysSteps replay_tells c.args.disk c.args.media c.args.input.now c.read_script.new.input
+    script_ran g.D.Disk g.M.Media g.S.Source g.K.Sink ReplaysSteps replay_tells c.args.disk c.args.media c.args.input.now c.read_script.new.source
     c.args.output.now c.replay_script.new.output e.later e.reads e.each c.replay_script.ensures.later c.in-Ok.script c.replay_script.result
     (read_to_the_end _ _ _ c.in-Ok.ensures.script) (had_script _ _ _ c.in-Ok.ensures.script)
     (subst (λ (script : List ScriptStep). RunsOrNot g.D.Disk g.M.Media ReplaysSteps c.args.disk c.args.media script
@@ -26,7 +26,7 @@ returns-in-Err g c =
     let M = g.row.M.Denot in
     let e = c.read_script.ensures in
     subst (λ (r : RunOutcome D M). AnswersInput g.D.Disk g.M.Media g.S.Source g.K.Sink ReplaysSteps c.args.disk c.args.media c.args.input.now
-    c.read_script.new.input c.args.output.now c.tell-status.new.output r) (sym c.without_journal.ensures)
-    (none_read g.D.Disk g.M.Media g.S.Source g.K.Sink ReplaysSteps replay_tells c.args.disk c.args.media c.args.input.now c.read_script.new.input
+    c.read_script.new.source c.args.output.now c.tell-status.new.output r) (sym c.without_journal.ensures)
+    (none_read g.D.Disk g.M.Media g.S.Source g.K.Sink ReplaysSteps replay_tells c.args.disk c.args.media c.args.input.now c.read_script.new.source
     c.args.output.now c.tell-status.new.output e.later e.reads e.each c.tell-status.ensures.later c.in-Err.error c.tell-status.result
     c.tell-status.ensures.told (bad_line_of _ _ _ c.in-Err.ensures.line) (λ is. c.in-Err.ensures.input (cc is)))
