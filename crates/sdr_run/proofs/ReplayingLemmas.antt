@@ -7,9 +7,12 @@ use Rattle.sdr_core.specs.CoreKept.{AreMadeBetween, BeginsOn, IsRunOf}
 use Rattle.sdr_disk.specs.Moments.{AtEach}
 use Rattle.sdr_disk.specs.Told.{Both, IfTold}
 use Rattle.sdr_disk.specs.declared.disk.Disk.{Ghosts as DiskGhosts}
-use Rattle.sdr_core.specs.Caused.{SeenMedia, from_to, media_change, seen_media}
+use Rattle.sdr_core.specs.Caused.{EntriesAreCaused, SeenMedia, from_to, seen_media}
 use Rattle.sdr_words.specs.Daemons.{daemons_of}
+use Rattle.sdr_daemon.specs.Scripts.{KeepsToScripts}
+use Rattle.sdr_daemon.specs.declared.running.RanDaemons.{RanDaemons}
 use Rattle.sdr_image.specs.Opening.{MayBeOpened}
+use Rattle.sdr_machine.specs.Ground.{State}
 use Rattle.sdr_machine.specs.Legal.{IsLegal}
 use Rattle.sdr_machine.specs.Standing.{standing_at}
 use Rattle.sdr_machine.specs.declared.has_ground.HasGround.{Ghosts}
@@ -18,17 +21,20 @@ use Rattle.sdr_log.specs.Log.{put_back_of}
 use Rattle.sdr_log.specs.Logged.{GivesSame}
 use Rattle.sdr_model.specs.declared.journal.Entry.{Entry}
 use Rattle.sdr_model.specs.declared.script.ScriptStep.{ScriptStep}
+use Rattle.sdr_run.specs.Daemons.{RunsDaemons, RunsOn, RunsOut}
 use Rattle.sdr_run.specs.Handed.{HandedDisk, StaysAsHanded, handed_as}
+use Rattle.sdr_run.specs.Opening.{OpenedSo}
 use Rattle.sdr_run.specs.Playing.{Output, PlaysOut, RunsScript}
-use Rattle.sdr_run.proofs.HandedLemmas.{stays_rest}
+use Rattle.sdr_run.proofs.HandedLemmas.{open_again, stays_rest}
 use Rattle.sdr_run.proofs.SettledLemmas.{ground_where}
-use Rattle.sdr_run.specs.Replaying.{IsNotRun, IsSettled, LeavesJournal, ReplaysOn, begins_on, with_base}
+use Rattle.sdr_run.specs.Replaying.{IsNotRun, IsSettled, LeavesJournal, RanOn, ReplaysOn, begins_on, with_base}
 use Rattle.sdr_run.specs.Settled.{StandsWhere}
 use Rattle.sdr_run.specs.declared.playing.Ran.{Ran}
 use Rattle.sdr_station.specs.CrashNow.{crash_now}
 use Rattle.sdr_station.specs.Grounded.{Grounded, Leaves, OpensAs}
 use Rattle.sdr_station.specs.Opening.{IsOpen, first_on}
 use Rattle.sdr_station.specs.declared.error.OpenError.{OpenError}
+use Rattle.sdr_station.specs.declared.error.OpenError.TheVariants as errors
 
 -- a disk that tells its bytes has told them, where it tells them just as before
 told_before : (old new : Option (List ℕ)) (y : List ℕ) → new ≡ Some y → is_some new ≡ is_some old → (x : List ℕ) × (old ≡ Some x)
@@ -39,26 +45,21 @@ told_before (Some x) new y is tells = (x, refl)
 abbrev pub ground_of : {D M : Type 0} → DiskGhosts D → MediaGhosts M → Type 0 → Ghosts (Grounded D M)
 ground_of d m condition = ground_where condition d.bytes d.moment d.faults d.may_hold_after m
 
--- The heap of a disk was opened with media: what opening tells of it.
-pub record OpenedSo {D M : Type 0} (d : DiskGhosts D) (disk : D) (files : M) (g : Grounded D M) : Type 0 where
-  pub with_media : g.media ≡ files
-  pub open_so : IsOpen d.bytes d.moment d.may_hold_after disk g
-  pub keeps : KeepsDisk d.size d.bytes disk g.heap.cells.disk
-  pub later : d.faults disk ≤ d.faults g.heap.cells.disk
-  pub forward : d.moment disk ≤ d.moment g.heap.cells.disk
-  pub same : IsSettled d disk → IfTold (d.bytes disk) (λ x. AtEach d.moment d.may_hold_after disk g.heap.cells.disk (GivesSame x))
-
 -- what opening told of the same disk
 pub opened_so : {D M : Type 0} (d : DiskGhosts D) (given disk : D) (files : M) (g : Grounded D M) → given ≡ disk → g.media ≡ files
-    → IsOpen d.bytes d.moment d.may_hold_after given g → KeepsDisk d.size d.bytes given g.heap.cells.disk → d.faults given ≤ d.faults g.heap.cells.disk
+    → IsOpen d.bytes d.moment d.may_hold_after given g → KeepsDisk d.size d.bytes given g.heap.cells.disk
+    → IfTold (d.bytes g.heap.cells.disk) (d.may_hold_after g.heap.cells.disk (d.moment g.heap.cells.disk))
+    → Both (d.bytes given) (d.bytes g.heap.cells.disk) KeepsRest → d.faults given ≤ d.faults g.heap.cells.disk
     → d.moment given ≤ d.moment g.heap.cells.disk → IfTold (d.bytes given) (λ x. MayBeOpened x (d.may_hold_after given (d.moment given))
     → AtEach d.moment d.may_hold_after given g.heap.cells.disk (GivesSame x)) → OpenedSo d disk files g
-opened_so {D} d given disk files g same with_media open_so keeps later forward any_moment =
+opened_so {D} d given disk files g same with_media open_so keeps read rest later forward any_moment =
     subst (λ (x : D). OpenedSo d x files g) same
     (record {
       with_media = with_media;
       open_so = open_so;
       keeps = keeps;
+      read = read;
+      rest = rest;
       later = later;
       forward = forward;
       same = λ settled x is. any_moment x is (settled x is);
@@ -70,10 +71,24 @@ pub not_run : {D : Type 0} (d : DiskGhosts D) (given disk left now : D) (why : O
 not_run {D} d given disk left now why same left_is is =
     subst (λ (x : D). IsNotRun d x now why) same (subst (λ (y : D). IsNotRun d given y why) (sym left_is) is)
 
--- A heap that was opened on a disk, whose bytes as read are one of the images now, with media, under a condition that is met where the disk
--- was settled.
-module _ {D M : Type 0} (d : DiskGhosts D) (m : MediaGhosts M) (read_now : (x : D) → IfTold (d.bytes x) (d.may_hold_after x (d.moment x)))
-    (disk : D) (files : M) (script : List ScriptStep) (g : Grounded D M) (condition : Type 0) (met : condition ↔ IsSettled d disk)
+-- a heap was opened, and there was no memory for a run on it
+pub opened_unrun : {D M : Type 0} (d : DiskGhosts D) (disk left : D) (files : M) (g : Grounded D M) (why : OpenError) → OpenedSo d disk files g
+    → left ≡ g.heap.cells.disk → why ≡ errors.NoMemory → IsNotRun d disk left why
+opened_unrun {D} d disk left files g why o left_is is =
+    subst (λ (w : OpenError). IsNotRun d disk left w) (sym is)
+    (subst (λ (x : D). IsNotRun d disk x errors.NoMemory) (sym left_is)
+    (record {
+      why = tt;
+      keeps = o.keeps;
+      bytes = tt;
+      outside = o.rest;
+      again = open_again d disk g errors.NoMemory o.open_so;
+      any_moment = o.same;
+      later = o.later;
+    }))
+
+-- A heap that was opened on a disk with media, under a condition that is met where the disk was settled.
+module _ {D M : Type 0} (d : DiskGhosts D) (m : MediaGhosts M) (disk : D) (files : M) (script : List ScriptStep) (g : Grounded D M) (condition : Type 0) (met : condition ↔ IsSettled d disk)
     (o : OpenedSo d disk files g) where
   -- what was opened stands for the first state
   stands : StandsWhere condition d.bytes d.moment d.may_hold_after g (standing_at (first_on g) [])
@@ -92,7 +107,7 @@ module _ {D M : Type 0} (d : DiskGhosts D) (m : MediaGhosts M) (read_now : (x : 
       let was = told_before (d.bytes disk) (d.bytes now) left.bytes left.tells o.keeps.tells in
       let at = o.same settled was.0 was.1 in
       let here : g.moment ≡ d.moment now = both.moment_is left.bytes left.tells in
-      let read : d.may_hold_after now (d.moment now) left.bytes = read_now now left.bytes left.tells in
+      let read : d.may_hold_after now (d.moment now) left.bytes = o.read left.bytes left.tells in
       let opened : OpensAs left.bytes (first_on g) = crash_now d.bytes d.moment d.may_hold_after g (standing_at (first_on g) []) left.bytes both
       (record { bytes = left.bytes; tells = left.tells; left = subst (λ (n : ℕ). d.may_hold_after now n left.bytes) (sym here) read }) in
       let now_same : put_back_of left.bytes ≡ put_back_of was.0 = at.each (d.moment now) left.bytes at.later (omega arith) read in
@@ -156,28 +171,23 @@ module _ {D M : Type 0} (d : DiskGhosts D) (m : MediaGhosts M) (read_now : (x : 
         cause = run.cause;
       }
 
-  replays_now : (out out' : Output) (ran : Ran (Grounded D M)) (parts : D × M)
-      → PlaysOut (ground_of d m condition) (begins_on m (handed_as d disk) script g) script g out out' ran → parts.0 ≡ ran.base.heap.cells.disk
-      → KeepsDisk d.size d.bytes disk ran.base.heap.cells.disk → Both (d.bytes disk) (d.bytes ran.base.heap.cells.disk) KeepsRest
-      → d.moment ran.base.heap.cells.disk ≡ ran.base.moment → parts.1 ≡ ran.base.media
-      → ReplaysOn d m disk files script out out' (with_base ran parts)
-  replays_now out out' ran parts plays on keeps outside seen media_is =
-      let tells : m.told g.media ≡ m.told files = ap m.told o.with_media in
-      let shows : M → SeenMedia = seen_media m.told m.faults m.short in
+  -- a run on the heap, which left this disk
+  ran_now : (journal : List Entry) (base : Grounded D M) (left : D) (P : State → Type 0)
+      → IsRunOf (ground_of d m condition) (begins_on m (handed_as d disk) script g) journal base → left ≡ base.heap.cells.disk
+      → KeepsDisk d.size d.bytes disk base.heap.cells.disk → Both (d.bytes disk) (d.bytes base.heap.cells.disk) KeepsRest
+      → d.moment base.heap.cells.disk ≡ base.moment → P (first_on g) → RanOn d m (daemons_of script) disk left files journal P
+  ran_now journal base left P run on keeps outside seen tells =
+      let same : m.told g.media ≡ m.told files = ap m.told o.with_media in
       record {
         ground = g;
         with_media = o.with_media;
         open_so = o.open_so;
-        replays =
-            subst (λ (x : M). RunsScript (from_to (shows x) (shows parts.1)) (first_on g) script out out' (with_base ran parts)) o.with_media
-            (subst (λ (x : M). RunsScript (from_to (shows g.media) (shows x)) (first_on g) script out out' (with_base ran parts)) (sym media_is)
-            plays.replays);
-        legal = subst (λ (told : Option Told). IsLegal told (daemons_of script) (first_on g) ran.journal) tells plays.run.legal;
+        runs = tells;
+        legal = subst (λ (told : Option Told). IsLegal told (daemons_of script) (first_on g) journal) same run.legal;
         leaves =
-            subst (λ (told : Option Told). LeavesJournal d told (daemons_of script) (first_on g) ran.journal disk parts.0) tells
-            (subst (λ (x : D). LeavesJournal d (m.told g.media) (daemons_of script) (first_on g) ran.journal disk x) (sym on)
-            (leaves_journal ran.journal ran.base plays.run keeps outside seen));
-        failed = plays.failed;
+            subst (λ (told : Option Told). LeavesJournal d told (daemons_of script) (first_on g) journal disk left) same
+            (subst (λ (x : D). LeavesJournal d (m.told g.media) (daemons_of script) (first_on g) journal disk x) (sym on)
+            (leaves_journal journal base run keeps outside seen));
       }
 
   -- What is told of the disk and media as they were handed in is told so.
@@ -187,20 +197,57 @@ module _ {D M : Type 0} (d : DiskGhosts D) (m : MediaGhosts M) (read_now : (x : 
     begins_opened =
         subst (λ (w : HandedDisk). BeginsOn (ground_of d m condition) (begins_on m w script g) (daemons_of script) g) (sym handed) begins_now
 
-    -- what it has come to, on a disk that stays as long and tells its bytes if it did
+    -- it was run on the heap, and left a disk that is as long and tells its bytes if it did
+    ran_opened : (journal : List Entry) (base : Grounded D M) (left : D) (P : State → Type 0)
+        → IsRunOf (ground_of d m condition) (begins_on m was script g) journal base → left ≡ base.heap.cells.disk → d.size left ≡ was.size
+        → StaysAsHanded was.bytes (d.bytes left) base.heap.cells.frame → d.moment left ≡ base.moment → P (first_on g)
+        → RanOn d m (daemons_of script) disk left files journal P
+    ran_opened journal base left P run on size stays seen tells =
+        let keeps : KeepsDisk d.size d.bytes disk left =
+        record { size = size ∙ ap (λ (w : HandedDisk). w.size) handed; tells = stays.tells ∙ ap (λ (w : HandedDisk). is_some w.bytes) handed } in
+        let outside : Both (d.bytes disk) (d.bytes left) KeepsRest =
+        subst (λ (w : HandedDisk). Both w.bytes (d.bytes left) KeepsRest) handed (stays_rest _ _ _ stays) in
+        ran_now journal base left P
+        (subst (λ (w : HandedDisk). IsRunOf (ground_of d m condition) (begins_on m w script g) journal base) handed run) on
+        (subst (λ (x : D). KeepsDisk d.size d.bytes disk x) on keeps) (subst (λ (x : D). Both (d.bytes disk) (d.bytes x) KeepsRest) on outside)
+        (subst (λ (x : D). d.moment x ≡ base.moment) on seen) tells
+
+    -- what media show
+    abbrev shows : M → SeenMedia
+    shows = seen_media m.told m.faults m.short
+
+    -- what a schedule has come to
     pub replayed : (out out' : Output) (ran : Ran (Grounded D M)) (result : Ran (D × M))
         → PlaysOut (ground_of d m condition) (begins_on m was script g) script g out out' ran → result ≡ with_base ran result.base
         → result.base.0 ≡ ran.base.heap.cells.disk → d.size result.base.0 ≡ was.size
         → StaysAsHanded was.bytes (d.bytes result.base.0) ran.base.heap.cells.frame
         → d.moment result.base.0 ≡ ran.base.moment → result.base.1 ≡ ran.base.media → ReplaysOn d m disk files script out out' result
     replayed out out' ran result plays is on size stays seen media_is =
-        let keeps : KeepsDisk d.size d.bytes disk result.base.0 =
-        record { size = size ∙ ap (λ (w : HandedDisk). w.size) handed; tells = stays.tells ∙ ap (λ (w : HandedDisk). is_some w.bytes) handed } in
-        let outside : Both (d.bytes disk) (d.bytes result.base.0) KeepsRest =
-        subst (λ (w : HandedDisk). Both w.bytes (d.bytes result.base.0) KeepsRest) handed (stays_rest _ _ _ stays) in
+        let now = result.base in
+        let came : Ran (D × M) = with_base ran now in
         subst (λ (r : Ran (D × M)). ReplaysOn d m disk files script out out' r) (sym is)
-        (replays_now out out' ran result.base
-        (subst (λ (w : HandedDisk). PlaysOut (ground_of d m condition) (begins_on m w script g) script g out out' ran) handed plays) on
-        (subst (λ (x : D). KeepsDisk d.size d.bytes disk x) on keeps)
-        (subst (λ (x : D). Both (d.bytes disk) (d.bytes x) KeepsRest) on outside) (subst (λ (x : D). d.moment x ≡ ran.base.moment) on seen)
-        media_is)
+        (record {
+          on_heap = ran_opened ran.journal ran.base now.0 (λ first. RunsScript (from_to (shows files) (shows now.1)) first script out out' came)
+              plays.run on size stays seen
+              (subst (λ (x : M). RunsScript (from_to (shows x) (shows now.1)) (first_on g) script out out' came) o.with_media
+              (subst (λ (x : M). RunsScript (from_to (shows g.media) (shows x)) (first_on g) script out out' came) (sym media_is) plays.replays));
+          failed = plays.failed;
+        })
+
+    -- what daemons have come to
+    pub daemons_ran : (ran : RanDaemons (Grounded D M)) (now : D × M)
+        → RunsOut (ground_of d m condition) (begins_on m was script g) script ran → now.0 ≡ ran.base.heap.cells.disk → d.size now.0 ≡ was.size
+        → StaysAsHanded was.bytes (d.bytes now.0) ran.base.heap.cells.frame → d.moment now.0 ≡ ran.base.moment → now.1 ≡ ran.base.media
+        → RunsOn d m disk files script (record { journal = ran.journal; base = now; failed = ran.failed; starved = ran.starved })
+    daemons_ran ran now out on size stays seen media_is =
+        record {
+          on_heap = ran_opened ran.journal ran.base now.0 (λ first. RunsDaemons (from_to (shows files) (shows now.1)) first script ran.journal ran.starved)
+              out.run on size stays seen
+              (record {
+                keeps = subst (λ (x : M). KeepsToScripts (m.told x) (first_on g) script ran.journal) o.with_media out.keeps;
+                caused = subst (λ (x : M). EntriesAreCaused ran.journal (from_to (shows x) (shows now.1))) o.with_media
+                    (subst (λ (x : M). EntriesAreCaused ran.journal (from_to (shows g.media) (shows x))) (sym media_is) out.run.caused);
+                wanting = out.wanting;
+              });
+          failed = out.failed;
+        }

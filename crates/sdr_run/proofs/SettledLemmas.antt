@@ -1,5 +1,5 @@
 -- What is known of a heap in memory and on its disk is known of it under a condition on the disk.
-use Rattle.std.proofs.Common.{◌≡◌, ◌≤◌, ◌⊎◌, ℕ, List, Bool, Option, sym, subst}
+use Rattle.std.proofs.Common.{◌≤◌, ℕ, List, Bool, Option, sym, subst}
 use Rattle.std.specs.Prelude.{⊤, IfOk, OnErr, OnOk, Result, Ok, Err}
 use Rattle.sdr_base.specs.declared.media.Media.{Ghosts as MediaGhosts}
 use Rattle.sdr_machine.specs.Crash.{LeavesBefore, LeavesEither}

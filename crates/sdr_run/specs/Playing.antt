@@ -69,11 +69,14 @@ pub record Replays (media : MediaChange) (first : State) (script : List ScriptSt
   pub caused : AreCaused made media
   pub printed : P rest (run_text made)
 
--- The steps were made, all of them unless memory was wanting, and their answers were printed; the leaves tell whether it was.
+-- The steps were made, all of them unless memory was wanting, and the leaves tell whether it was. P tells of the text of the answers.
+abbrev pub ReplaysSteps : MediaChange → State → List ScriptStep → List Entry → Bool → (List ℕ → Type 0) → Type 0
+ReplaysSteps media first script journal starved P =
+    Replays media first script (leave_of starved) journal (λ rest text. (starved ≡ false → rest ≡ []) × P text)
+
+-- The same, and the answers were printed.
 abbrev pub RunsScript : {T : Type 0} → MediaChange → State → List ScriptStep → Output → Output → Ran T → Type 0
-RunsScript media first script out out' ran =
-    Replays media first script (leave_of ran.starved) ran.journal
-    (λ rest text. (ran.starved ≡ false → rest ≡ []) × IsPrinted ran.printing out out' text)
+RunsScript media first script out out' ran = ReplaysSteps media first script ran.journal ran.starved (IsPrinted ran.printing out out')
 
 -- A schedule was run on a ground, which was this one before.
 pub record PlaysOut {T : Type 0} (g : Ghosts T) (b : RunStart) (script : List ScriptStep) (before : T) (out out' : Output) (ran : Ran T) : Type 0 where

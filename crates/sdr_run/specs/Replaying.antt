@@ -77,23 +77,30 @@ pub record LeavesJournal {D : Type 0} (d : DiskGhosts D) (told : Option Told) (d
   pub later : d.faults old ≤ d.faults new
   pub cause : is_sound journal ≡ false → Rose (d.faults old) (d.faults new)
 
--- The heap of the disk was opened with these media, and the schedule was run on it.
-pub record ReplaysOn {D M : Type 0} (d : DiskGhosts D) (m : MediaGhosts M) (disk : D) (files : M) (script : List ScriptStep) (out out' : Output)
-    (ran : Ran (D × M)) : Type 0 where
+-- The heap of the disk was opened with these media, and by a run of these daemons on it this journal came to be. P tells of the run, from the
+-- state that it began with.
+pub record RanOn {D M : Type 0} (d : DiskGhosts D) (m : MediaGhosts M) (daemons : List ℕ) (disk disk' : D) (files : M) (journal : List Entry)
+    (P : State → Type 0) : Type 0 where
   -- what was opened
   pub ground : Grounded D M
   pub with_media : ground.media ≡ files
   pub open_so : IsOpen d.bytes d.moment d.may_hold_after disk ground
-  -- the answers that were printed and the journal are those of the run of the script, from the world on it
-  pub replays : RunsScript (media_change m.told m.faults m.short files ran.base.1) (first_on ground) script out out' ran
+  -- what was run, from the world on it
+  pub runs : P (first_on ground)
   -- the journal is legal
-  pub legal : IsLegal (m.told files) (daemons_of script) (first_on ground) ran.journal
-  -- what a crash leaves is told by the journal
-  pub leaves : LeavesJournal d (m.told files) (daemons_of script) (first_on ground) ran.journal disk ran.base.0
+  pub legal : IsLegal (m.told files) daemons (first_on ground) journal
+  -- what a crash leaves, at each moment of the call and behind it, is told by the journal
+  pub leaves : LeavesJournal d (m.told files) daemons (first_on ground) journal disk disk'
+
+-- The schedule was run on the heap of the disk: the answers that were printed and the journal are those of the run of the script.
+pub record ReplaysOn {D M : Type 0} (d : DiskGhosts D) (m : MediaGhosts M) (disk : D) (files : M) (script : List ScriptStep) (out out' : Output)
+    (ran : Ran (D × M)) : Type 0 where
+  pub on_heap : RanOn d m (daemons_of script) disk ran.base.0 files ran.journal
+      (λ first. RunsScript (media_change m.told m.faults m.short files ran.base.1) first script out out' ran)
   -- the disk failed just where it did in an entry
   pub failed : ran.failed ≡ not (is_sound ran.journal)
 
--- No schedule was run on the disk, for this reason.
+-- Nothing was run on the disk, for this reason.
 pub record IsNotRun {D : Type 0} (d : DiskGhosts D) (disk disk' : D) (cause : OpenError) : Type 0 where
   -- why its heap wasn't opened, or that there was no memory for a run
   pub why : ExplainsOpen (d.bytes disk) (d.faults disk) (d.faults disk') cause

@@ -1,5 +1,5 @@
 -- A dry run of a script: which events its steps make, and what is printed of them.
-use Rattle.std.specs.Prelude.{◌≡◌, ℕ, ◌+◌, ◌-◌, List, [], ◌∷◌, ◌++◌, Option}
+use Rattle.std.specs.Prelude.{◌≡◌, ℕ, List, [], ◌∷◌, ◌++◌, Option}
 use Rattle.sdr_base.specs.Media.{Told}
 use Rattle.sdr_core.specs.Caused.{AreCaused, IsCaused, MediaChange}
 use Rattle.sdr_machine.specs.Agreeing.{AgreesWith}
@@ -10,7 +10,6 @@ use Rattle.sdr_machine.specs.Machine.{Machine, Made}
 use Rattle.sdr_machine.specs.declared.came.Came.{Came}
 use Rattle.sdr_model.specs.World.{empty_world}
 use Rattle.mem_machine.specs.Asking.{StepsAt, bytes_answered}
-use Rattle.sdr_model.specs.declared.answer.Answer.TheVariants as answers
 use Rattle.sdr_model.specs.declared.event.Event.{Event}
 use Rattle.sdr_model.specs.declared.event.Leave.TheVariants as leaves
 use Rattle.sdr_words.specs.Bindings.{Binding, event_of, bound}

@@ -37,13 +37,17 @@ impl<D: Disk, M: Media, J: HandedIn> HandedGround<D, M, J> {
         HandedGround { ground }
     }
 
-    pub fn into_ground(self) -> HeapGround<Handed<D, J>, M, Compares>
-        ensures same { result ≡ self }
-        ensures stays { StaysAsHanded J.was.bytes (D.bytes result.heap.cells.disk)
-            result.heap.cells.frame }
+    /// The disk and the media. What the open transaction has done is lost.
+    pub fn into_parts(self) -> (D, M)
+        ensures disk { result.0 ≡ self.heap.cells.disk }
+        ensures media { result.1 ≡ self.media }
+        ensures seen { D.moment result.0 ≡ self.moment }
+        ensures size { D.size result.0 ≡ J.was.size }
+        ensures stays { StaysAsHanded J.was.bytes (D.bytes result.0) self.heap.cells.frame }
     {
         let HandedGround { ground } = self;
-        ground
+        let (disk, media) = ground.into_parts();
+        (disk.into_disk(), media)
     }
 }
 

@@ -4,16 +4,16 @@ ghost use Rattle.sdr_run.specs.Handed.{StaysAsHanded, handed_as};
 ghost use Rattle.sdr_run.specs.Playing.{output};
 ghost use Rattle.sdr_run.specs.Replaying.{IsNotRun, IsSettled, ReplaysOn, with_base};
 
-use crate::handed::{Handed, HandedIn};
+use crate::handed::HandedIn;
 use crate::handed_ground::HandedGround;
+use crate::opening::{open_handed, shut_unrun};
 use crate::playing::{Ran, play};
 use sdr_base::{Media, Sink};
 use sdr_disk::Disk;
 use sdr_model::ScriptStep;
-use sdr_station::{HeapGround, OpenError, Shut};
+use sdr_station::Shut;
 use std::alloc::Global;
 use std::marker::Brand;
-use zco_acct::{Compares, Notice};
 
 // What a schedule has come to, with the disk of the heap on which it ran, and its media.
 fn with_parts<D: Disk, M: Media, J: HandedIn>(ran: Ran<HandedGround<D, M, J>>) -> Ran<(D, M)>
@@ -31,10 +31,9 @@ fn with_parts<D: Disk, M: Media, J: HandedIn>(ran: Ran<HandedGround<D, M, J>>) -
         starved,
         printing,
     } = ran;
-    let (disk, media) = base.into_ground().into_parts();
     Ran {
         journal,
-        base: (disk.into_disk(), media),
+        base: base.into_parts(),
         failed,
         starved,
         printing,
@@ -59,28 +58,13 @@ fn replay_on<D: Disk, M: Media, J: HandedIn, K: Sink>(
     ensures same { IfErr result (λ _. out.new ≡ out.old) }
     ensures later { K.faults out.old ≤ K.faults out.new }
 {
-    let held = Handed::<D, J>::new(disk);
-    let ground = match HeapGround::open(alloc, held, media, Notice::new(Compares)) {
-        Ok(ground) => ground,
-        Err(Shut { why, disk, media }) => {
-            return Err(Shut {
-                why,
-                disk: disk.into_disk(),
-                media,
-            });
-        }
+    let base = match open_handed::<D, M, J>(alloc, disk, media) {
+        Ok(base) => base,
+        Err(shut) => return Err(shut),
     };
-    let base = HandedGround::new(ground);
     match play::<HandedGround<D, M, J>, Brand, K>(alloc, script, base, out) {
         Ok(ran) => Ok(with_parts(ran)),
-        Err(base) => {
-            let (disk, media) = base.into_ground().into_parts();
-            Err(Shut {
-                why: OpenError::NoMemory,
-                disk: disk.into_disk(),
-                media,
-            })
-        }
+        Err(base) => Err(shut_unrun(base)),
     }
 }
 

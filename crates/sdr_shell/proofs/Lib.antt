@@ -1,6 +1,9 @@
+pub mod AnsweringLemmas
+pub mod FormLemmas
+pub mod InputLemmas
 pub mod InspectLemmas
+pub mod OnHeapLemmas
 pub mod RecoverLemmas
-pub mod ReplayLemmas
 pub mod ScriptRead
 pub mod ShutLemmas
 pub mod StillLemmas

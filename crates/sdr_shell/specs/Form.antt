@@ -24,15 +24,20 @@ abbrev pub format_of : Option Frame → Option Form
 format_of (Some frame) = Some (forms.Format frame)
 format_of None = None
 
+-- whether the word is this text
+abbrev pub is_word : RcStr Global → List ℕ → Bool
+is_word word text = pointwise nat_eq (rc_str_bytes word) text
+
 -- the form that the words are, if they are one
 abbrev pub form_of : List (RcStr Global) → Option Form
 form_of (word ∷ []) =
-    if pointwise nat_eq (rc_str_bytes word) (codes "dry") then Some forms.Dry
-    else (if pointwise nat_eq (rc_str_bytes word) (codes "replay") then Some forms.Replay
-    else (if pointwise nat_eq (rc_str_bytes word) (codes "recover") then Some forms.Recover
-    else (if pointwise nat_eq (rc_str_bytes word) (codes "inspect") then Some forms.Inspect else None)))
+    if is_word word (codes "run") then Some forms.Run
+    else (if is_word word (codes "dry") then Some forms.Dry
+    else (if is_word word (codes "replay") then Some forms.Replay
+    else (if is_word word (codes "recover") then Some forms.Recover
+    else (if is_word word (codes "inspect") then Some forms.Inspect else None))))
 form_of (word ∷ log ∷ heap ∷ []) =
-    if pointwise nat_eq (rc_str_bytes word) (codes "format")
+    if is_word word (codes "format")
     then format_of (frame_from (as_number (rc_str_bytes log)) (as_number (rc_str_bytes heap)))
     else None
 form_of words = None
@@ -45,6 +50,27 @@ OnFormat form P = ⊤
 -- whether the form opens the heap of the disk
 abbrev pub opens_heap : Option Form → Bool
 opens_heap (Some forms.Replay) = true
+opens_heap (Some forms.Run) = true
 opens_heap (Some forms.Recover) = true
 opens_heap (Some forms.Inspect) = true
 opens_heap form = false
+
+-- whether the first of the words is `run`: such words are for `live`, and all others for `still`
+abbrev pub asks_live : List (RcStr Global) → Bool
+asks_live [] = false
+asks_live (word ∷ words) = is_word word (codes "run")
+
+-- whether it is the form `run`
+abbrev pub is_live : Option Form → Bool
+is_live (Some forms.Run) = true
+is_live form = false
+
+-- the form that `live` answers: `run`, and no other
+abbrev pub live_form : Option Form → Option Form
+live_form (Some forms.Run) = Some forms.Run
+live_form form = None
+
+-- the form that `still` answers: any, but not `run`
+abbrev pub still_form : Option Form → Option Form
+still_form (Some forms.Run) = None
+still_form form = form

@@ -2,8 +2,11 @@ pub mod Answers
 pub mod Form
 pub mod Formatting
 pub mod Inspecting
+pub mod OnHeap
 pub mod Recovering
 pub mod Replaying
+pub mod Running
 pub mod Shutting
 pub mod Still
+pub mod Telling
 pub mod Words

@@ -1,5 +1,5 @@
 -- What the public calls answer to the words of a command line.
-use Rattle.std.specs.Prelude.{◌≡◌, ◌≢◌, ◌≤◌, ◌+◌, ◌↔◌, IfSome, List, [], None, Some, codes, false, is_some, length}
+use Rattle.std.specs.Prelude.{◌≡◌, ◌≢◌, ◌≤◌, ◌+◌, ◌↔◌, IfSome, List, [], Option, None, Some, codes, false, is_some, length}
 use Rattle.std.specs.declared.alloc.Global.{Global}
 use Rattle.std.specs.declared.rc.RcStr.{RcStr}
 use Rattle.sdr_base.specs.declared.media.Media.{Ghosts as MediaGhosts}
@@ -8,37 +8,39 @@ use Rattle.sdr_base.specs.declared.source.Source.{Ghosts as SourceGhosts}
 use Rattle.sdr_disk.specs.Pending.{IsSynced}
 use Rattle.sdr_disk.specs.declared.disk.Disk.{Ghosts as DiskGhosts}
 use Rattle.sdr_shell.specs.Answers.{AnswersDry, AnswersFormat, Wrote, seen}
-use Rattle.sdr_shell.specs.Form.{OnFormat, form_of, opens_heap}
+use Rattle.sdr_shell.specs.Form.{OnFormat, form_of, live_form, opens_heap, still_form}
 use Rattle.sdr_shell.specs.Inspecting.{AnswersInspect}
 use Rattle.sdr_shell.specs.Recovering.{AnswersRecover}
 use Rattle.sdr_shell.specs.Replaying.{AnswersReplay}
+use Rattle.sdr_shell.specs.Running.{AnswersRun}
 use Rattle.sdr_shell.specs.Formatting.{HasFormatted, LeavesDisk}
 use Rattle.sdr_core.specs.Caused.{HaveFailed, media_change}
+use Rattle.sdr_shell.specs.declared.form.Form.{Form}
 use Rattle.sdr_shell.specs.declared.form.Form.TheVariants as forms
 use Rattle.sdr_shell.specs.declared.outcome.RunOutcome.{RunOutcome}
 use Rattle.sdr_shell.specs.declared.status.TheConstants.{USAGE}
 
--- What is answered to the words, given a disk and media: what was read and written, and what is given back.
-pub record AnswersWords {D M S K : Type 0} (d : DiskGhosts D) (m : MediaGhosts M) (s : SourceGhosts S) (k : SinkGhosts K) (words : List (RcStr Global))
+-- What is answered to words of this form, or of none, given a disk and media: what was read and written, and what is given back.
+pub record AnswersForm {D M S K : Type 0} (d : DiskGhosts D) (m : MediaGhosts M) (s : SourceGhosts S) (k : SinkGhosts K) (form : Option Form)
     (disk : D) (files : M) (input input' : S) (output output' : K) (result : RunOutcome D M) : Type 0 where
   -- the status tells that the words are no form just where they are none
-  pub usage : (result.status ≡ USAGE) ↔ (form_of words ≡ None)
+  pub usage : (result.status ≡ USAGE) ↔ (form ≡ None)
   -- and then the output is the one line that tells so
   pub usage_text : result.status ≡ USAGE → Wrote (seen k.taken k.faults output) (seen k.taken k.faults output') (codes "usage\n")
   -- they read no input
-  pub usage_input : form_of words ≡ None → input' ≡ input
+  pub usage_input : form ≡ None → input' ≡ input
   -- `dry` leaves the disk, and answers as a dry run does
   pub dry :
-      form_of words ≡ Some forms.Dry → (result.disk ≡ disk)
+      form ≡ Some forms.Dry → (result.disk ≡ disk)
       × AnswersDry m result.status (seen s.left s.faults input) (seen s.left s.faults input') files result.media (seen k.taken k.faults output)
       (seen k.taken k.faults output')
   -- `format` reads no input, and answers by what it leaves on the disk
   pub format :
-      OnFormat (form_of words) (λ frame. (input' ≡ input)
+      OnFormat form (λ frame. (input' ≡ input)
       × AnswersFormat result.status frame (d.size disk) (seen d.bytes d.faults disk) (seen d.bytes d.faults result.disk)
       (seen k.taken k.faults output) (seen k.taken k.faults output'))
   -- on a disk that was formatted nothing is left to be synced
-  pub synced : OnFormat (form_of words) (λ _. HasFormatted result.status → IsSynced d.bytes d.moment d.may_hold_after result.disk)
+  pub synced : OnFormat form (λ _. HasFormatted result.status → IsSynced d.bytes d.moment d.may_hold_after result.disk)
   -- no count of faults falls, and the input is read so often at most
   pub counts :
       (s.faults input ≤ s.faults input') × (k.faults output ≤ k.faults output') × (d.faults disk ≤ d.faults result.disk)
@@ -47,24 +49,47 @@ pub record AnswersWords {D M S K : Type 0} (d : DiskGhosts D) (m : MediaGhosts M
   pub each : IfSome (s.left input) (λ bytes. s.reads input' ≤ s.reads input + length bytes + 1)
   -- `replay` answers by what it made of the schedule with these media, and what is left of the disk
   pub replay :
-      form_of words ≡ Some forms.Replay
+      form ≡ Some forms.Replay
       → AnswersReplay d m result.status (seen s.left s.faults input) (seen s.left s.faults input') disk result.disk files result.media
+      result.journal (seen k.taken k.faults output) (seen k.taken k.faults output')
+  -- `run` answers by what the daemons of its scripts made on it with these media, and what is left of the disk
+  pub run :
+      form ≡ Some forms.Run
+      → AnswersRun d m result.status (seen s.left s.faults input) (seen s.left s.faults input') disk result.disk files result.media
       result.journal (seen k.taken k.faults output) (seen k.taken k.faults output')
   -- `recover` reads no input, and answers by what it puts back
   pub recover :
-      form_of words ≡ Some forms.Recover → (input' ≡ input)
+      form ≡ Some forms.Recover → (input' ≡ input)
       × AnswersRecover d result.status disk result.disk (seen k.taken k.faults output) (seen k.taken k.faults output')
   -- `inspect` reads no input, and answers by the world that it shows
   pub inspect :
-      form_of words ≡ Some forms.Inspect → (input' ≡ input)
+      form ≡ Some forms.Inspect → (input' ≡ input)
       × AnswersInspect d result.status disk result.disk (seen k.taken k.faults output) (seen k.taken k.faults output')
-  -- only `replay` keeps a journal
-  pub given : (form_of words ≢ Some forms.Replay) → result.journal ≡ []
+  -- only `replay` and `run` keep a journal
+  pub given : (form ≢ Some forms.Replay) → (form ≢ Some forms.Run) → result.journal ≡ []
   -- media tell the same, and no count of theirs falls
   pub media : HaveFailed 0 0 (media_change m.told m.faults m.short files result.media)
-  -- only `dry` and `replay` read media
-  pub unread : (form_of words ≢ Some forms.Dry) → (form_of words ≢ Some forms.Replay) → result.media ≡ files
+  -- only `dry`, `replay` and `run` read media
+  pub unread : (form ≢ Some forms.Dry) → (form ≢ Some forms.Replay) → (form ≢ Some forms.Run) → result.media ≡ files
   -- by these statuses the disk is as it was, where the words ask for no heap to be opened
-  pub same : opens_heap (form_of words) ≡ false → LeavesDisk result.status → result.disk ≡ disk
+  pub same : opens_heap form ≡ false → LeavesDisk result.status → result.disk ≡ disk
   -- the disk tells its bytes as before, and keeps its size
   pub told : (is_some (d.bytes result.disk) ≡ is_some (d.bytes disk)) × (d.size result.disk ≡ d.size disk)
+
+-- What `top` answers to the words: by the form that they are.
+abbrev pub AnswersWords : {D M S K : Type 0} → DiskGhosts D → MediaGhosts M → SourceGhosts S → SinkGhosts K → List (RcStr Global) → D → M → S → S → K → K
+    → RunOutcome D M → Type 0
+AnswersWords d m s k words disk files input input' output output' result =
+    AnswersForm d m s k (form_of words) disk files input input' output output' result
+
+-- What `live` answers to the words: by the form `run`, and to all others as to words that are no form.
+abbrev pub AnswersLive : {D M S K : Type 0} → DiskGhosts D → MediaGhosts M → SourceGhosts S → SinkGhosts K → List (RcStr Global) → D → M → S → S → K → K
+    → RunOutcome D M → Type 0
+AnswersLive d m s k words disk files input input' output output' result =
+    AnswersForm d m s k (live_form (form_of words)) disk files input input' output output' result
+
+-- What `still` answers to the words: by the form that they are, and to `run` as to words that are no form.
+abbrev pub AnswersStill : {D M S K : Type 0} → DiskGhosts D → MediaGhosts M → SourceGhosts S → SinkGhosts K → List (RcStr Global) → D → M → S → S → K → K
+    → RunOutcome D M → Type 0
+AnswersStill d m s k words disk files input input' output output' result =
+    AnswersForm d m s k (still_form (form_of words)) disk files input input' output output' result

@@ -4,27 +4,27 @@ ghost use Rattle.std.specs.Prelude.{None, Some, [], length, IfSome};
 ghost use Rattle.std.specs.Io.KnownBytes.{Appends};
 ghost use Rattle.sdr_base.specs.Causes.{Rose};
 ghost use Rattle.sdr_shell.specs.Answers.{AsksDry, RanAsking, seen};
-ghost use Rattle.sdr_shell.specs.Form.{form_of};
 ghost use Rattle.sdr_core.specs.Caused.{HaveFailed, media_change};
 ghost use Rattle.sdr_run.specs.Schedule.{RunsWhole, SomeRun};
 ghost use Rattle.sdr_shell.specs.Still.{WritesOut, HadRun, IsDone, IsRefused, IsDryStatus, IsStarved};
 ghost use Rattle.sdr_shell.specs.Still.{Tells, line_refused};
 ghost use Rattle.sdr_base.specs.Written.{AppendsPart};
-ghost use Rattle.sdr_shell.specs.Words.{AnswersWords};
+ghost use Rattle.sdr_shell.specs.Words.{AnswersStill};
 
 use crate::RunOutcome;
 use crate::form::{Form, form_of};
 use crate::formatting::format_disk;
 use crate::inspecting::inspect_disk;
 use crate::last_line::last_line;
+use crate::outcome::without_journal;
 use crate::recovering::{Recovered, recover_disk};
-use crate::replaying::{Replayed, replay_input};
+use crate::replaying::replay_input;
 use crate::status::{
     DISK_FAULT, DONE, INPUT_FAULT, NO_MEMORY, OUTPUT_FAULT, REFUSED_LINE, TOO_SMALL, USAGE,
 };
 use sdr_base::{Media, Sink, Source};
 use sdr_disk::Disk;
-use sdr_model::{Journal, ScriptStep};
+use sdr_model::ScriptStep;
 use sdr_run::{RunError, run};
 use sdr_text::Line;
 use sdr_words::{ScriptError, read_script};
@@ -145,23 +145,8 @@ fn dry<M: Media, S: Source, K: Sink>(
     }
 }
 
-// What is given back where there is no journal.
-fn outcome<D, M>(alloc: Global, status: u8, disk: D, media: M) -> RunOutcome<D, M>
-    ensures status { result.status ≡ status }
-    ensures journal { result.journal ≡ [] }
-    ensures disk { result.disk ≡ disk }
-    ensures media { result.media ≡ media }
-{
-    let journal = Journal::new(alloc);
-    RunOutcome {
-        status,
-        journal,
-        disk,
-        media,
-    }
-}
-
-/// Answers the words, waits for nobody, and returns for every input.
+/// Answers the words, waits for nobody, and returns for every input. Of words whose first is `run` it says that they are no form of
+/// its.
 pub fn still<D: Disk, M: Media, S: Source, K: Sink>(
     alloc: Global,
     words: &[RcStr],
@@ -170,43 +155,30 @@ pub fn still<D: Disk, M: Media, S: Source, K: Sink>(
     input: &mut S,
     output: &mut K,
 ) -> RunOutcome<D, M>
-    ensures { AnswersWords D.Disk M.Media S.Source K.Sink words.now disk media
+    ensures { AnswersStill D.Disk M.Media S.Source K.Sink words.now disk media
         input.old input.new output.old output.new result }
 {
     match form_of(words) {
         Some(Form::Dry) => {
             let status = dry(alloc, &mut media, input, output);
-            outcome(alloc, status, disk, media)
+            without_journal(alloc, status, disk, media)
         }
-        Some(Form::Replay) => {
-            let Replayed {
-                status,
-                journal,
-                disk,
-                media,
-            } = replay_input(alloc, disk, media, input, output);
-            RunOutcome {
-                status,
-                journal,
-                disk,
-                media,
-            }
-        }
+        Some(Form::Replay) => replay_input(alloc, disk, media, input, output),
         Some(Form::Recover) => {
             let Recovered { status, disk } = recover_disk(alloc, disk, output);
-            outcome(alloc, status, disk, media)
+            without_journal(alloc, status, disk, media)
         }
         Some(Form::Inspect) => {
             let status = inspect_disk(alloc, &mut disk, output);
-            outcome(alloc, status, disk, media)
+            without_journal(alloc, status, disk, media)
         }
         Some(Form::Format { frame }) => {
             let status = format_disk(frame, &mut disk, output);
-            outcome(alloc, status, disk, media)
+            without_journal(alloc, status, disk, media)
         }
-        None => {
+        Some(Form::Run) | None => {
             last_line(output, b"usage\n");
-            outcome(alloc, USAGE, disk, media)
+            without_journal(alloc, USAGE, disk, media)
         }
     }
 }

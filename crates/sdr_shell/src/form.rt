@@ -2,7 +2,7 @@
 ghost use Rattle.std.specs.Prelude.{◌≡◌, IfSome};
 ghost use Rattle.std.specs.Rc.{rc_str_bytes};
 ghost use Rattle.sdr_log.specs.Frame.{IsInLimits};
-ghost use Rattle.sdr_shell.specs.Form.{frame_from, form_of, OnFormat};
+ghost use Rattle.sdr_shell.specs.Form.{asks_live, frame_from, form_of, OnFormat};
 ghost use Rattle.sdr_words.specs.Words.{as_number};
 
 use sdr_log::Frame;
@@ -16,6 +16,8 @@ pub enum Form {
     Dry,
     /// `replay`: runs the schedule of the input on the heap of the disk.
     Replay,
+    /// `run`: runs the daemons of the input's scripts on the heap of the disk, each in a thread.
+    Run,
     /// `recover`: puts back the heap of the disk.
     Recover,
     /// `inspect`: prints the world of the heap; the disk is only read.
@@ -48,6 +50,7 @@ pub fn form_of(words: &[RcStr]) -> Option<Form>
     ensures limits { OnFormat result IsInLimits }
 {
     match words {
+        [word] if word.as_str() == "run" => Some(Form::Run),
         [word] if word.as_str() == "dry" => Some(Form::Dry),
         [word] if word.as_str() == "replay" => Some(Form::Replay),
         [word] if word.as_str() == "recover" => Some(Form::Recover),
@@ -57,5 +60,15 @@ pub fn form_of(words: &[RcStr]) -> Option<Form>
             Some(Form::Format { frame })
         }
         _ => None,
+    }
+}
+
+/// Whether the first of the words is `run`: such words are for `live`, and all others for `still`.
+pub fn asks_live(words: &[RcStr]) -> bool
+    ensures { result ≡ asks_live words.now }
+{
+    match words {
+        [] => false,
+        [word, ..] => word.as_str() == "run",
     }
 }

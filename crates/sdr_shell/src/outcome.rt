@@ -1,5 +1,8 @@
 // What the top call gives back.
+ghost use Rattle.std.specs.Prelude.{◌≡◌, []};
+
 use sdr_model::Journal;
+use std::alloc::Global;
 
 /// What the top call gives back.
 #[derive(Drop)]
@@ -10,4 +13,16 @@ pub struct RunOutcome<D, M> {
     pub journal: Journal,
     pub disk: D,
     pub media: M,
+}
+
+/// What is given back where there is no entry.
+pub fn without_journal<D, M>(alloc: Global, status: u8, disk: D, media: M) -> RunOutcome<D, M>
+    ensures { result ≡ record { status = status; journal = []; disk = disk; media = media } }
+{
+    RunOutcome {
+        status,
+        journal: Journal::new(alloc),
+        disk,
+        media,
+    }
 }

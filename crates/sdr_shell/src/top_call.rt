@@ -3,6 +3,8 @@ ghost use Rattle.sdr_shell.specs.Words.{AnswersWords};
 
 use crate::RunOutcome;
 use crate::commands::still;
+use crate::form::asks_live;
+use crate::live_call::live;
 use sdr_base::{Gate, Media, Sink, Source};
 use sdr_disk::Disk;
 use std::alloc::Global;
@@ -10,8 +12,8 @@ use std::rc::RcStr;
 use std::sync::Wait;
 use std::thread::Threads;
 
-/// Answers the words: the call that the program makes. It may start threads and wait for them, and
-/// what the words ask for now does neither.
+/// Answers the words: the call that the program makes. Words whose first is `run` go to `live`, which may start threads and wait for
+/// them, and all others to `still`, which does neither.
 pub fn top<
     R: Threads + Wait + Sync,
     D: Disk + Send,
@@ -20,17 +22,21 @@ pub fn top<
     K: Sink,
     G: Gate + Sync,
 >(
-    _rt: &R,
+    rt: &R,
     alloc: Global,
     words: &[RcStr],
     disk: D,
     media: M,
     input: &mut S,
     output: &mut K,
-    _gate: &G,
+    gate: &G,
 ) -> RunOutcome<D, M>
     ensures { AnswersWords D.Disk M.Media S.Source K.Sink words.now disk media
         input.old input.new output.old output.new result }
 {
-    still(alloc, words, disk, media, input, output)
+    if asks_live(words) {
+        live(rt, alloc, words, disk, media, input, output, gate)
+    } else {
+        still(alloc, words, disk, media, input, output)
+    }
 }

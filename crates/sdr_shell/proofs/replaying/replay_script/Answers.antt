@@ -5,12 +5,12 @@ use Rattle.sdr_shell.proofs.replaying.replay_script.Goals as goal
 
 pub returns-in-Ok-clause-runs : goal.returns-in-Ok-clause-runs
 returns-in-Ok-clause-runs g c = inr (record {
-  ran = c.in-Ok.ran;
+  failed = c.in-Ok.ran.failed;
+  starved = c.in-Ok.ran.starved;
+  printing = c.in-Ok.ran.printing;
   mid = seen g.K.Sink.taken g.K.Sink.faults c.replay.new.out;
-  runs = c.in-Ok.ensures.ran;
-  journal_is = search rules;
-  disk_is = search rules;
-  media_is = search rules;
+  ran = c.in-Ok.ensures.ran.on_heap;
+  failed_is = c.in-Ok.ensures.ran.failed;
   later = c.replay.ensures.later;
   tells = c.tell_ran-status.ensures.told;
 })
@@ -26,4 +26,4 @@ returns-in-Err-clause-runs g c = inl (record {
 })
 
 pub returns-in-Ok-clause-media : goal.returns-in-Ok-clause-media
-returns-in-Ok-clause-media g c = failed_ever _ _ _ c.in-Ok.ensures.ran.replays.caused
+returns-in-Ok-clause-media g c = failed_ever _ _ _ c.in-Ok.ensures.ran.on_heap.runs.caused

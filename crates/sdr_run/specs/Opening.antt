@@ -1,0 +1,22 @@
+-- A disk on which a heap was just opened, for a run.
+use Rattle.std.specs.Prelude.{◌≡◌, ◌≤◌}
+use Rattle.sdr_disk.specs.Moments.{AtEach}
+use Rattle.sdr_disk.specs.Told.{Both, IfTold}
+use Rattle.sdr_disk.specs.declared.disk.Disk.{Ghosts as DiskGhosts}
+use Rattle.sdr_log.specs.Calls.{KeepsDisk, KeepsRest}
+use Rattle.sdr_log.specs.Logged.{GivesSame}
+use Rattle.sdr_run.specs.Replaying.{IsSettled}
+use Rattle.sdr_station.specs.Grounded.{Grounded}
+use Rattle.sdr_station.specs.Opening.{IsOpen}
+
+-- The heap of a disk was opened with media: what opening tells of it.
+pub record OpenedSo {D M : Type 0} (d : DiskGhosts D) (disk : D) (files : M) (g : Grounded D M) : Type 0 where
+  pub with_media : g.media ≡ files
+  pub open_so : IsOpen d.bytes d.moment d.may_hold_after disk g
+  pub keeps : KeepsDisk d.size d.bytes disk g.heap.cells.disk
+  -- the bytes that it tells are one of the images that a crash may leave now
+  pub read : IfTold (d.bytes g.heap.cells.disk) (d.may_hold_after g.heap.cells.disk (d.moment g.heap.cells.disk))
+  pub rest : Both (d.bytes disk) (d.bytes g.heap.cells.disk) KeepsRest
+  pub later : d.faults disk ≤ d.faults g.heap.cells.disk
+  pub forward : d.moment disk ≤ d.moment g.heap.cells.disk
+  pub same : IsSettled d disk → IfTold (d.bytes disk) (λ x. AtEach d.moment d.may_hold_after disk g.heap.cells.disk (GivesSame x))

@@ -1,0 +1,271 @@
+-- What is answered to words of a form follows from what the form answers.
+use Rattle.std.proofs.Common.{◌≡◌, ◌≤◌, ◌⊎◌, ◌+◌, ℕ, [], Option, None, Some, IfSome, length, is_some, refl, sym, ap, subst, inl, inr, true≢false, arith}
+use Rattle.std.specs.Prelude.{codes}
+use Rattle.sdr_base.specs.declared.media.Media.{Ghosts as MediaGhosts}
+use Rattle.sdr_base.specs.declared.sink.Sink.{Ghosts as SinkGhosts}
+use Rattle.sdr_base.specs.declared.source.Source.{Ghosts as SourceGhosts}
+use Rattle.sdr_core.proofs.CausedLemmas.{failed_refl}
+use Rattle.sdr_core.specs.Caused.{HaveFailed, seen_media}
+use Rattle.sdr_disk.specs.Pending.{IsSynced}
+use Rattle.sdr_disk.specs.declared.disk.Disk.{Ghosts as DiskGhosts}
+use Rattle.sdr_log.specs.Calls.{KeepsDisk}
+use Rattle.sdr_log.specs.declared.frame.Frame.{Frame}
+use Rattle.sdr_run.specs.Playing.{ReplaysSteps}
+use Rattle.sdr_shell.proofs.InspectLemmas as inspection
+use Rattle.sdr_shell.proofs.OnHeapLemmas as heap_run
+use Rattle.sdr_shell.proofs.RecoverLemmas as recovery
+use Rattle.sdr_shell.proofs.StillLemmas.{reads_none}
+use Rattle.sdr_shell.specs.Answers.{AnswersDry, AnswersFormat, Seen, Wrote, change_of, seen}
+use Rattle.sdr_shell.specs.Formatting.{HasFormatted, IsFormatStatus, LeavesDisk}
+use Rattle.sdr_shell.specs.Inspecting.{AnswersInspect}
+use Rattle.sdr_shell.specs.Recovering.{AnswersRecover}
+use Rattle.sdr_shell.specs.Running.{RunsScripts}
+use Rattle.sdr_shell.specs.Still.{IsDryStatus}
+use Rattle.sdr_shell.specs.Telling.{AnswersInput}
+use Rattle.sdr_shell.specs.Words.{AnswersForm}
+use Rattle.sdr_shell.specs.declared.form.Form.{Form}
+use Rattle.sdr_shell.specs.declared.form.Form.TheVariants as forms
+use Rattle.sdr_shell.specs.declared.outcome.RunOutcome.{RunOutcome}
+use Rattle.sdr_shell.specs.declared.status.TheConstants.{USAGE, TOO_SMALL}
+
+-- no dry run answers that the words are no form
+dry_not_usage : (status : ℕ) → IsDryStatus status → status ≡ USAGE → ⊥
+dry_not_usage status (inl is) usage = omega (arith, is, usage)
+dry_not_usage status (inr (inl is)) usage = omega (arith, is, usage)
+dry_not_usage status (inr (inr (inl is))) usage = omega (arith, is, usage)
+dry_not_usage status (inr (inr (inr (inl is)))) usage = omega (arith, is, usage)
+dry_not_usage status (inr (inr (inr (inr is)))) usage = omega (arith, is, usage)
+
+-- nor does formatting
+format_not_usage : (status : ℕ) → IsFormatStatus status → status ≡ USAGE → ⊥
+format_not_usage status (inl is) usage = omega (arith, is, usage)
+format_not_usage status (inr (inl is)) usage = omega (arith, is, usage)
+format_not_usage status (inr (inr (inl is))) usage = omega (arith, is, usage)
+format_not_usage status (inr (inr (inr is))) usage = omega (arith, is, usage)
+
+-- where formatting leaves the disk, it is too small
+format_leaves : (status : ℕ) → IsFormatStatus status → LeavesDisk status → status ≡ TOO_SMALL
+format_leaves status (inl is) leaves = elim leaves [
+  | inl l ↦ omega (arith, is, l)
+  | inr (inl l) ↦ omega (arith, is, l)
+  | inr (inr (inl l)) ↦ omega (arith, is, l)
+  | inr (inr (inr (inl l))) ↦ omega (arith, is, l)
+  | inr (inr (inr (inr l))) ↦ omega (arith, is, l)
+]
+format_leaves status (inr (inl is)) leaves = elim leaves [
+  | inl l ↦ omega (arith, is, l)
+  | inr (inl l) ↦ omega (arith, is, l)
+  | inr (inr (inl l)) ↦ omega (arith, is, l)
+  | inr (inr (inr (inl l))) ↦ omega (arith, is, l)
+  | inr (inr (inr (inr l))) ↦ omega (arith, is, l)
+]
+format_leaves status (inr (inr (inl is))) leaves = elim leaves [
+  | inl l ↦ omega (arith, is, l)
+  | inr (inl l) ↦ omega (arith, is, l)
+  | inr (inr (inl l)) ↦ omega (arith, is, l)
+  | inr (inr (inr (inl l))) ↦ omega (arith, is, l)
+  | inr (inr (inr (inr l))) ↦ omega (arith, is, l)
+]
+format_leaves status (inr (inr (inr is))) leaves = is
+
+-- what is given back where there is no entry
+abbrev pub unrun : {D M : Type 0} → ℕ → D → M → RunOutcome D M
+unrun status disk files = record { status = status; journal = []; disk = disk; media = files }
+
+module _ {D M S K : Type 0} (d : DiskGhosts D) (m : MediaGhosts M) (s : SourceGhosts S) (k : SinkGhosts K) (disk : D) (files : M) (input input' : S)
+    (output output' : K) where
+  abbrev source : S → Seen
+  source = seen s.left s.faults
+
+  abbrev sink : K → Seen
+  sink = seen k.taken k.faults
+
+  -- what is given back is answered to the form that the words were found to be
+  pub form_at : (form known : Option Form) (r given : RunOutcome D M) → form ≡ known → r ≡ given
+      → AnswersForm d m s k known disk files input input' output output' given → AnswersForm d m s k form disk files input input' output output' r
+  form_at form known r given is same a =
+      subst (λ (x : RunOutcome D M). AnswersForm d m s k form disk files input input' output output' x) (sym same)
+      (subst (λ (f : Option Form). AnswersForm d m s k f disk files input input' output output' given) (sym is) a)
+
+  -- to words that are no form
+  pub answers_usage : Wrote (sink output) (sink output') (codes "usage\n") → k.faults output ≤ k.faults output'
+      → AnswersForm d m s k None disk files input input output output' (unrun USAGE disk files)
+  answers_usage text later = record {
+    usage = (λ is. refl, λ none. refl);
+    usage_text = λ is. text;
+    usage_input = λ none. refl;
+    dry = λ is. absurd (cc);
+    format = tt;
+    synced = tt;
+    counts = (omega arith, later, omega arith, omega arith);
+    each = reads_none (s.left input) (s.reads input);
+    replay = λ is. absurd (cc);
+    run = λ is. absurd (cc);
+    recover = λ is. absurd (cc);
+    inspect = λ is. absurd (cc);
+    given = λ _ _. refl;
+    media = failed_refl (seen_media m.told m.faults m.short files);
+    unread = λ _ _ _. refl;
+    same = λ _ _. refl;
+    told = (refl, refl);
+  }
+
+  -- to `dry`
+  pub answers_dry : (status : ℕ) (files' : M) → AnswersDry m status (source input) (source input') files files' (sink output) (sink output')
+      → (s.faults input ≤ s.faults input') × (k.faults output ≤ k.faults output') → s.reads input' ≤ s.reads input + 1048577
+      → IfSome (s.left input) (λ bytes. s.reads input' ≤ s.reads input + length bytes + 1) → HaveFailed 0 0 (change_of m files files')
+      → AnswersForm d m s k (Some forms.Dry) disk files input input' output output' (unrun status disk files')
+  answers_dry status files' answers later reads each media = record {
+    usage = (λ is. absurd (dry_not_usage status answers.known is), λ none. absurd (cc));
+    usage_text = λ is. absurd (dry_not_usage status answers.known is);
+    usage_input = λ none. absurd (cc);
+    dry = λ is. (refl, answers);
+    format = tt;
+    synced = tt;
+    counts = (later.0, later.1, omega arith, reads);
+    each = each;
+    replay = λ is. absurd (cc);
+    run = λ is. absurd (cc);
+    recover = λ is. absurd (cc);
+    inspect = λ is. absurd (cc);
+    given = λ _ _. refl;
+    media = media;
+    unread = λ other _ _. absurd (other refl);
+    same = λ _ _. refl;
+    told = (refl, refl);
+  }
+
+  -- to `format`
+  pub answers_format : (frame : Frame) (status : ℕ) (disk' : D)
+      → AnswersFormat status frame (d.size disk) (seen d.bytes d.faults disk) (seen d.bytes d.faults disk') (sink output) (sink output')
+      → (HasFormatted status → IsSynced d.bytes d.moment d.may_hold_after disk')
+      → (d.faults disk ≤ d.faults disk') × (k.faults output ≤ k.faults output') → (status ≡ TOO_SMALL → disk' ≡ disk)
+      → is_some (d.bytes disk') ≡ is_some (d.bytes disk) → d.size disk' ≡ d.size disk
+      → AnswersForm d m s k (Some (forms.Format frame)) disk files input input output output' (unrun status disk' files)
+  answers_format frame status disk' answers synced later small tells size = record {
+    usage = (λ is. absurd (format_not_usage status answers.known is), λ none. absurd (cc));
+    usage_text = λ is. absurd (format_not_usage status answers.known is);
+    usage_input = λ none. absurd (cc);
+    dry = λ is. absurd (cc);
+    format = (refl, answers);
+    synced = synced;
+    counts = (omega arith, later.1, later.0, omega arith);
+    each = reads_none (s.left input) (s.reads input);
+    replay = λ is. absurd (cc);
+    run = λ is. absurd (cc);
+    recover = λ is. absurd (cc);
+    inspect = λ is. absurd (cc);
+    given = λ _ _. refl;
+    media = failed_refl (seen_media m.told m.faults m.short files);
+    unread = λ _ _ _. refl;
+    same = λ _ leaves. small (format_leaves status answers.known leaves);
+    told = (tells, size);
+  }
+
+  -- to `replay`
+  pub answers_replay : (r : RunOutcome D M) → AnswersInput d m s k ReplaysSteps disk files input input' output output' r
+      → AnswersForm d m s k (Some forms.Replay) disk files input input' output output' r
+  answers_replay r e =
+      let never : r.status ≡ USAGE → ⊥ =
+      heap_run.never_usage d m ReplaysSteps heap_run.replay_tells (source input) (source input') (sink output) (sink output') disk r.disk files r.media r.journal
+      r.status e.answers.comes in
+      record {
+        usage = (λ is. absurd (never is), λ none. absurd (cc));
+        usage_text = λ is. absurd (never is);
+        usage_input = λ none. absurd (cc);
+        dry = λ is. absurd (cc);
+        format = tt;
+        synced = tt;
+        counts = (e.later.0, e.later.1, e.later.2, e.reads);
+        each = e.each;
+        replay = λ is. e.answers;
+        run = λ is. absurd (cc);
+        recover = λ is. absurd (cc);
+        inspect = λ is. absurd (cc);
+        given = λ other _. absurd (other refl);
+        media = e.media;
+        unread = λ _ other _. absurd (other refl);
+        same = λ opens. absurd (true≢false opens);
+        told = (e.keeps.tells, e.keeps.size);
+      }
+
+  -- to `run`
+  pub answers_run : (r : RunOutcome D M) → AnswersInput d m s k RunsScripts disk files input input' output output' r
+      → AnswersForm d m s k (Some forms.Run) disk files input input' output output' r
+  answers_run r e =
+      let never : r.status ≡ USAGE → ⊥ =
+      heap_run.never_usage d m RunsScripts heap_run.run_tells (source input) (source input') (sink output) (sink output') disk r.disk files r.media r.journal
+      r.status e.answers.comes in
+      record {
+        usage = (λ is. absurd (never is), λ none. absurd (cc));
+        usage_text = λ is. absurd (never is);
+        usage_input = λ none. absurd (cc);
+        dry = λ is. absurd (cc);
+        format = tt;
+        synced = tt;
+        counts = (e.later.0, e.later.1, e.later.2, e.reads);
+        each = e.each;
+        replay = λ is. absurd (cc);
+        run = λ is. e.answers;
+        recover = λ is. absurd (cc);
+        inspect = λ is. absurd (cc);
+        given = λ _ other. absurd (other refl);
+        media = e.media;
+        unread = λ _ _ other. absurd (other refl);
+        same = λ opens. absurd (true≢false opens);
+        told = (e.keeps.tells, e.keeps.size);
+      }
+
+  -- to `recover`
+  pub answers_recover : (status : ℕ) (disk' : D)
+      → AnswersRecover d status disk disk' (sink output) (sink output') → (k.faults output ≤ k.faults output') × (d.faults disk ≤ d.faults disk')
+      → KeepsDisk d.size d.bytes disk disk'
+      → AnswersForm d m s k (Some forms.Recover) disk files input input output output' (unrun status disk' files)
+  answers_recover status disk' answers later keeps =
+      let never : status ≡ USAGE → ⊥ = recovery.never_usage d status disk disk' (sink output) (sink output') answers.comes in
+      record {
+        usage = (λ is. absurd (never is), λ none. absurd (cc));
+        usage_text = λ is. absurd (never is);
+        usage_input = λ none. absurd (cc);
+        dry = λ is. absurd (cc);
+        format = tt;
+        synced = tt;
+        counts = (omega arith, later.0, later.1, omega arith);
+        each = reads_none (s.left input) (s.reads input);
+        replay = λ is. absurd (cc);
+        run = λ is. absurd (cc);
+        recover = λ is. (refl, answers);
+        inspect = λ is. absurd (cc);
+        given = λ _ _. refl;
+        media = failed_refl (seen_media m.told m.faults m.short files);
+        unread = λ _ _ _. refl;
+        same = λ opens. absurd (true≢false opens);
+        told = (keeps.tells, keeps.size);
+      }
+
+  -- to `inspect`
+  pub answers_inspect : (status : ℕ) (disk' : D)
+      → AnswersInspect d status disk disk' (sink output) (sink output') → (k.faults output ≤ k.faults output') × (d.faults disk ≤ d.faults disk')
+      → d.size disk' ≡ d.size disk
+      → AnswersForm d m s k (Some forms.Inspect) disk files input input output output' (unrun status disk' files)
+  answers_inspect status disk' answers later size =
+      let never : status ≡ USAGE → ⊥ = inspection.never_usage d status disk disk' (sink output) (sink output') answers.comes in
+      record {
+        usage = (λ is. absurd (never is), λ none. absurd (cc));
+        usage_text = λ is. absurd (never is);
+        usage_input = λ none. absurd (cc);
+        dry = λ is. absurd (cc);
+        format = tt;
+        synced = tt;
+        counts = (omega arith, later.0, later.1, omega arith);
+        each = reads_none (s.left input) (s.reads input);
+        replay = λ is. absurd (cc);
+        run = λ is. absurd (cc);
+        recover = λ is. absurd (cc);
+        inspect = λ is. (refl, answers);
+        given = λ _ _. refl;
+        media = failed_refl (seen_media m.told m.faults m.short files);
+        unread = λ _ _ _. refl;
+        same = λ opens. absurd (true≢false opens);
+        told = (ap is_some answers.reads.same, size);
+      }
