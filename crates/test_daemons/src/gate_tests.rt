@@ -19,6 +19,7 @@ const SECOND_BEGIN_OF_FIRST: u64 = 9;
 const TURNS: u32 = 100_000_000;
 
 /// Holds the begin of daemon 2 until daemon 1 comes to its second begin, and that one until daemon 2 comes to its `await`.
+#[derive(Drop)]
 struct EachForTheOther {
     first_is_back: AtomicBool,
     second_awaits: AtomicBool,
