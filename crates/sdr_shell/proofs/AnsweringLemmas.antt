@@ -1,5 +1,5 @@
 -- What is answered to words of a form follows from what the form answers.
-use Rattle.std.proofs.Common.{◌≡◌, ◌≤◌, ◌⊎◌, ◌+◌, ℕ, [], Option, None, Some, IfSome, length, is_some, refl, sym, ap, subst, inl, inr, true≢false, arith}
+use Rattle.std.proofs.Common.{◌≡◌, ◌≤◌, ◌+◌, ℕ, [], Option, None, Some, IfSome, length, is_some, refl, sym, ap, subst, inl, inr, true≢false, arith}
 use Rattle.std.specs.Prelude.{codes}
 use Rattle.sdr_base.specs.declared.media.Media.{Ghosts as MediaGhosts}
 use Rattle.sdr_base.specs.declared.sink.Sink.{Ghosts as SinkGhosts}

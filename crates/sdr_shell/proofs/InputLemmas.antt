@@ -1,5 +1,5 @@
 -- What is answered to an input whose script is run on the heap of the disk.
-use Rattle.std.proofs.Common.{◌≡◌, ◌≤◌, ◌+◌, ℕ, [], List, IfSome, length, refl, inl, inr, arith}
+use Rattle.std.proofs.Common.{◌≡◌, ◌≤◌, ◌+◌, ℕ, [], List, IfSome, length, refl, sym, subst, inl, inr, arith}
 use Rattle.std.specs.Io.KnownBytes.{IsAtEnd}
 use Rattle.sdr_base.specs.Causes.{Rose}
 use Rattle.sdr_base.specs.declared.media.Media.{Ghosts as MediaGhosts}
@@ -84,15 +84,17 @@ module _ {D M S K : Type 0} (d : DiskGhosts D) (m : MediaGhosts M) (s : SourceGh
   }
 
   -- it wasn't read
-  pub none_read : (error : ScriptError) (status : ℕ)
+  pub none_read : (error : ScriptError) (status : ℕ) (r : RunOutcome D M) → r ≡ record { status = status; journal = []; disk = disk; media = files }
       → Tells error status (k.taken output) (k.taken output') (k.faults output) (k.faults output') → NamesBadLine (s.left input) error
       → (error ≡ scripts.Input → Rose (s.faults input) (s.faults input'))
-      → AnswersInput d m s k R disk files input input' output output' (record { status = status; journal = []; disk = disk; media = files })
-  none_read error status tells bad cause = record {
-    answers = tell_answers d m R t (source input) (source input') (sink output) (sink output') disk files error status tells bad cause;
-    later = (later, told, omega arith);
-    reads = reads;
-    each = each;
-    keeps = record { size = refl; tells = refl };
-    media = failed_refl (seen_media m.told m.faults m.short files);
-  }
+      → AnswersInput d m s k R disk files input input' output output' r
+  none_read error status r is tells bad cause =
+      subst (λ (x : RunOutcome D M). AnswersInput d m s k R disk files input input' output output' x) (sym is)
+      (record {
+        answers = tell_answers d m R t (source input) (source input') (sink output) (sink output') disk files error status tells bad cause;
+        later = (later, told, omega arith);
+        reads = reads;
+        each = each;
+        keeps = record { size = refl; tells = refl };
+        media = failed_refl (seen_media m.told m.faults m.short files);
+      })

@@ -1,4 +1,4 @@
-use Rattle.std.proofs.Common.{◌≡◌, ◌++◌, List, inl, inr, refl, subst}
+use Rattle.std.proofs.Common.{◌++◌, List, inl, inr, refl, subst}
 use Rattle.std.specs.Io.KnownBytes.{Appends}
 use Rattle.std.specs.Prelude.{codes}
 use Rattle.sdr_base.specs.Written.{AppendsPart}

@@ -6,7 +6,6 @@ use Rattle.sdr_shell.specs.Form.{form_of, still_form}
 use Rattle.sdr_shell.specs.declared.form.Form.TheVariants.{Dry, Format, Inspect, Recover, Replay, Run}
 use Rattle.sdr_shell.specs.declared.status.TheConstants.{USAGE}
 use Rattle.sdr_shell.proofs.commands.still.Goals as goal
-use Rattle.sdr_shell.proofs.commands.still.Goals.{in-Some+in-Run-1, in-None-1}
 
 pub returns-in-Some-Dry : goal.returns-in-Some-Dry
 returns-in-Some-Dry g c =
@@ -96,10 +95,8 @@ returns-in-Some-Inspect g c =
 pub returns-in-Some-Run : goal.returns-in-Some-Run
 returns-in-Some-Run g c =
     let form : still_form (form_of c.args.words.now) ≡ None =
-    elim c.in-Some-Run-1.branch [
-      | in-Some+in-Run-1 w ↦ let is : form_of c.args.words.now ≡ Some Run = search rules in ap still_form is
-      | in-None-1 w ↦ let is : form_of c.args.words.now ≡ None = search rules in ap still_form is
-    ] in
+    (let known : (form_of c.args.words.now ≡ Some Run) ⊎ (form_of c.args.words.now ≡ None) = search rules in
+    elim known [ inl is ↦ ap still_form is | inr is ↦ ap still_form is ]) in
     form_at g.D.Disk g.M.Media g.S.Source g.K.Sink c.args.disk c.args.media c.args.input.now c.args.input.now c.args.output.now
     c.last_line.new.output (still_form (form_of c.args.words.now)) None c.without_journal-in-Some-Run.result (unrun USAGE c.args.disk c.args.media) form
     c.without_journal-in-Some-Run.ensures

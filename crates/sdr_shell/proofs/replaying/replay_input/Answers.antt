@@ -1,9 +1,8 @@
-use Rattle.std.proofs.Common.{List, subst, sym}
+use Rattle.std.proofs.Common.{List, subst}
 use Rattle.sdr_model.specs.declared.script.ScriptStep.{ScriptStep}
 use Rattle.sdr_run.specs.Playing.{ReplaysSteps}
 use Rattle.sdr_shell.specs.Answers.{seen}
-use Rattle.sdr_shell.specs.Telling.{AnswersInput, RunsOrNot}
-use Rattle.sdr_shell.specs.declared.outcome.RunOutcome.{RunOutcome}
+use Rattle.sdr_shell.specs.Telling.{RunsOrNot}
 use Rattle.sdr_shell.proofs.InputLemmas.{none_read, script_ran}
 use Rattle.sdr_shell.proofs.OnHeapLemmas.{replay_tells}
 use Rattle.sdr_shell.proofs.ScriptRead.{bad_line_of, had_script, read_to_the_end}
@@ -22,11 +21,8 @@ returns-in-Ok g c =
 
 pub returns-in-Err : goal.returns-in-Err
 returns-in-Err g c =
-    let D = g.row.D.Denot in
-    let M = g.row.M.Denot in
     let e = c.read_script.ensures in
-    subst (λ (r : RunOutcome D M). AnswersInput g.D.Disk g.M.Media g.S.Source g.K.Sink ReplaysSteps c.args.disk c.args.media c.args.input.now
-    c.read_script.new.source c.args.output.now c.tell-status.new.output r) (sym c.without_journal.ensures)
-    (none_read g.D.Disk g.M.Media g.S.Source g.K.Sink ReplaysSteps replay_tells c.args.disk c.args.media c.args.input.now c.read_script.new.source
+    none_read g.D.Disk g.M.Media g.S.Source g.K.Sink ReplaysSteps replay_tells c.args.disk c.args.media c.args.input.now c.read_script.new.source
     c.args.output.now c.tell-status.new.output e.later e.reads e.each c.tell-status.ensures.later c.in-Err.error c.tell-status.result
-    c.tell-status.ensures.told (bad_line_of _ _ _ c.in-Err.ensures.line) (λ is. c.in-Err.ensures.input (cc is)))
+    c.without_journal.result c.without_journal.ensures c.tell-status.ensures.told (bad_line_of _ _ _ c.in-Err.ensures.line)
+    (λ is. c.in-Err.ensures.input (cc is))

@@ -1,6 +1,5 @@
 use Rattle.std.proofs.Common.{rules, List, inl, inr, subst}
 use Rattle.sdr_core.proofs.CausedLemmas.{failed_ever}
-use Rattle.sdr_machine.specs.Ground.{State}
 use Rattle.sdr_model.specs.declared.journal.Entry.{Entry}
 use Rattle.sdr_run.specs.Playing.{IsPrinted}
 use Rattle.sdr_shell.proofs.OnHeapLemmas.{ran_printed}
