@@ -1,4 +1,4 @@
-use Rattle.std.proofs.Common.{◌≡◌, ◌≤◌, ◌∷◌, [], List, subst, sym, refl, length}
+use Rattle.std.proofs.Common.{◌≡◌, ◌≤◌, [], List, subst, sym, refl, length}
 use Rattle.sdr_model.specs.declared.event.Leave.TheVariants as leaves
 use Rattle.sdr_model.specs.declared.script.ScriptStep.{ScriptStep}
 use Rattle.sdr_daemon.proofs.WorkLemmas.{cut_so, line_read, starved_so, unsaid_so, work_drawn, work_place}
