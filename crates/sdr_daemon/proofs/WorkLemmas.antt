@@ -80,6 +80,13 @@ module _ {T : Type 0} (g : Ghosts T) (b : RunStart) (script : List ScriptStep) (
         by outcomes.Starved goes = comes goes.0
         by outcomes.Unsaid goes = absurd goes
 
+    -- so it does where the line was read from these, which are the script
+    pub line_read : (these : List ScriptStep) → these ≡ script → (new : LoggedLock T) (sb : ScriptPlace) (step : ScriptStep) (after : ℕ) (outcome : LineOutcome) → SaysLine g step after (event_of sa.names step) k new sa sb outcome
+        → steps_ahead these sa.daemon sa.place ≡ step ∷ steps_ahead these sa.daemon after → (sa.place < after) × (after ≤ length these) → sa.leaving ≡ None → LineComesTo outcome g b script after old k new s sa sb
+    line_read these same new sb step after outcome says here behind none =
+        line_so new sb step after outcome says (subst (λ (l : List ScriptStep). steps_ahead l sa.daemon sa.place ≡ step ∷ steps_ahead l sa.daemon after) same here)
+        (subst (λ (l : List ScriptStep). after ≤ length l) same behind.1) none
+
     pub cut_so : (new : LoggedLock T) (sb : ScriptPlace) (leave : Leave) (a : Came) → MakesCoreStep g sa.daemon 0 (events.Leaves leave) a k.lock k.log new.lock new.log → sb ≡ record sa { leaving = Some leave }
         → MeansToLeave (steps_ahead script sa.daemon sa.place) (Some leave) → TakesTurn g b script old new s sb
     cut_so new sb leave a makes is means x t =

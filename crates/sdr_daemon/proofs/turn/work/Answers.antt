@@ -1,7 +1,7 @@
-use Rattle.std.proofs.Common.{◌≡◌, ◌≤◌, ◌∷◌, [], List, subst, sym, refl, length}
+use Rattle.std.proofs.Common.{◌≡◌, ◌≤◌, [], List, subst, sym, refl, length}
 use Rattle.sdr_model.specs.declared.event.Leave.TheVariants as leaves
 use Rattle.sdr_model.specs.declared.script.ScriptStep.{ScriptStep}
-use Rattle.sdr_daemon.proofs.WorkLemmas.{cut_so, line_so, starved_so, unsaid_so, work_drawn, work_place}
+use Rattle.sdr_daemon.proofs.WorkLemmas.{cut_so, line_read, starved_so, unsaid_so, work_drawn, work_place}
 use Rattle.sdr_daemon.specs.Progressing.{steps_ahead}
 use Rattle.sdr_daemon.specs.Working.{BeginComesTo, ComesToWork, LineComesTo}
 use Rattle.sdr_daemon.specs.declared.turn.LineOutcome.{LineOutcome}
@@ -41,12 +41,10 @@ line-requires-clause-drawn g c =
 pub loop-step-preserved : goal.loop-step-preserved
 loop-step-preserved g c =
     let script = g.S.Scripted.script in
-    let here : steps_ahead script c.loop-step.progress.daemon c.loop-step.progress.place ≡ c.in-Some.step.now ∷ steps_ahead script c.loop-step.progress.daemon c.in-Some.after =
-    subst (λ (l : List ScriptStep). steps_ahead l c.loop-step.progress.daemon c.loop-step.progress.place ≡ c.in-Some.step.now ∷ steps_ahead l c.loop-step.progress.daemon c.in-Some.after) c.requires.script c.in-Some.ensures.next in
     let by : LineComesTo c.line.result g.T.HasGround g.J.Origin.begins script c.in-Some.after c.args.core.now c.loop-step.core c.line.new.core c.args.progress.now c.loop-step.progress c.line.new.progress =
-    line_so g.T.HasGround g.J.Origin.begins script c.args.core.now c.args.progress.now c.loop-step.core c.loop-step.progress c.loop-step.invariant.work c.requires.next.few
-    c.line.new.core c.line.new.progress c.in-Some.step.now c.in-Some.after c.line.result c.line.ensures.says here
-    (subst (λ (l : List ScriptStep). c.in-Some.after ≤ length l) c.requires.script c.in-Some.ensures.behind.1) c.loop-step.invariant.stays in
+    line_read g.T.HasGround g.J.Origin.begins script c.args.core.now c.args.progress.now c.loop-step.core c.loop-step.progress c.loop-step.invariant.work c.requires.next.few
+    c.args.script.now c.requires.script c.line.new.core c.line.new.progress c.in-Some.step.now c.in-Some.after c.line.result c.line.ensures.says
+    c.in-Some.ensures.next c.in-Some.ensures.behind c.loop-step.invariant.stays in
     let of = λ (w : LineOutcome). LineComesTo w g.T.HasGround g.J.Origin.begins script c.in-Some.after c.args.core.now c.loop-step.core c.line.new.core c.args.progress.now c.loop-step.progress c.line.new.progress in
     let on = subst of c.in-On-line.is by in
     record { work = on.0; stays = on.1; lasts = c.line.ensures.lasts }
@@ -54,24 +52,20 @@ loop-step-preserved g c =
 pub returns-in-Closed-line-clause-ends : goal.returns-in-Closed-line-clause-ends
 returns-in-Closed-line-clause-ends g c =
     let script = g.S.Scripted.script in
-    let here : steps_ahead script c.loop-step.progress.daemon c.loop-step.progress.place ≡ c.in-Some.step.now ∷ steps_ahead script c.loop-step.progress.daemon c.in-Some.after =
-    subst (λ (l : List ScriptStep). steps_ahead l c.loop-step.progress.daemon c.loop-step.progress.place ≡ c.in-Some.step.now ∷ steps_ahead l c.loop-step.progress.daemon c.in-Some.after) c.requires.script c.in-Some.ensures.next in
     let by : LineComesTo c.line.result g.T.HasGround g.J.Origin.begins script c.in-Some.after c.args.core.now c.loop-step.core c.line.new.core c.args.progress.now c.loop-step.progress c.line.new.progress =
-    line_so g.T.HasGround g.J.Origin.begins script c.args.core.now c.args.progress.now c.loop-step.core c.loop-step.progress c.loop-step.invariant.work c.requires.next.few
-    c.line.new.core c.line.new.progress c.in-Some.step.now c.in-Some.after c.line.result c.line.ensures.says here
-    (subst (λ (l : List ScriptStep). c.in-Some.after ≤ length l) c.requires.script c.in-Some.ensures.behind.1) c.loop-step.invariant.stays in
+    line_read g.T.HasGround g.J.Origin.begins script c.args.core.now c.args.progress.now c.loop-step.core c.loop-step.progress c.loop-step.invariant.work c.requires.next.few
+    c.args.script.now c.requires.script c.line.new.core c.line.new.progress c.in-Some.step.now c.in-Some.after c.line.result c.line.ensures.says
+    c.in-Some.ensures.next c.in-Some.ensures.behind c.loop-step.invariant.stays in
     let of = λ (w : LineOutcome). LineComesTo w g.T.HasGround g.J.Origin.begins script c.in-Some.after c.args.core.now c.loop-step.core c.line.new.core c.args.progress.now c.loop-step.progress c.line.new.progress in
     subst of c.in-Closed-line.is by
 
 pub cut-requires-in-Starved-line-clause-drawn : goal.cut-requires-in-Starved-line-clause-drawn
 cut-requires-in-Starved-line-clause-drawn g c =
     let script = g.S.Scripted.script in
-    let here : steps_ahead script c.loop-step.progress.daemon c.loop-step.progress.place ≡ c.in-Some.step.now ∷ steps_ahead script c.loop-step.progress.daemon c.in-Some.after =
-    subst (λ (l : List ScriptStep). steps_ahead l c.loop-step.progress.daemon c.loop-step.progress.place ≡ c.in-Some.step.now ∷ steps_ahead l c.loop-step.progress.daemon c.in-Some.after) c.requires.script c.in-Some.ensures.next in
     let by : LineComesTo c.line.result g.T.HasGround g.J.Origin.begins script c.in-Some.after c.args.core.now c.loop-step.core c.line.new.core c.args.progress.now c.loop-step.progress c.line.new.progress =
-    line_so g.T.HasGround g.J.Origin.begins script c.args.core.now c.args.progress.now c.loop-step.core c.loop-step.progress c.loop-step.invariant.work c.requires.next.few
-    c.line.new.core c.line.new.progress c.in-Some.step.now c.in-Some.after c.line.result c.line.ensures.says here
-    (subst (λ (l : List ScriptStep). c.in-Some.after ≤ length l) c.requires.script c.in-Some.ensures.behind.1) c.loop-step.invariant.stays in
+    line_read g.T.HasGround g.J.Origin.begins script c.args.core.now c.args.progress.now c.loop-step.core c.loop-step.progress c.loop-step.invariant.work c.requires.next.few
+    c.args.script.now c.requires.script c.line.new.core c.line.new.progress c.in-Some.step.now c.in-Some.after c.line.result c.line.ensures.says
+    c.in-Some.ensures.next c.in-Some.ensures.behind c.loop-step.invariant.stays in
     let work : ComesToWork g.T.HasGround g.J.Origin.begins script c.args.core.now c.line.new.core c.args.progress.now c.line.new.progress =
     starved_so g.T.HasGround g.J.Origin.begins script c.args.core.now c.args.progress.now c.loop-step.core c.line.new.core c.loop-step.progress c.line.new.progress c.in-Some.after c.line.result
     c.loop-step.invariant.work by c.in-Starved-line.is in
@@ -80,12 +74,10 @@ cut-requires-in-Starved-line-clause-drawn g c =
 pub returns-in-Starved-line-clause-ends : goal.returns-in-Starved-line-clause-ends
 returns-in-Starved-line-clause-ends g c =
     let script = g.S.Scripted.script in
-    let here : steps_ahead script c.loop-step.progress.daemon c.loop-step.progress.place ≡ c.in-Some.step.now ∷ steps_ahead script c.loop-step.progress.daemon c.in-Some.after =
-    subst (λ (l : List ScriptStep). steps_ahead l c.loop-step.progress.daemon c.loop-step.progress.place ≡ c.in-Some.step.now ∷ steps_ahead l c.loop-step.progress.daemon c.in-Some.after) c.requires.script c.in-Some.ensures.next in
     let by : LineComesTo c.line.result g.T.HasGround g.J.Origin.begins script c.in-Some.after c.args.core.now c.loop-step.core c.line.new.core c.args.progress.now c.loop-step.progress c.line.new.progress =
-    line_so g.T.HasGround g.J.Origin.begins script c.args.core.now c.args.progress.now c.loop-step.core c.loop-step.progress c.loop-step.invariant.work c.requires.next.few
-    c.line.new.core c.line.new.progress c.in-Some.step.now c.in-Some.after c.line.result c.line.ensures.says here
-    (subst (λ (l : List ScriptStep). c.in-Some.after ≤ length l) c.requires.script c.in-Some.ensures.behind.1) c.loop-step.invariant.stays in
+    line_read g.T.HasGround g.J.Origin.begins script c.args.core.now c.args.progress.now c.loop-step.core c.loop-step.progress c.loop-step.invariant.work c.requires.next.few
+    c.args.script.now c.requires.script c.line.new.core c.line.new.progress c.in-Some.step.now c.in-Some.after c.line.result c.line.ensures.says
+    c.in-Some.ensures.next c.in-Some.ensures.behind c.loop-step.invariant.stays in
     let work : ComesToWork g.T.HasGround g.J.Origin.begins script c.args.core.now c.line.new.core c.args.progress.now c.line.new.progress =
     starved_so g.T.HasGround g.J.Origin.begins script c.args.core.now c.args.progress.now c.loop-step.core c.line.new.core c.loop-step.progress c.line.new.progress c.in-Some.after c.line.result
     c.loop-step.invariant.work by c.in-Starved-line.is in
