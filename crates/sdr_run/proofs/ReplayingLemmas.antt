@@ -21,7 +21,7 @@ use Rattle.sdr_log.specs.Log.{put_back_of}
 use Rattle.sdr_log.specs.Logged.{GivesSame}
 use Rattle.sdr_model.specs.declared.journal.Entry.{Entry}
 use Rattle.sdr_model.specs.declared.script.ScriptStep.{ScriptStep}
-use Rattle.sdr_run.specs.Daemons.{RunsDaemons, RunsOn, RunsOut}
+use Rattle.sdr_run.specs.Daemons.{RunsDaemons, RunsOn, RunsOnGround}
 use Rattle.sdr_run.specs.Handed.{HandedDisk, StaysAsHanded, handed_as}
 use Rattle.sdr_run.specs.Opening.{OpenedSo}
 use Rattle.sdr_run.specs.Playing.{Output, PlaysOut, RunsScript}
@@ -236,7 +236,7 @@ module _ {D M : Type 0} (d : DiskGhosts D) (m : MediaGhosts M) (disk : D) (files
 
     -- what daemons have come to
     pub daemons_ran : (ran : RanDaemons (Grounded D M)) (now : D × M)
-        → RunsOut (ground_of d m condition) (begins_on m was script g) script ran → now.0 ≡ ran.base.heap.cells.disk → d.size now.0 ≡ was.size
+        → RunsOnGround (ground_of d m condition) (begins_on m was script g) script ran → now.0 ≡ ran.base.heap.cells.disk → d.size now.0 ≡ was.size
         → StaysAsHanded was.bytes (d.bytes now.0) ran.base.heap.cells.frame → d.moment now.0 ≡ ran.base.moment → now.1 ≡ ran.base.media
         → RunsOn d m disk files script (record { journal = ran.journal; base = now; failed = ran.failed; starved = ran.starved })
     daemons_ran ran now out on size stays seen media_is =

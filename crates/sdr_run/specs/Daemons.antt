@@ -15,7 +15,8 @@ use Rattle.sdr_model.specs.declared.script.ScriptStep.{ScriptStep}
 use Rattle.sdr_run.specs.Replaying.{RanOn}
 use Rattle.sdr_words.specs.Daemons.{daemons_of}
 
--- The daemons of a script ran, each through its own lines, from this state and with media that changed so, and this journal came to be.
+-- The journal keeps to the scripts of the daemons, from this state on. Its answers that blame media have their causes, and a leave tells
+-- whether memory was wanting.
 pub record RunsDaemons (media : MediaChange) (first : State) (script : List ScriptStep) (journal : List Entry) (starved : Bool) : Type 0 where
   -- the entries of each are its lines in order, all of them unless it left for want of memory, for a fault of the disk, or spent
   pub keeps : KeepsToScripts media.before.told first script journal
@@ -25,7 +26,7 @@ pub record RunsDaemons (media : MediaChange) (first : State) (script : List Scri
   pub wanting : starved ≡ list_any is_memory_leave journal
 
 -- The daemons of a script ran on a ground, from where the run begins.
-pub record RunsOut {T : Type 0} (g : Ghosts T) (b : RunStart) (script : List ScriptStep) (ran : RanDaemons T) : Type 0 where
+pub record RunsOnGround {T : Type 0} (g : Ghosts T) (b : RunStart) (script : List ScriptStep) (ran : RanDaemons T) : Type 0 where
   pub keeps : KeepsToScripts b.told b.first script ran.journal
   -- what a crash leaves is told by the journal
   pub run : IsRunOf g b ran.journal ran.base

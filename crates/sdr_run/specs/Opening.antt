@@ -9,7 +9,8 @@ use Rattle.sdr_run.specs.Replaying.{IsSettled}
 use Rattle.sdr_station.specs.Grounded.{Grounded}
 use Rattle.sdr_station.specs.Opening.{IsOpen}
 
--- The heap of a disk was opened with media: what opening tells of it.
+-- The heap of a disk was opened with media. The disk keeps its length and all bytes outside its regions, no count of it falls, and at each
+-- moment of the call a crash leaves what gives the same heap.
 pub record OpenedSo {D M : Type 0} (d : DiskGhosts D) (disk : D) (files : M) (g : Grounded D M) : Type 0 where
   pub with_media : g.media ≡ files
   pub open_so : IsOpen d.bytes d.moment d.may_hold_after disk g

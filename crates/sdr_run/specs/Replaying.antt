@@ -1,4 +1,4 @@
--- A schedule that runs on the heap of a disk.
+-- A script that runs on the heap of a disk: how that was opened, and what the journal leaves of the disk.
 use Rattle.std.specs.Prelude.{◌≡◌, ◌≤◌, ◌<◌, ℕ, List, Option, true, false, not, length}
 use Rattle.sdr_base.specs.Causes.{Rose}
 use Rattle.sdr_base.specs.Media.{Told}

@@ -2,7 +2,7 @@
 ghost use Rattle.std.specs.Prelude.{◌≡◌, ◌↔◌, IfErr, IfOk};
 ghost use Rattle.sdr_core.specs.CoreKept.{BeginsOn};
 ghost use Rattle.sdr_core.specs.Leaving.{LastsOn};
-ghost use Rattle.sdr_run.specs.Daemons.{RunsOn, RunsOut};
+ghost use Rattle.sdr_run.specs.Daemons.{RunsOn, RunsOnGround};
 ghost use Rattle.sdr_run.specs.Handed.{handed_as};
 ghost use Rattle.sdr_run.specs.Replaying.{IsNotRun, IsSettled};
 ghost use Rattle.sdr_words.specs.Daemons.{daemons_of};
@@ -24,7 +24,7 @@ use std::sync::Wait;
 use std::thread::Threads;
 
 // Runs the daemons of a script on a ground. Where there is no memory for them, the ground is given back.
-fn run_out<
+fn run_on_ground<
     R: Threads + Wait + Sync,
     T: Tells + Send,
     J: Origin + Send + Sync,
@@ -34,7 +34,7 @@ fn run_out<
     requires begins { BeginsOn T.HasGround J.begins (daemons_of script) base }
     requires lasts { LastsOn T.HasGround base }
     requires script { script ≡ S.script }
-    ensures ran { IfOk result (RunsOut T.HasGround J.begins script) }
+    ensures ran { IfOk result (RunsOnGround T.HasGround J.begins script) }
     ensures back { IfErr result (λ back. back ≡ base) }
 {
     let Ok(daemons) = daemons_of(alloc, script.as_slice()) else {
@@ -73,7 +73,7 @@ fn run_on<
         Ok(base) => base,
         Err(shut) => return Err(shut),
     };
-    match run_out::<R, HandedGround<D, M, J>, Brand, S, G>(rt, alloc, script, base, gate) {
+    match run_on_ground::<R, HandedGround<D, M, J>, Brand, S, G>(rt, alloc, script, base, gate) {
         Ok(ran) => {
             let RanDaemons {
                 journal,

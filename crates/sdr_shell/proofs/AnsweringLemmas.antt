@@ -19,7 +19,7 @@ use Rattle.sdr_shell.specs.Answers.{AnswersDry, AnswersFormat, Seen, Wrote, chan
 use Rattle.sdr_shell.specs.Formatting.{HasFormatted, IsFormatStatus, LeavesDisk}
 use Rattle.sdr_shell.specs.Inspecting.{AnswersInspect}
 use Rattle.sdr_shell.specs.Recovering.{AnswersRecover}
-use Rattle.sdr_shell.specs.Running.{RunsScripts}
+use Rattle.sdr_shell.specs.Running.{PrintsJournal}
 use Rattle.sdr_shell.specs.Still.{IsDryStatus}
 use Rattle.sdr_shell.specs.Telling.{AnswersInput}
 use Rattle.sdr_shell.specs.Words.{AnswersForm}
@@ -190,11 +190,11 @@ module _ {D M S K : Type 0} (d : DiskGhosts D) (m : MediaGhosts M) (s : SourceGh
       }
 
   -- to `run`
-  pub answers_run : (r : RunOutcome D M) → AnswersInput d m s k RunsScripts disk files input input' output output' r
+  pub answers_run : (r : RunOutcome D M) → AnswersInput d m s k PrintsJournal disk files input input' output output' r
       → AnswersForm d m s k (Some forms.Run) disk files input input' output output' r
   answers_run r e =
       let never : r.status ≡ USAGE → ⊥ =
-      heap_run.never_usage d m RunsScripts heap_run.run_tells (source input) (source input') (sink output) (sink output') disk r.disk files r.media r.journal
+      heap_run.never_usage d m PrintsJournal heap_run.run_tells (source input) (source input') (sink output) (sink output') disk r.disk files r.media r.journal
       r.status e.answers.comes in
       record {
         usage = (λ is. absurd (never is), λ none. absurd (cc));

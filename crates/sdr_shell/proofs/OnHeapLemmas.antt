@@ -24,7 +24,7 @@ use Rattle.sdr_shell.proofs.ShutLemmas.{by_shut, shut_status}
 use Rattle.sdr_shell.proofs.StillLemmas.{none_refused, spells_none, writes_behind}
 use Rattle.sdr_shell.specs.Answers.{Seen, Wrote, change_of}
 use Rattle.sdr_shell.specs.OnHeap.{AnswersOnHeap, ComesTo, HadOnHeap, HowRun, IsUntouched}
-use Rattle.sdr_shell.specs.Running.{RunsScripts}
+use Rattle.sdr_shell.specs.Running.{PrintsJournal}
 use Rattle.sdr_shell.specs.Telling.{Telling, output_of}
 use Rattle.sdr_shell.specs.Still.{NamesBadLine, Tells}
 use Rattle.sdr_shell.specs.declared.status.TheConstants.{DONE, USAGE, INPUT_FAULT, NOT_FORMATTED, DAMAGED, REFUSED_LINE, NO_MEMORY}
@@ -79,7 +79,7 @@ replay_tells = record {
 }
 
 -- and what is told of daemons that ran
-pub run_tells : TellsText RunsScripts
+pub run_tells : TellsText PrintsJournal
 run_tells = record {
   weaker = λ media first script journal starved P Q more h. record { runs = h.runs; text = more (journal_text journal) h.text };
   tells = λ media first script journal starved P h. (journal_text journal, h.text);
@@ -89,7 +89,7 @@ run_tells = record {
 pub ran_printed : {D M : Type 0} (d : DiskGhosts D) (m : MediaGhosts M) (disk : D) (files : M) (script : List ScriptStep) (ran : RanDaemons (D × M))
     (printing : Bool) (sink mid : Seen) → RunsOn d m disk files script ran → IsPrinted printing (output_of sink) (output_of mid) (journal_text ran.journal)
     → RanOn d m (daemons_of script) disk ran.base.0 files ran.journal
-    (λ first. RunsScripts (change_of m files ran.base.1) first script ran.journal ran.starved (IsPrinted printing (output_of sink) (output_of mid)))
+    (λ first. PrintsJournal (change_of m files ran.base.1) first script ran.journal ran.starved (IsPrinted printing (output_of sink) (output_of mid)))
 ran_printed d m disk files script ran printing sink mid on printed = record {
   ground = on.on_heap.ground;
   with_media = on.on_heap.with_media;

@@ -23,8 +23,8 @@ use Rattle.sdr_shell.specs.declared.status.TheConstants.{DONE, INPUT_FAULT, OUTP
 use Rattle.sdr_station.specs.declared.error.OpenError.{OpenError}
 use Rattle.sdr_words.specs.Script.{input_script}
 
--- How a script is run on a heap: with media that change so, from this state, to this journal, and whether memory was wanting in it. The last
--- tells of the text that is printed.
+-- What is said of a run on a heap: by how media changed, its first state, the script, the journal, whether memory was wanting in it, and a
+-- test of its text.
 abbrev pub HowRun : Type 1
 HowRun = MediaChange → State → List ScriptStep → List Entry → Bool → (List ℕ → Type 0) → Type 0
 
@@ -74,7 +74,7 @@ IsUntouched disk disk' files files' journal = (disk' ≡ disk) × (files' ≡ fi
 -- what the form came to, which its status tells
 pub data ComesTo {D M : Type 0} (d : DiskGhosts D) (m : MediaGhosts M) (R : HowRun) (status : ℕ) (source source' : Seen) (disk disk' : D)
     (files files' : M) (journal : List Entry) (sink sink' : Seen) : Type 0 where
-  -- the script was run whole, and its text written
+  -- memory sufficed, the disk failed in no entry, and the text was written
   done : status ≡ DONE → IsWholeRun d m R source.bytes source'.bytes disk disk' files files' journal (Appends sink.bytes sink'.bytes)
       → ComesTo d m R status source source' disk disk' files files' journal sink sink'
   -- the same, but the output failed
@@ -99,7 +99,7 @@ pub data ComesTo {D M : Type 0} (d : DiskGhosts D) (m : MediaGhosts M) (R : HowR
       → ComesTo d m R status source source' disk disk' files files' journal sink sink'
 
 -- What a form answers that runs a script so on the heap of the disk. A script that is refused is not run. One that is accepted is run to its
--- end, unless there is no heap or a fault or no memory.
+-- end, or to leaves that say why not, unless there is no heap, a fault, or no memory.
 pub record AnswersOnHeap {D M : Type 0} (d : DiskGhosts D) (m : MediaGhosts M) (R : HowRun) (status : ℕ) (source source' : Seen) (disk disk' : D)
     (files files' : M) (journal : List Entry) (sink sink' : Seen) : Type 0 where
   pub comes : ComesTo d m R status source source' disk disk' files files' journal sink sink'

@@ -8,7 +8,7 @@ use Rattle.sdr_shell.specs.Answers.{Seen}
 use Rattle.sdr_shell.specs.OnHeap.{AnswersOnHeap}
 
 -- What a replay answers. A script that is refused is not run. One that is accepted is run to its end on the heap of the disk, in the order of
--- its lines, unless there is none or a fault or no memory; the text is the lines of all answers.
+-- its lines, unless there is no heap, a fault, or no memory. The text is the lines of all answers.
 abbrev pub AnswersReplay : {D M : Type 0} → DiskGhosts D → MediaGhosts M → ℕ → Seen → Seen → D → D → M → M → List Entry → Seen → Seen → Type 0
 AnswersReplay d m status source source' disk disk' files files' journal sink sink' =
     AnswersOnHeap d m ReplaysSteps status source source' disk disk' files files' journal sink sink'

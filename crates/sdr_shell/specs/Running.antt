@@ -11,15 +11,15 @@ use Rattle.sdr_shell.specs.Answers.{Seen}
 use Rattle.sdr_shell.specs.OnHeap.{AnswersOnHeap}
 use Rattle.sdr_text.specs.JournalText.{journal_text}
 
--- The daemons of a script ran, each through its own lines, from this state and with media that changed so, and this journal came to be. P tells
--- of its text.
-pub record RunsScripts (media : MediaChange) (first : State) (script : List ScriptStep) (journal : List Entry) (starved : Bool)
+-- The journal is that of a run of daemons from this state, with media that changed so, and P holds of its text.
+pub record PrintsJournal (media : MediaChange) (first : State) (script : List ScriptStep) (journal : List Entry) (starved : Bool)
     (P : List ℕ → Type 0) : Type 0 where
   pub runs : RunsDaemons media first script journal starved
   pub text : P (journal_text journal)
 
--- What a run of daemons answers. Scripts that are refused are not run. Those that are accepted are run to their ends on the heap of the disk,
--- in whatever order daemons get the lock, unless there is none or a fault or no memory; the text is that of the journal.
+-- What a run of daemons answers. Scripts that are refused are not run. Those that are accepted are run on the heap of the disk, in whatever
+-- order daemons get the lock, each to its last line or to a leave that says why not, unless there is no heap, a fault, or no memory. The text is
+-- that of the journal.
 abbrev pub AnswersRun : {D M : Type 0} → DiskGhosts D → MediaGhosts M → ℕ → Seen → Seen → D → D → M → M → List Entry → Seen → Seen → Type 0
 AnswersRun d m status source source' disk disk' files files' journal sink sink' =
-    AnswersOnHeap d m RunsScripts status source source' disk disk' files files' journal sink sink'
+    AnswersOnHeap d m PrintsJournal status source source' disk disk' files files' journal sink sink'

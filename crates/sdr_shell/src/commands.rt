@@ -145,8 +145,7 @@ fn dry<M: Media, S: Source, K: Sink>(
     }
 }
 
-/// Answers the words, waits for nobody, and returns for every input. Of words whose first is `run` it says that they are no form of
-/// its.
+/// Answers the words, waits for nobody, and returns for every input. Words whose first is `run` it answers as words that are no form.
 pub fn still<D: Disk, M: Media, S: Source, K: Sink>(
     alloc: Global,
     words: &[RcStr],

@@ -23,8 +23,8 @@ fn is_live(form: Option<Form>) -> bool
     matches!(form, Some(Form::Run))
 }
 
-/// Answers the words `run`, with the daemons of the input's scripts in threads, and says of all others that they are no form of
-/// its. It may wait for daemons; what it answers holds if it returns.
+/// Answers the words `run`, with the daemons of the input's scripts in threads, and all other words as words that are no form. It
+/// may wait for daemons; what it answers holds if it returns.
 pub fn live<
     R: Threads + Wait + Sync,
     D: Disk + Send,

@@ -3,7 +3,7 @@ ghost use Rattle.std.specs.Prelude.{◌≡◌, ◌≤◌};
 ghost use Rattle.sdr_core.specs.Caused.{HaveFailed, media_change};
 ghost use Rattle.sdr_run.specs.Playing.{IsPrinted};
 ghost use Rattle.sdr_shell.specs.Answers.{seen};
-ghost use Rattle.sdr_shell.specs.Running.{RunsScripts};
+ghost use Rattle.sdr_shell.specs.Running.{PrintsJournal};
 ghost use Rattle.sdr_shell.specs.Telling.{AnswersInput, RunsOrNot, output_of};
 ghost use Rattle.sdr_text.specs.JournalText.{journal_text};
 
@@ -44,7 +44,7 @@ fn run_scripts<R: Threads + Wait + Sync, D: Disk + Send, M: Media + Send, K: Sin
     output: &mut K,
     gate: &G,
 ) -> RunOutcome<D, M>
-    ensures runs { RunsOrNot D.Disk M.Media RunsScripts disk media script
+    ensures runs { RunsOrNot D.Disk M.Media PrintsJournal disk media script
         (seen K.taken K.faults output.old) (seen K.taken K.faults output.new) result }
     ensures media { HaveFailed 0 0 (media_change M.told M.faults M.short media result.media) }
     ensures later { K.faults output.old ≤ K.faults output.new }
@@ -92,7 +92,7 @@ pub fn run_input<
     output: &mut K,
     gate: &G,
 ) -> RunOutcome<D, M>
-    ensures { AnswersInput D.Disk M.Media S.Source K.Sink RunsScripts disk media
+    ensures { AnswersInput D.Disk M.Media S.Source K.Sink PrintsJournal disk media
         input.old input.new output.old output.new result }
 {
     match read_script(alloc, input) {

@@ -13,7 +13,7 @@ use std::sync::Wait;
 use std::thread::Threads;
 
 /// Answers the words: the call that the program makes. Words whose first is `run` go to `live`, which may start threads and wait for
-/// them, and all others to `still`, which does neither.
+/// them, so that what it answers holds if it returns; all others go to `still`, which returns.
 pub fn top<
     R: Threads + Wait + Sync,
     D: Disk + Send,

@@ -6,7 +6,8 @@ use std::alloc::Global;
 use std::sync::Wait;
 use std::thread::Threads;
 
-const SCRIPT: &[u8] = b"1: begin\n1: string \"hello\"\n1: end\n2: begin\n2: list 7\n2: end\n1: begin\n1: end\n";
+const SCRIPT: &[u8] =
+    b"1: begin\n1: string \"hello\"\n1: end\n2: begin\n2: list 7\n2: end\n1: begin\n1: end\n";
 
 // What the run on a disk whose call of this number fails, 0 for none, is told by: the status, how many calls were made, and whether each
 // daemon left so.
@@ -32,8 +33,12 @@ fn wrong_fault<R: Threads + Wait + Sync>(rt: &R, alloc: Global) -> Option<Option
         return Some(Some(0));
     }
     for call in opening.checked_add(1)?..opening.checked_add(11)? {
-        let (status, _, have_left) =
-            told(rt, alloc, call, [b" 1 leaves fault\n", b" 2 leaves fault\n"])?;
+        let (status, _, have_left) = told(
+            rt,
+            alloc,
+            call,
+            [b" 1 leaves fault\n", b" 2 leaves fault\n"],
+        )?;
         if status != DISK_FAULT || !have_left {
             return Some(Some(call));
         }

@@ -6,13 +6,16 @@ use std::sync::atomic::{AtomicBool, Ordering};
 use std::thread::yield_now;
 
 // The first daemon holds a grant of all heap space. The ticket of the second waits until that is given back.
-const SCRIPT: &[u8] = b"1: begin\n1: set_maximum out heap 100\n1: t = request out 0 0 100 1 0\n1: end\n\
+const SCRIPT: &[u8] =
+    b"1: begin\n1: set_maximum out heap 100\n1: t = request out 0 0 100 1 0\n1: end\n\
     2: begin\n2: u = request out 0 0 60 1 0\n2: end\n2: await u\n\
     1: begin\n1: shred t\n1: end\n";
 
 // The lines before which the gate holds a daemon, or lets one go on.
 const BEGIN_OF_SECOND: u64 = 5;
+
 const AWAIT: u64 = 8;
+
 const SECOND_BEGIN_OF_FIRST: u64 = 9;
 
 // How often the gate looks before it gives up.
@@ -65,7 +68,10 @@ impl Gate for EachForTheOther {
 fn daemons_run_side_by_side(rt: HostRuntime) {
     let gate = EachForTheOther::new();
     let mut output = MemorySink::new(rt.alloc(), Vec::new(rt.alloc()));
-    let status = status_of(&rt, rt.alloc(), SCRIPT, 0, &mut output, &gate).map(|(status, _)| status);
+    let status = status_of(&rt, rt.alloc(), SCRIPT, 0, &mut output, &gate).map(|(
+        status,
+        _,
+    )| status);
     assert_eq!(rt; status, Some(DONE));
     assert!(rt; !gate.gave_up.load(Ordering::SeqCst));
     assert!(rt; has(output.taken(), b" 2 awarded 2\n"));

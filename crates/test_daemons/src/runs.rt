@@ -36,7 +36,16 @@ pub fn status_of<R: Threads + Wait + Sync, G: Gate + Sync>(
     words.push(RcStr::from_str(alloc, "run").ok()?).ok()?;
     let mut source = MemorySource::new(Bytes::copied(alloc, script).ok()?, Vec::new(alloc));
     let disk = MemoryDisk::new(formatted(alloc)?, vec![in alloc; failing; 1].ok()?);
-    let outcome = top(rt, alloc, &words, disk, NoMedia::new(), &mut source, output, gate);
+    let outcome = top(
+        rt,
+        alloc,
+        &words,
+        disk,
+        NoMedia::new(),
+        &mut source,
+        output,
+        gate,
+    );
     Some((outcome.status, outcome.disk.calls()))
 }
 

@@ -4,7 +4,7 @@ use Rattle.sdr_daemon.specs.Scripts.{KeepsToScripts}
 use Rattle.sdr_model.specs.declared.script.ScriptStep.{ScriptStep}
 use Rattle.sdr_run.proofs.PlayingLemmas.{fresh_core}
 use Rattle.sdr_words.specs.Daemons.{daemons_of}
-use Rattle.sdr_run.proofs.daemons.run_out.Goals as goal
+use Rattle.sdr_run.proofs.daemons.run_on_ground.Goals as goal
 
 pub new-requires-clause-begins : goal.new-requires-clause-begins
 new-requires-clause-begins g c =
