@@ -13,10 +13,11 @@
 //! Proved: `top` answers the words by the form that they are (`AnswersWords`), `live` the form `run` alone (`AnswersLive`), and `still` all
 //! others (`AnswersStill`). The three are one record, `AnswersForm`, at these forms. What `replay` and `run` answer is one record, too
 //! (`AnswersOnHeap`): it takes what was run, so the journal of `run` keeps to the scripts where that of `replay` is of one run of its
-//! lines. The page on the headline says in plain words what it is. `live` ensures this if it returns.
+//! lines. The page on the headline says in plain words what it is. `live`, and `top` on its word,
+//! ensure this if they return.
 //!
 //! Only tested: disks in memory that fail at each call in turn; each image of a crash in an end; recoveries that
-//! are stopped at any call (`test_shell`).
+//! are stopped at any call (`test_shell`); that daemons run side by side, and leave a disk that fails at any call (`test_daemons`).
 #![tactic(auto)]
 
 mod commands;
