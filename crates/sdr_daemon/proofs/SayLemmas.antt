@@ -20,8 +20,8 @@ use Rattle.sdr_daemon.proofs.InsideLemmas.{cuts, says_on}
 use Rattle.sdr_daemon.proofs.ScriptLemmas.{lines_more, names_more}
 use Rattle.sdr_daemon.proofs.StepLemmas.{IsStep, is_statement, is_step, step_states}
 use Rattle.sdr_daemon.proofs.TurnLemmas.{IsFree, draws_one, ends_turn, id_is, is_free, on_way, there, ticket_of, turned}
-use Rattle.sdr_daemon.specs.Progressing.{IsOnWay, MeansToLeave, WasLookRefused, steps_ahead}
-use Rattle.sdr_daemon.specs.Scripts.{HasKeptSoFar, DaemonKeepsToScript}
+use Rattle.sdr_daemon.specs.Progressing.{IsOnWay, WasLookRefused, steps_ahead}
+use Rattle.sdr_daemon.specs.Scripts.{HasKeptSoFar, DaemonKeepsToScript, MeansToLeave}
 use Rattle.sdr_daemon.specs.TakingTurns.{AddsAtMostOne, EndsTurn, IsBeforeTurn}
 use Rattle.sdr_daemon.specs.TurnEvents.{BeforeTurn, IsOverWith, SaysOn, before_of}
 use Rattle.sdr_daemon.specs.Turns.{DaemonTurn, IsTurn, Phase, SayLines, after_turn, entries_by, names_after, opens_work, steps_by}

@@ -24,8 +24,8 @@ use Rattle.sdr_daemon.proofs.ComingLemmas.{leaves}
 use Rattle.sdr_daemon.proofs.EventLemmas.{found_none}
 use Rattle.sdr_daemon.proofs.ScriptLemmas.{kept_also, kept_more}
 use Rattle.sdr_daemon.proofs.StepLemmas.{any_more, grown, is_step, put_same, refused_grows, unsound_below}
-use Rattle.sdr_daemon.specs.Progressing.{IsOnWay, MeansToLeave, PhaseAgrees, WasLookRefused, steps_ahead}
-use Rattle.sdr_daemon.specs.Scripts.{HasKeptSoFar, HasLeaveCause, DaemonKeepsToScript, IsLeaveDue, LooksNext, leave_due}
+use Rattle.sdr_daemon.specs.Progressing.{IsOnWay, PhaseAgrees, WasLookRefused, steps_ahead}
+use Rattle.sdr_daemon.specs.Scripts.{HasKeptSoFar, HasLeaveCause, DaemonKeepsToScript, IsLeaveDue, LooksNext, MeansToLeave, leave_due}
 use Rattle.sdr_daemon.specs.TakingTurns.{AddsAtMostOne, BringsOn, DoesLine, EndsTurn, IsBeforeTurn, MayDepart}
 use Rattle.sdr_daemon.specs.TurnEvents.{BeforeTurn, IsOver, before_of}
 use Rattle.sdr_daemon.specs.Turns.{DaemonTurn, IsTurn, Phase, Reached, SayLines, after_turn, entries_by, is_refused_outside, names_after, steps_by}
@@ -135,11 +135,17 @@ module _ {T : Type 0} (g : Ghosts T) (b : RunStart) (script : List ScriptStep) (
         all = own;
         leave = leave;
         leaves = h.next.what_is;
+        means = means_by t.way.at.phase t.way.agrees;
         due = due_by t.way.at.phase t.way.agrees;
         higher = subst (λ n. t.way.at.number < n) (sym h.next.number) below_next;
         cause = cause st.drawn h.entry h.next.number h.over.journal_is leave may;
       }))
     where
+      means_by : (p : Phase) → PhaseAgrees p x s.leaving → MeansToLeave (steps_ahead script s.daemon s.place) (leave_due p)
+      means_by Phase.ready agrees = tt
+      means_by (Phase.waiting ticket) agrees = tt
+      means_by (Phase.leaving meant) agrees = subst (MeansToLeave (steps_ahead script s.daemon s.place)) agrees t.way.means
+
       due_by : (p : Phase) → PhaseAgrees p x s.leaving → IsLeaveDue (leave_due p) leave
       due_by Phase.ready agrees = tt
       due_by (Phase.waiting ticket) agrees = tt

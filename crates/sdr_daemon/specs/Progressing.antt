@@ -13,7 +13,7 @@ use Rattle.sdr_model.specs.declared.event.Leave.{Leave}
 use Rattle.sdr_model.specs.declared.journal.Entry.{Entry}
 use Rattle.sdr_model.specs.declared.script.ScriptStep.{ScriptStep}
 use Rattle.sdr_words.specs.Daemons.{daemons_of}
-use Rattle.sdr_daemon.specs.Scripts.{HasKeptSoFar, IsLookRefused, DaemonKeepsToScript}
+use Rattle.sdr_daemon.specs.Scripts.{HasKeptSoFar, IsLookRefused, DaemonKeepsToScript, MeansToLeave}
 use Rattle.sdr_daemon.specs.Turns.{Phase, Reached, entries_by, steps_by}
 use Rattle.sdr_daemon.specs.declared.script_place.ScriptPlace.{ScriptPlace}
 
@@ -32,13 +32,6 @@ abbrev pub PhaseAgrees : Phase → Daemon → Option Leave → Type 0
 PhaseAgrees Phase.ready d leaving = ⊤
 PhaseAgrees (Phase.waiting ticket) d leaving = d.waits ≡ Some ticket
 PhaseAgrees (Phase.leaving leave) d leaving = leaving ≡ Some leave
-
--- if a daemon means to leave, then for want of memory, or behind its last line
-abbrev pub MeansToLeave : List ScriptStep → Option Leave → Type 0
-MeansToLeave rest None = ⊤
-MeansToLeave rest (Some leaves.Memory) = ⊤
-MeansToLeave rest (Some leaves.Done) = rest ≡ []
-MeansToLeave rest (Some leave) = ⊥
 
 -- A daemon is on its way: the lines before its place gave its entries.
 pub record IsOnWay (b : RunStart) (script : List ScriptStep) (r : Roll) (journal : List Entry) (d : Daemon) (s : ScriptPlace) : Type 0 where

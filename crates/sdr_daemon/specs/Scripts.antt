@@ -44,12 +44,20 @@ abbrev pub leave_due : Phase → Option Leave
 leave_due (Phase.leaving leave) = Some leave
 leave_due phase = None
 
+-- if a daemon means to leave, then for want of memory, or behind its last line
+abbrev pub MeansToLeave : List ScriptStep → Option Leave → Type 0
+MeansToLeave rest None = ⊤
+MeansToLeave rest (Some leaves.Memory) = ⊤
+MeansToLeave rest (Some leaves.Done) = rest ≡ []
+MeansToLeave rest (Some leave) = ⊥
+
 -- a daemon that is to make a leave makes that one, or leaves for a fault
 abbrev pub IsLeaveDue : Option Leave → Leave → Type 0
 IsLeaveDue None leave = ⊤
 IsLeaveDue (Some due) leave = (leave ≡ due) ⊎ (leave ≡ leaves.Fault)
 
--- A daemon's entries are those of its lines in order, of all of them unless it left early, and a leave.
+-- A daemon's entries are those of its lines in order, of all of them unless it left early, and a leave. Where it left in a transaction, then
+-- for want of memory, or behind its last line.
 pub record DaemonKeepsToScript (R : ℕ → ℕ → Type 0) (journal : List Entry) (steps : List ScriptStep) (entries : List Entry) : Type 0 where
   pub rest : List ScriptStep
   pub before : List Entry
@@ -59,6 +67,7 @@ pub record DaemonKeepsToScript (R : ℕ → ℕ → Type 0) (journal : List Entr
   pub all : entries ≡ before ++ last ∷ []
   pub leave : Leave
   pub leaves : last.what ≡ whats.Leaves leave
+  pub means : MeansToLeave rest (leave_due at.phase)
   pub due : IsLeaveDue (leave_due at.phase) leave
   pub higher : at.number < last.number
   pub cause : HasLeaveCause journal last.number rest leave
