@@ -10,6 +10,7 @@ use Rattle.sdr_machine.specs.Legal.{last_entry}
 use Rattle.sdr_machine.specs.declared.daemon.Daemon.{Daemon}
 use Rattle.sdr_model.specs.declared.journal.Entry.{Entry}
 use Rattle.sdr_model.specs.declared.script.ScriptStep.{ScriptStep}
+use Rattle.sdr_daemon.specs.Progressing.{steps_ahead}
 use Rattle.sdr_daemon.specs.Scripts.{MayHaveDrawn, is_wait}
 use Rattle.sdr_daemon.specs.Turns.{entries_by}
 
@@ -24,6 +25,14 @@ drawn_more drawn drawn' entries more entries' steps rest rest' (inr used) grown 
 pub drawn_on : (drawn drawn' : ℕ) (entries : List Entry) (steps rest rest' : List ScriptStep) → MayHaveDrawn drawn entries steps rest → drawn' + length rest' ≤ drawn + length rest
     → MayHaveDrawn drawn' entries steps rest'
 drawn_on drawn drawn' entries steps rest rest' may fewer = drawn_more drawn drawn' entries [] entries steps rest rest' may (sym (append-nil entries)) fewer
+
+-- a line that is done is ahead no more, so one number may be drawn by it
+pub fewer_lines : (script : List ScriptStep) (id from to : ℕ) (step : ScriptStep) (after : ℕ) → steps_ahead script id from ≡ step ∷ steps_ahead script id after → to ≡ after → (drawn drawn' : ℕ) → drawn' ≤ drawn + 1
+    → drawn' + length (steps_ahead script id to) ≤ drawn + length (steps_ahead script id from)
+fewer_lines script id from to step after is place drawn drawn' one =
+    let line = ap length is in
+    let end = ap (λ p. length (steps_ahead script id p)) place in
+    omega (arith, line, end, one)
 
 -- where the last entry is a wait, one is
 pub wait_added : (entries : List Entry) (e : Entry) → is_wait e ≡ true → list_any is_wait (entries ++ e ∷ []) ≡ true

@@ -21,7 +21,7 @@ use Rattle.sdr_model.specs.declared.journal.Said.{Said}
 use Rattle.sdr_model.specs.declared.script.ScriptStep.{ScriptStep}
 use Rattle.sdr_words.specs.Bindings.{bound, event_of}
 use Rattle.sdr_daemon.proofs.ComingLemmas.{looks}
-use Rattle.sdr_daemon.proofs.DrawnLemmas.{drawn_more, wait_added, waited_before}
+use Rattle.sdr_daemon.proofs.DrawnLemmas.{drawn_more, fewer_lines, wait_added, waited_before}
 use Rattle.sdr_daemon.proofs.ScriptLemmas.{kept_also}
 use Rattle.sdr_daemon.proofs.StepLemmas.{IsStep, grown, is_step, refused_grows, unused}
 use Rattle.sdr_daemon.proofs.TurnLemmas.{IsFree, below_next, draws_one, ends_turn, id_is, is_free, on_way, ticket_of, turned}
@@ -92,7 +92,7 @@ module _ {T : Type 0} (g : Ghosts T) (b : RunStart) (script : List ScriptStep) (
           (on_way g b script x old s t new x' s' t.way.at turn (omega (arith, d, room)) m.daemon refl (subst (λ n. old.lock.roll.drawn + 1 ≤ n) (sym behind.drawn_is) (omega arith)) kept (names m)
           (drawn_more s.drawn s'.drawn (entries_by s.daemon old.log.journal) entries (entries_by s.daemon new.log.journal) (steps_by s.daemon script) (steps_ahead script s.daemon s.place) (steps_ahead script s.daemon s'.place) t.way.may
           (grown o entries new.log.journal s.daemon (id_is g b script x old s t) next behind.journal_is)
-          (let line = ap length is in let end = ap (λ p. length (steps_ahead script s.daemon p)) m.place in omega (arith, d, line, end)))))
+          (fewer_lines script s.daemon s.place s'.place step after is m.place s.drawn s'.drawn (omega (arith, d))))))
 
       refused_now : IsOver o [] (when_passed_over x) (old.lock.roll.drawn + 1) new.lock.roll new.log → pending_of st.v.before.world ticket ≡ None → R (old.lock.roll.drawn + 1) ticket
       refused_now behind missing =

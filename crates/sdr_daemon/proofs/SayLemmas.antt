@@ -16,7 +16,7 @@ use Rattle.sdr_model.specs.declared.journal.What.TheVariants as whats
 use Rattle.sdr_model.specs.declared.script.ScriptStep.{ScriptStep}
 use Rattle.sdr_words.specs.Bindings.{bound, event_of}
 use Rattle.sdr_daemon.proofs.ComingLemmas.{begins}
-use Rattle.sdr_daemon.proofs.DrawnLemmas.{drawn_more, drawn_on}
+use Rattle.sdr_daemon.proofs.DrawnLemmas.{drawn_more, drawn_on, fewer_lines}
 use Rattle.sdr_daemon.proofs.InsideLemmas.{cuts, says_on}
 use Rattle.sdr_daemon.proofs.ScriptLemmas.{lines_more, names_more}
 use Rattle.sdr_daemon.proofs.StepLemmas.{IsStep, grown, is_statement, is_step, step_states}
@@ -32,14 +32,6 @@ use Rattle.sdr_daemon.specs.declared.script_place.ScriptPlace.{ScriptPlace}
 module _ {T : Type 0} (g : Ghosts T) (b : RunStart) (script : List ScriptStep) (x : Daemon) (old : LoggedLock T) (s : ScriptPlace) (t : IsBeforeTurn g b script x old s) where
   abbrev o : BeforeTurn
   o = before_of old x
-
-  -- a line that is done is ahead no more
-  fewer_lines : (id from to : ℕ) (step : ScriptStep) (after : ℕ) → steps_ahead script id from ≡ step ∷ steps_ahead script id after → to ≡ after → (drawn drawn' : ℕ) → drawn' ≤ drawn + 1
-      → drawn' + length (steps_ahead script id to) ≤ drawn + length (steps_ahead script id from)
-  fewer_lines id from to step after is place drawn drawn' one =
-      let line = ap length is in
-      let end = ap (λ p. length (steps_ahead script id p)) place in
-      omega (arith, line, end, one)
 
   -- it begins a transaction
   pub begun : (new : LoggedLock T) (s' : ScriptPlace) (step : ScriptStep) (after : ℕ) (a : Came) → steps_ahead script s.daemon s.place ≡ step ∷ steps_ahead script s.daemon after → after ≤ length script
@@ -66,7 +58,7 @@ module _ {T : Type 0} (g : Ghosts T) (b : RunStart) (script : List ScriptStep) (
         drawn = drawn;
         may =
             drawn_on s.drawn s'.drawn (entries_by s.daemon old.log.journal) (steps_by s.daemon script) (steps_ahead script s.daemon s.place) (steps_ahead script s.daemon s'.place) t.way.may
-            (fewer_lines s.daemon s.place s'.place step after is place s.drawn s'.drawn (omega (arith, drawn)));
+            (fewer_lines script s.daemon s.place s'.place step after is place s.drawn s'.drawn (omega (arith, drawn)));
         place = subst (λ p. p ≤ length script) (sym place) within;
       }
     where
@@ -115,7 +107,7 @@ module _ {T : Type 0} (g : Ghosts T) (b : RunStart) (script : List ScriptStep) (
       may_on : MayHaveDrawn sb.drawn (entries_by s.daemon old.log.journal) (steps_by s.daemon script) (steps_ahead script s.daemon sb.place)
       may_on =
           drawn_on sa.drawn sb.drawn (entries_by s.daemon old.log.journal) (steps_by s.daemon script) (steps_ahead script s.daemon sa.place) (steps_ahead script s.daemon sb.place) w.may
-          (fewer_lines s.daemon sa.place sb.place step after is place sa.drawn sb.drawn (omega (arith, drawn)))
+          (fewer_lines script s.daemon sa.place sb.place step after is place sa.drawn sb.drawn (omega (arith, drawn)))
 
       -- the transaction goes on
       pub line_on : closed_by a.answer ≡ None → IsInWork g b script o new s sb

@@ -21,7 +21,7 @@ use Rattle.sdr_model.specs.declared.journal.Said.{Said}
 use Rattle.sdr_model.specs.declared.script.ScriptStep.{ScriptStep}
 use Rattle.sdr_words.specs.Bindings.{bound, event_of}
 use Rattle.sdr_daemon.proofs.ComingLemmas.{leaves}
-use Rattle.sdr_daemon.proofs.DrawnLemmas.{drawn_on}
+use Rattle.sdr_daemon.proofs.DrawnLemmas.{drawn_on, fewer_lines}
 use Rattle.sdr_daemon.proofs.EventLemmas.{found_none}
 use Rattle.sdr_daemon.proofs.ScriptLemmas.{kept_also, kept_more}
 use Rattle.sdr_daemon.proofs.StepLemmas.{any_more, grown, is_step, put_same, refused_grows, unsound_below}
@@ -262,7 +262,7 @@ module _ {T : Type 0} (g : Ghosts T) (b : RunStart) (script : List ScriptStep) (
           (IsOnWay b script old.lock.roll old.log.journal x s')) (sym t.stays)
           (on_way old x s' t.way.at turn (let d = moves.drawn in omega (arith, d, few)) moves.daemon refl t.way.below kept names
           (drawn_on s.drawn s'.drawn (entries_by s.daemon old.log.journal) (steps_by s.daemon script) (steps_ahead script s.daemon s.place) (steps_ahead script s.daemon s'.place) t.way.may
-          (let d = moves.drawn in let line = ap length is in let p = ap (λ p. length (steps_ahead script s.daemon p)) moves.place in omega (arith, d, line, p)))))
+          (fewer_lines script s.daemon s.place s'.place step after is moves.place s.drawn s'.drawn (let d = moves.drawn in omega (arith, d))))))
 
   -- it finds no memory, and means to leave
   pub starves : s.leaving ≡ None → EndsTurn b script o old s (record s { leaving = Some leaves.Memory })

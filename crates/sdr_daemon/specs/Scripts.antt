@@ -66,8 +66,8 @@ abbrev pub IsLeaveDue : Option Leave → Leave → Type 0
 IsLeaveDue None leave = ⊤
 IsLeaveDue (Some due) leave = (leave ≡ due) ⊎ (leave ≡ leaves.Fault)
 
--- A daemon's entries are those of its lines in order, of all of them unless it left early, and a leave. Where it left in a transaction, then
--- for want of memory, or behind its last line.
+-- A daemon's entries are those of its lines in order, of all of them unless it left early, and a leave. Where a leave closed
+-- its transaction, that came for want of memory, or behind its last line.
 pub record DaemonKeepsToScript (R : ℕ → ℕ → Type 0) (journal : List Entry) (steps : List ScriptStep) (entries : List Entry) : Type 0 where
   pub rest : List ScriptStep
   pub before : List Entry

@@ -19,7 +19,7 @@ pub enum Coming {
     Comes { daemon: u8, line: u64 },
 }
 
-/// What a daemon that hasn't left does in its next turn, if memory isn't wanting there. To tell it takes no memory.
+/// What a daemon that hasn't left does in its next turn, if memory isn't wanting there. The call takes no memory.
 pub fn coming_of(roll: &Roll, progress: &ScriptPlace, script: &[ScriptStep]) -> Coming
     requires within { progress.now.place ≤ length script.now }
     ensures { result ≡ coming_of roll.now script.now progress.now }

@@ -86,8 +86,8 @@ impl<T: Tells, J: Origin, S: Scripted> ScriptedRun<T, J, S> {
         self.progress.len()
     }
 
-    // Whether no daemon at a place takes turns: there is none, or it has left. The clauses but the first don't speak of the answer. They
-    // hold of any core, and `turn` needs them.
+    // Whether no daemon at a place takes turns: there is none, or it has left. The clauses from `run` on aren't about the answer:
+    // they hand on what `Core::roll` ensures, which `turn` needs.
     fn is_gone(&self, place: usize) -> bool
         ensures gone { result ≡ is_gone place self.now }
         ensures run { KeepsRun T.HasGround J.begins self.now.core }
@@ -102,7 +102,7 @@ impl<T: Tells, J: Origin, S: Scripted> ScriptedRun<T, J, S> {
         }
     }
 
-    /// What the daemon at a place does in its next turn, if memory isn't wanting there. To tell it takes no memory.
+    /// What the daemon at a place does in its next turn, if memory isn't wanting there. The call takes no memory.
     pub fn coming(&self, place: usize) -> Coming
         ensures { result ≡ coming_at S.script place self.now }
     {
