@@ -146,6 +146,7 @@ module _ (R : ℕ → ℕ → Type 0) where
     all = refl;
     leave = leaves.Done;
     leaves = refl;
+    means = tt;
     due = tt;
     higher = omega arith;
     cause = refl;
@@ -186,6 +187,7 @@ module _ (R : ℕ → ℕ → Type 0) where
     all = refl;
     leave = leaves.Done;
     leaves = refl;
+    means = tt;
     due = tt;
     higher = omega arith;
     cause = refl;

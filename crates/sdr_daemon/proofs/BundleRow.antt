@@ -99,6 +99,7 @@ bundle_out_of_a_file told first = record {
       all = refl;
       leave = leaves.Done;
       leaves = refl;
+      means = tt;
       due = tt;
       higher = omega arith;
       cause = refl;

@@ -9,18 +9,13 @@ use Rattle.sdr_model.specs.declared.journal.Said.{Said}
 use Rattle.sdr_model.specs.declared.journal.What.TheVariants as whats
 use Rattle.sdr_model.specs.declared.script.ScriptStep.{ScriptStep}
 use Rattle.sdr_words.specs.Bindings.{Binding, event_of}
+use Rattle.sdr_daemon.proofs.RowLemmas.{last_alone}
 use Rattle.sdr_daemon.specs.Scripts.{HasLeaveCause, DaemonKeepsToScript}
 use Rattle.sdr_daemon.specs.Turns.{DaemonTurn, IsTurn, Reached, SayLines, TakeTurns, at_start, is_refused_outside}
 
 no_first : {A : Type 0} (front rest : List A) → [] ≡ front ++ rest → front ≡ []
 no_first [] rest none = refl
 no_first (one ∷ front) rest none = absurd cc
-
--- of one entry the last is it, and there is none before
-last_alone : (before : List Entry) (last e : Entry) → e ∷ [] ≡ before ++ last ∷ [] → (before ≡ []) × (last ≡ e)
-last_alone [] last e is = let same : last ≡ e = cc in (refl, same)
-last_alone (one ∷ []) last e is = absurd cc
-last_alone (one ∷ two ∷ before) last e is = absurd cc
 
 -- one line says one thing
 one_line : (names : List Binding) (lines : List ScriptStep) (said : List Said) (s : Said) → said ≡ s ∷ [] → SayLines names lines said
@@ -69,7 +64,7 @@ module _ (R : ℕ → ℕ → Type 0) where
       let alone = last_alone keeps.before keeps.last leave keeps.all in
       let is : whats.Leaves keeps.leave ≡ whats.Leaves leaves.Done = sym keeps.leaves ∙ ap (λ (e : Entry). e.what) alone.1 ∙ done in
       let same : keeps.leave ≡ leaves.Done = cc in
-      let ended : keeps.rest ≡ [] = subst (HasLeaveCause journal keeps.last.number keeps.rest) same keeps.cause in
+      let ended : keeps.rest ≡ [] = subst (HasLeaveCause journal keeps.before (step ∷ steps) keeps.last.number keeps.rest) same keeps.cause in
       let kept = keeps.kept in
       some_entry step steps begins kept.turns kept.taken (sym alone.0 ∙ kept.entries_are)
       (kept.steps_are ∙ ap (λ rest. flat_map (λ (t : DaemonTurn). t.lines) kept.turns ++ rest) ended)

@@ -1,5 +1,5 @@
 -- Before any turn each daemon is at its first line.
-use Rattle.std.proofs.Common.{◌≡◌, ◌∙◌, ◌<◌, ◌+◌, ◌≤◌, ◌==◌, ℕ, zero, suc, List, [], ◌∷◌, Bool, true, false, Some, arith, refl, sym, ap, subst, cond, length, map}
+use Rattle.std.proofs.Common.{◌≡◌, ◌∙◌, ◌<◌, ◌+◌, ◌≤◌, ◌==◌, ℕ, zero, suc, List, [], ◌∷◌, Bool, true, false, Some, arith, inr, refl, sym, ap, subst, cond, length, map}
 use Rattle.std.proofs.lemmas.Bool.Decides.{nat_tests}
 use Rattle.std.proofs.lemmas.List.{length-map}
 use Rattle.std.proofs.lemmas.List.FromFn.{length-range_with_len}
@@ -123,6 +123,7 @@ first_holds b script ids id found = record {
     names = λ stays. refl;
     agrees = tt;
     means = tt;
+    may = inr (omega arith);
   };
 }
 

@@ -1,6 +1,7 @@
 pub mod AwardedRow
 pub mod BundleRow
 pub mod ComingLemmas
+pub mod DrawnLemmas
 pub mod DroppedRow
 pub mod EmptyRow
 pub mod EventLemmas
@@ -14,6 +15,7 @@ pub mod RowLemmas
 pub mod RunLemmas
 pub mod SayLemmas
 pub mod ScriptLemmas
+pub mod SpentRow
 pub mod StalledRow
 pub mod StepLemmas
 pub mod TurnLemmas

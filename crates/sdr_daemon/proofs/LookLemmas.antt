@@ -1,6 +1,8 @@
 -- The progress of a daemon holds behind a look.
-use Rattle.std.proofs.Common.{◌≡◌, ◌∙◌, ◌<◌, ◌≤◌, ◌⊎◌, ◌+◌, ◌^◌, ℕ, List, [], ◌∷◌, MatchBool, false, None, Some, inl, inr, arith, refl, sym, ap, subst, append-nil}
-use Rattle.std.specs.Prelude.{length}
+use Rattle.std.proofs.Common.{◌≡◌, ◌∙◌, ◌<◌, ◌≤◌, ◌⊎◌, ◌+◌, ◌^◌, ℕ, List, [], ◌∷◌, MatchBool, false, true, None, Some, inl, inr, arith, refl, sym, ap, subst, append-nil}
+use Rattle.std.specs.List.{list_any}
+use Rattle.std.specs.Prelude.{is_some, length}
+use Rattle.law_runs.specs.LastEntries.{waited_ticket}
 use Rattle.sdr_base.specs.declared.refusal.Refusal.TheVariants as refusals
 use Rattle.sdr_core.specs.CoreKept.{RunStart, LoggedLock, MakesCoreStep}
 use Rattle.sdr_machine.specs.Legal.{Lead}
@@ -19,11 +21,12 @@ use Rattle.sdr_model.specs.declared.journal.Said.{Said}
 use Rattle.sdr_model.specs.declared.script.ScriptStep.{ScriptStep}
 use Rattle.sdr_words.specs.Bindings.{bound, event_of}
 use Rattle.sdr_daemon.proofs.ComingLemmas.{looks}
+use Rattle.sdr_daemon.proofs.DrawnLemmas.{drawn_more, fewer_lines, wait_added, waited_before}
 use Rattle.sdr_daemon.proofs.ScriptLemmas.{kept_also}
-use Rattle.sdr_daemon.proofs.StepLemmas.{IsStep, is_step, refused_grows, unused}
-use Rattle.sdr_daemon.proofs.TurnLemmas.{IsFree, below_next, draws_one, ends_turn, is_free, on_way, ticket_of, turned}
+use Rattle.sdr_daemon.proofs.StepLemmas.{IsStep, grown, is_step, refused_grows, unused}
+use Rattle.sdr_daemon.proofs.TurnLemmas.{IsFree, below_next, draws_one, ends_turn, id_is, is_free, on_way, ticket_of, turned}
 use Rattle.sdr_daemon.specs.Progressing.{IsOnWay, PhaseAgrees, WasLookRefused, steps_ahead}
-use Rattle.sdr_daemon.specs.Scripts.{HasKeptSoFar, IsLookRefused, DaemonKeepsToScript, LooksNext}
+use Rattle.sdr_daemon.specs.Scripts.{HasKeptSoFar, IsLookRefused, DaemonKeepsToScript, LooksNext, is_wait}
 use Rattle.sdr_daemon.specs.TakingTurns.{AddsAtMostOne, DoesLine, EndsTurn, IsBeforeTurn}
 use Rattle.sdr_daemon.specs.TurnEvents.{BeforeTurn, IsOver, LooksSo, before_of}
 use Rattle.sdr_daemon.specs.Turns.{DaemonTurn, IsLine, IsTurn, MayLook, Phase, Reached, after_turn, entries_by, steps_by}
@@ -86,7 +89,10 @@ module _ {T : Type 0} (g : Ghosts T) (b : RunStart) (script : List ScriptStep) (
           ends_turn g b script x old s t new s' entries x' (old.lock.roll.drawn + 1) behind next (omega arith) (omega arith) (draws_one g b script x old s t s') m.daemon
           (omega (arith, d)) (omega (arith, d, below)) (omega (arith, d, few)) (subst (λ p. p ≤ length script) (sym m.place) within)
           (subst (λ c. MatchBool c (DaemonKeepsToScript R new.log.journal (steps_by s'.daemon script) (entries_by s'.daemon new.log.journal)) (IsOnWay b script new.lock.roll new.log.journal x' s')) (sym stays)
-          (on_way g b script x old s t new x' s' t.way.at turn (omega (arith, d, room)) m.daemon refl (subst (λ n. old.lock.roll.drawn + 1 ≤ n) (sym behind.drawn_is) (omega arith)) kept (names m)))
+          (on_way g b script x old s t new x' s' t.way.at turn (omega (arith, d, room)) m.daemon refl (subst (λ n. old.lock.roll.drawn + 1 ≤ n) (sym behind.drawn_is) (omega arith)) kept (names m)
+          (drawn_more s.drawn s'.drawn (entries_by s.daemon old.log.journal) entries (entries_by s.daemon new.log.journal) (steps_by s.daemon script) (steps_ahead script s.daemon s.place) (steps_ahead script s.daemon s'.place) t.way.may
+          (grown o entries new.log.journal s.daemon (id_is g b script x old s t) next behind.journal_is)
+          (fewer_lines script s.daemon s.place s'.place step after is m.place s.drawn s'.drawn (omega (arith, d))))))
 
       refused_now : IsOver o [] (when_passed_over x) (old.lock.roll.drawn + 1) new.lock.roll new.log → pending_of st.v.before.world ticket ≡ None → R (old.lock.roll.drawn + 1) ticket
       refused_now behind missing =
@@ -106,14 +112,14 @@ module _ {T : Type 0} (g : Ghosts T) (b : RunStart) (script : List ScriptStep) (
       waiting : (entries : List Entry) (x' : Daemon) → IsOver o entries x' (old.lock.roll.drawn + 1) new.lock.roll new.log → AddsAtMostOne o entries
           → x'.left ≡ false → s' ≡ record s { drawn = s.drawn + 1 }
           → (at : Reached) → HasKeptSoFar R (steps_by s.daemon script) (steps_ahead script s.daemon s.place) (entries_by s.daemon new.log.journal) at → at.number ≤ new.lock.roll.drawn
-          → (s.leaving ≡ None → s.names ≡ at.names) → PhaseAgrees at.phase x' s.leaving → EndsTurn b script o new s s'
-      waiting entries x' behind next stays same at kept below names agrees =
+          → (s.leaving ≡ None → s.names ≡ at.names) → PhaseAgrees at.phase x' s.leaving → list_any is_wait (entries_by s.daemon new.log.journal) ≡ true → EndsTurn b script o new s s'
+      waiting entries x' behind next stays same at kept below names agrees waited =
           let drawn = t.drawn in
           subst (λ (z : ScriptPlace). EndsTurn b script o new s z) (sym same)
           (ends_turn g b script x old s t new (record s { drawn = s.drawn + 1 }) entries x' (old.lock.roll.drawn + 1) behind next (omega arith) (omega arith)
           (draws_one g b script x old s t (record s { drawn = s.drawn + 1 })) refl (omega arith) (omega (arith, drawn)) (omega (arith, few)) t.within
           (subst (λ c. MatchBool c (DaemonKeepsToScript R new.log.journal (steps_by s.daemon script) (entries_by s.daemon new.log.journal)) (IsOnWay b script new.lock.roll new.log.journal x' (record s { drawn = s.drawn + 1 }))) (sym stays)
-          (record { at = at; kept = kept; below = below; few = room; names = names; agrees = agrees; means = t.way.means })))
+          (record { at = at; kept = kept; below = below; few = room; names = names; agrees = agrees; means = t.way.means; may = inl waited })))
 
       first_wait : IsFree x t.way.at.phase (Some ticket) → (x.waits ≡ Some ticket → ⊥) → t.way.at.phase ≡ Phase.ready
       first_wait (IsFree.any at) new_one = at
@@ -140,6 +146,8 @@ module _ {T : Type 0} (g : Ghosts T) (b : RunStart) (script : List ScriptStep) (
           (kept_also (WasLookRefused b old.lock.roll.drawn old.log.journal) R (refused_grows b o [] new.log.journal new.lock.roll.drawn (AddsAtMostOne.none refl) behind.journal_is (omega (arith, d)))
           (steps_by s.daemon script) (steps_ahead script s.daemon s.place) (entries_by s.daemon old.log.journal) t.way.at t.way.kept))
           (omega (arith, d, below)) t.way.names (agrees_again fr)
+          (ap (λ l. list_any is_wait (entries_by s.daemon l)) (behind.journal_is ∙ append-nil old.log.journal)
+          ∙ waited_before old.log.journal s.daemon x ticket (st.keeps.roll.agree s.daemon x t.found) before)
         where
           agrees_again : IsFree x t.way.at.phase (Some ticket) → PhaseAgrees t.way.at.phase (after_wait x ticket) s.leaving
           agrees_again (IsFree.any at) = subst (λ p. PhaseAgrees p (after_wait x ticket) s.leaving) (sym at) tt
@@ -154,3 +162,5 @@ module _ {T : Type 0} (g : Ghosts T) (b : RunStart) (script : List ScriptStep) (
           (record { entry = h.entry; is = refl; what_is = h.next.what_is; number = sym h.next.number; higher = subst (λ n. t.way.at.number < n) (sym h.next.number) (below_next g b script x old s t) }) refl)
           tt (subst (LooksNext (Phase.waiting ticket) t.way.at.names) (sym is) (ap (λ n. event_of n step) (sym (t.way.names none)) ∙ event)))
           (subst (λ n. old.lock.roll.drawn + 1 ≤ n) (sym h.over.drawn_is) (omega arith)) t.way.names refl
+          (ap (list_any is_wait) (grown o (h.entry ∷ []) new.log.journal s.daemon (id_is g b script x old s t) next h.over.journal_is)
+          ∙ wait_added (entries_by s.daemon old.log.journal) h.entry (ap (λ what. is_some (waited_ticket what)) h.next.what_is))

@@ -1,5 +1,5 @@
--- Lines, entries and names as the worked rows write them.
-use Rattle.std.proofs.Common.{ℕ, List}
+-- Lines, entries and names as the worked rows write them, and an entry that is alone.
+use Rattle.std.proofs.Common.{◌≡◌, ℕ, List, [], ◌∷◌, ◌++◌, refl}
 use Rattle.sdr_model.specs.declared.journal.Entry.{Entry}
 use Rattle.sdr_model.specs.declared.journal.What.{What}
 use Rattle.sdr_model.specs.declared.script.Arg.{Arg}
@@ -17,3 +17,9 @@ entry number daemon what = record { number = number; daemon = daemon; begun = 0;
 -- what a name of a daemon holds
 abbrev pub holds : ℕ → List ℕ → ℕ → Binding
 holds daemon name value = record { daemon = daemon; name = name; value = value }
+
+-- of one entry the last is it, and there is none before
+pub last_alone : (before : List Entry) (last e : Entry) → e ∷ [] ≡ before ++ last ∷ [] → (before ≡ []) × (last ≡ e)
+last_alone [] last e is = let same : last ≡ e = cc in (refl, same)
+last_alone (one ∷ []) last e is = absurd cc
+last_alone (one ∷ two ∷ before) last e is = absurd cc

@@ -25,7 +25,7 @@ use Rattle.sdr_model.specs.declared.script.ScriptStep.{ScriptStep}
 use Rattle.sdr_daemon.proofs.ScriptLemmas.{entries_other, kept_also, script_also, script_later}
 use Rattle.sdr_daemon.proofs.StepLemmas.{refused_grows}
 use Rattle.sdr_daemon.specs.Progressing.{IsOnWay, IsScriptedRun, ProgressHolds, WasLookRefused, have_left, steps_ahead}
-use Rattle.sdr_daemon.specs.Scripts.{HasKeptSoFar, IsLookRefused, KeepsToScripts, DaemonKeepsToScript}
+use Rattle.sdr_daemon.specs.Scripts.{HasKeptSoFar, IsLookRefused, KeepsToScripts, DaemonKeepsToScript, MayHaveDrawn}
 use Rattle.sdr_daemon.specs.TakingTurns.{AddsAtMostOne, EndsTurn, IsBeforeTurn, MayTakeTurn, TakesTurn, TurnsAt, is_gone}
 use Rattle.sdr_daemon.specs.TurnEvents.{BeforeTurn, before_of}
 use Rattle.sdr_daemon.specs.Turns.{entries_by, steps_by}
@@ -109,6 +109,7 @@ module _ {T : Type 0} (g : Ghosts T) (b : RunStart) (script : List ScriptStep) (
         names = way.names;
         agrees = way.agrees;
         means = way.means;
+        may = subst (λ l. MayHaveDrawn y.drawn l (steps_by y.daemon script) (steps_ahead script y.daemon y.place)) (sym same) way.may;
       }
 
   -- so the progress of all holds, with the one that took the turn in its place

@@ -16,12 +16,13 @@ use Rattle.sdr_model.specs.declared.journal.What.TheVariants as whats
 use Rattle.sdr_model.specs.declared.script.ScriptStep.{ScriptStep}
 use Rattle.sdr_words.specs.Bindings.{bound, event_of}
 use Rattle.sdr_daemon.proofs.ComingLemmas.{begins}
+use Rattle.sdr_daemon.proofs.DrawnLemmas.{drawn_more, drawn_on, fewer_lines}
 use Rattle.sdr_daemon.proofs.InsideLemmas.{cuts, says_on}
 use Rattle.sdr_daemon.proofs.ScriptLemmas.{lines_more, names_more}
-use Rattle.sdr_daemon.proofs.StepLemmas.{IsStep, is_statement, is_step, step_states}
+use Rattle.sdr_daemon.proofs.StepLemmas.{IsStep, grown, is_statement, is_step, step_states}
 use Rattle.sdr_daemon.proofs.TurnLemmas.{IsFree, draws_one, ends_turn, id_is, is_free, on_way, there, ticket_of, turned}
-use Rattle.sdr_daemon.specs.Progressing.{IsOnWay, MeansToLeave, WasLookRefused, steps_ahead}
-use Rattle.sdr_daemon.specs.Scripts.{HasKeptSoFar, DaemonKeepsToScript}
+use Rattle.sdr_daemon.specs.Progressing.{IsOnWay, WasLookRefused, steps_ahead}
+use Rattle.sdr_daemon.specs.Scripts.{HasKeptSoFar, DaemonKeepsToScript, MayHaveDrawn, MeansToLeave}
 use Rattle.sdr_daemon.specs.TakingTurns.{AddsAtMostOne, EndsTurn, IsBeforeTurn}
 use Rattle.sdr_daemon.specs.TurnEvents.{BeforeTurn, IsOverWith, SaysOn, before_of}
 use Rattle.sdr_daemon.specs.Turns.{DaemonTurn, IsTurn, Phase, SayLines, after_turn, entries_by, names_after, opens_work, steps_by}
@@ -55,6 +56,9 @@ module _ {T : Type 0} (g : Ghosts T) (b : RunStart) (script : List ScriptStep) (
         opens = refl;
         daemon = same;
         drawn = drawn;
+        may =
+            drawn_on s.drawn s'.drawn (entries_by s.daemon old.log.journal) (steps_by s.daemon script) (steps_ahead script s.daemon s.place) (steps_ahead script s.daemon s'.place) t.way.may
+            (fewer_lines script s.daemon s.place s'.place step after is place s.drawn s'.drawn (omega (arith, drawn)));
         place = subst (λ p. p ≤ length script) (sym place) within;
       }
     where
@@ -100,6 +104,11 @@ module _ {T : Type 0} (g : Ghosts T) (b : RunStart) (script : List ScriptStep) (
       rest_is =
           ap (λ l. w.lines ++ l) (is ∙ ap (λ p. step ∷ steps_ahead script s.daemon p) (sym place)) ∙ sym (append_assoc w.lines (step ∷ []) (steps_ahead script s.daemon sb.place))
 
+      may_on : MayHaveDrawn sb.drawn (entries_by s.daemon old.log.journal) (steps_by s.daemon script) (steps_ahead script s.daemon sb.place)
+      may_on =
+          drawn_on sa.drawn sb.drawn (entries_by s.daemon old.log.journal) (steps_by s.daemon script) (steps_ahead script s.daemon sa.place) (steps_ahead script s.daemon sb.place) w.may
+          (fewer_lines script s.daemon sa.place sb.place step after is place sa.drawn sb.drawn (omega (arith, drawn)))
+
       -- the transaction goes on
       pub line_on : closed_by a.answer ≡ None → IsInWork g b script o new s sb
       line_on unclosed = by goes
@@ -120,6 +129,7 @@ module _ {T : Type 0} (g : Ghosts T) (b : RunStart) (script : List ScriptStep) (
             opens = opens_more w.said (said_by_it ∷ []) w.opens;
             daemon = same ∙ w.daemon;
             drawn = drawn ∙ w.drawn;
+            may = may_on;
             place = subst (λ p. p ≤ length script) (sym place) within;
           }
 
@@ -144,7 +154,9 @@ module _ {T : Type 0} (g : Ghosts T) (b : RunStart) (script : List ScriptStep) (
               (same ∙ w.daemon) (omega (arith, d)) (omega (arith, d, low)) (omega (arith, d, few)) (subst (λ p. p ≤ length script) (sym place) within)
               (subst (λ c. MatchBool c (DaemonKeepsToScript (WasLookRefused b new.lock.roll.drawn new.log.journal) new.log.journal (steps_by sb.daemon script) (entries_by sb.daemon new.log.journal))
               (IsOnWay b script new.lock.roll new.log.journal (when_done x) sb)) (sym t.stays)
-              (on_way g b script x old s t new (when_done x) sb w.at turn (omega (arith, d, room)) (same ∙ w.daemon) refl (subst (λ n. old.lock.roll.drawn + 1 ≤ n) (sym h.over.drawn_is) (omega arith)) kept (by_leaving leaving)))
+              (on_way g b script x old s t new (when_done x) sb w.at turn (omega (arith, d, room)) (same ∙ w.daemon) refl (subst (λ n. old.lock.roll.drawn + 1 ≤ n) (sym h.over.drawn_is) (omega arith)) kept (by_leaving leaving)
+              (drawn_more sb.drawn sb.drawn (entries_by s.daemon old.log.journal) (h.entry ∷ []) (entries_by s.daemon new.log.journal) (steps_by s.daemon script) (steps_ahead script s.daemon sb.place) (steps_ahead script s.daemon sb.place) may_on
+              (grown o (h.entry ∷ []) new.log.journal s.daemon (id_is g b script x old s t) next h.over.journal_is) (omega arith))))
             where
               by_leaving : (sb.leaving ≡ None) ⊎ (sb.leaving ≡ Some leaves.Memory)
                   → ((sb.leaving ≡ None) × (sb.names ≡ names_after w.at.names (w.lines ++ step ∷ []) (w.said ++ said_by_it ∷ []))) ⊎ (sb.leaving ≡ Some leaves.Memory)
@@ -183,4 +195,8 @@ module _ {T : Type 0} (g : Ghosts T) (b : RunStart) (script : List ScriptStep) (
           names = λ none. absurd cc;
           agrees = refl;
           means = subst (λ id. MeansToLeave (steps_ahead script id sa.place) (Some leave)) (sym w.daemon) means;
+          may =
+              subst (λ id. MayHaveDrawn sa.drawn (entries_by id new.log.journal) (steps_by id script) (steps_ahead script id sa.place)) (sym w.daemon)
+              (drawn_more sa.drawn sa.drawn (entries_by s.daemon old.log.journal) (h.entry ∷ []) (entries_by s.daemon new.log.journal) (steps_by s.daemon script) (steps_ahead script s.daemon sa.place) (steps_ahead script s.daemon sa.place) w.may
+              (grown o (h.entry ∷ []) new.log.journal s.daemon (id_is g b script x old s t) next h.over.journal_is) (omega arith));
         })))

@@ -94,13 +94,14 @@ or_left true b is = refl
 or_left false b is = absurd cc
 
 -- a leave stays caused as the journal grows
-pub leave_later : (journal : List Entry) (e : Entry) (number : ℕ) (rest : List ScriptStep) (leave : Leave) → HasLeaveCause journal number rest leave → HasLeaveCause (journal ++ e ∷ []) number rest leave
-leave_later journal e number rest leaves.Done may = may
-leave_later journal e number rest leaves.Fault may =
+pub leave_later : (journal : List Entry) (e : Entry) (own : List Entry) (steps : List ScriptStep) (number : ℕ) (rest : List ScriptStep) (leave : Leave) → HasLeaveCause journal own steps number rest leave
+    → HasLeaveCause (journal ++ e ∷ []) own steps number rest leave
+leave_later journal e own steps number rest leaves.Done may = may
+leave_later journal e own steps number rest leaves.Fault may =
     list_any-append (λ (x : Entry). is_fault x.what && nat_lt x.number number) journal (e ∷ [])
     ∙ or_left (list_any (λ (x : Entry). is_fault x.what && nat_lt x.number number) journal) (list_any (λ (x : Entry). is_fault x.what && nat_lt x.number number) (e ∷ [])) may
-leave_later journal e number rest leaves.Memory may = tt
-leave_later journal e number rest leaves.Spent may = may
+leave_later journal e own steps number rest leaves.Memory may = tt
+leave_later journal e own steps number rest leaves.Spent may = may
 
 -- a script that was kept to stays so
 pub script_later : (R R' : ℕ → ℕ → Type 0) → ((n ticket : ℕ) → R n ticket → R' n ticket) → (journal : List Entry) (e : Entry) (steps : List ScriptStep) (entries : List Entry)
@@ -114,9 +115,10 @@ script_later R R' more journal e steps entries keeps = record {
   all = keeps.all;
   leave = keeps.leave;
   leaves = keeps.leaves;
+  means = keeps.means;
   due = keeps.due;
   higher = keeps.higher;
-  cause = leave_later journal e keeps.last.number keeps.rest keeps.leave keeps.cause;
+  cause = leave_later journal e keeps.before steps keeps.last.number keeps.rest keeps.leave keeps.cause;
 }
 
 -- a script is kept to where more is refused
@@ -131,6 +133,7 @@ script_also R R' more journal steps entries keeps = record {
   all = keeps.all;
   leave = keeps.leave;
   leaves = keeps.leaves;
+  means = keeps.means;
   due = keeps.due;
   higher = keeps.higher;
   cause = keeps.cause;

@@ -228,6 +228,7 @@ module _ (R : ℕ → ℕ → Type 0) where
     all = refl;
     leave = leaves.Done;
     leaves = refl;
+    means = tt;
     due = tt;
     higher = omega arith;
     cause = refl;
@@ -292,6 +293,7 @@ module _ (R : ℕ → ℕ → Type 0) where
     all = refl;
     leave = leaves.Done;
     leaves = refl;
+    means = tt;
     due = tt;
     higher = omega arith;
     cause = refl;

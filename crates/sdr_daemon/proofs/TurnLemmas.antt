@@ -1,5 +1,5 @@
 -- The progress of a daemon holds behind a leave, a line that is passed over, and want of memory.
-use Rattle.std.proofs.Common.{◌≡◌, ◌∙◌, ◌<◌, ◌≤◌, ◌⊎◌, ◌+◌, ◌^◌, ◌&&◌, ℕ, List, [], ◌∷◌, ◌++◌, MatchBool, Bool, true, false, true≢false, not, Option, None, Some, inl, inr, arith, refl, sym, ap, subst, append-nil}
+use Rattle.std.proofs.Common.{◌≡◌, ◌∙◌, ◌<◌, ◌≤◌, ◌⊎◌, ◌+◌, ◌-◌, ◌^◌, ◌&&◌, ℕ, List, [], ◌∷◌, ◌++◌, MatchBool, Bool, true, false, true≢false, not, Option, None, Some, inl, inr, arith, refl, sym, ap, subst, append-nil}
 use Rattle.std.specs.List.{list_any}
 use Rattle.std.specs.Prelude.{All, nat_lt, length}
 use Rattle.sdr_machine.proofs.RollLemmas.{among, found_number, found_put, same_number}
@@ -21,11 +21,12 @@ use Rattle.sdr_model.specs.declared.journal.Said.{Said}
 use Rattle.sdr_model.specs.declared.script.ScriptStep.{ScriptStep}
 use Rattle.sdr_words.specs.Bindings.{bound, event_of}
 use Rattle.sdr_daemon.proofs.ComingLemmas.{leaves}
+use Rattle.sdr_daemon.proofs.DrawnLemmas.{drawn_on, fewer_lines}
 use Rattle.sdr_daemon.proofs.EventLemmas.{found_none}
 use Rattle.sdr_daemon.proofs.ScriptLemmas.{kept_also, kept_more}
 use Rattle.sdr_daemon.proofs.StepLemmas.{any_more, grown, is_step, put_same, refused_grows, unsound_below}
-use Rattle.sdr_daemon.specs.Progressing.{IsOnWay, MeansToLeave, PhaseAgrees, WasLookRefused, steps_ahead}
-use Rattle.sdr_daemon.specs.Scripts.{HasKeptSoFar, HasLeaveCause, DaemonKeepsToScript, IsLeaveDue, LooksNext, leave_due}
+use Rattle.sdr_daemon.specs.Progressing.{IsOnWay, PhaseAgrees, WasLookRefused, steps_ahead}
+use Rattle.sdr_daemon.specs.Scripts.{HasKeptSoFar, HasLeaveCause, DaemonKeepsToScript, IsLeaveDue, LooksNext, MayHaveDrawn, MeansToLeave, leave_due}
 use Rattle.sdr_daemon.specs.TakingTurns.{AddsAtMostOne, BringsOn, DoesLine, EndsTurn, IsBeforeTurn, MayDepart}
 use Rattle.sdr_daemon.specs.TurnEvents.{BeforeTurn, IsOver, before_of}
 use Rattle.sdr_daemon.specs.Turns.{DaemonTurn, IsTurn, Phase, Reached, SayLines, after_turn, entries_by, is_refused_outside, names_after, steps_by}
@@ -135,18 +136,25 @@ module _ {T : Type 0} (g : Ghosts T) (b : RunStart) (script : List ScriptStep) (
         all = own;
         leave = leave;
         leaves = h.next.what_is;
+        means = means_by t.way.at.phase t.way.agrees;
         due = due_by t.way.at.phase t.way.agrees;
         higher = subst (λ n. t.way.at.number < n) (sym h.next.number) below_next;
         cause = cause st.drawn h.entry h.next.number h.over.journal_is leave may;
       }))
     where
+      means_by : (p : Phase) → PhaseAgrees p x s.leaving → MeansToLeave (steps_ahead script s.daemon s.place) (leave_due p)
+      means_by Phase.ready agrees = tt
+      means_by (Phase.waiting ticket) agrees = tt
+      means_by (Phase.leaving meant) agrees = subst (MeansToLeave (steps_ahead script s.daemon s.place)) agrees t.way.means
+
       due_by : (p : Phase) → PhaseAgrees p x s.leaving → IsLeaveDue (leave_due p) leave
       due_by Phase.ready agrees = tt
       due_by (Phase.waiting ticket) agrees = tt
       due_by (Phase.leaving meant) agrees = subst (λ o. IsLeaveDue o leave) agrees due
 
       cause : All (λ (e : Entry). e.number ≤ old.lock.roll.drawn) old.log.journal → (e : Entry) → e.number ≡ old.lock.roll.drawn + 1 → new.log.journal ≡ old.log.journal ++ e ∷ []
-          → (leave : Leave) → MayDepart old.lock.roll script s leave → HasLeaveCause new.log.journal e.number (steps_ahead script s.daemon s.place) leave
+          → (leave : Leave) → MayDepart old.lock.roll script s leave
+          → HasLeaveCause new.log.journal (entries_by s.daemon old.log.journal) (steps_by s.daemon script) e.number (steps_ahead script s.daemon s.place) leave
       cause all e number grows leaves.Done may = may
       cause all e number grows leaves.Fault may =
           let P : Entry → Bool = λ (z : Entry). is_fault z.what && nat_lt z.number e.number in
@@ -156,7 +164,12 @@ module _ {T : Type 0} (g : Ghosts T) (b : RunStart) (script : List ScriptStep) (
           broken true sound = absurd (true≢false (sym (sym t.failed ∙ may) ∙ ap not sound))
           broken false sound = sound
       cause all e number grows leaves.Memory may = tt
-      cause all e number grows leaves.Spent may = let drawn = t.drawn in subst (λ n. 2 ^ 40 ≤ n) (sym number) (omega (arith, drawn, may))
+      cause all e number grows leaves.Spent may =
+          let drawn = t.drawn in
+          let ahead = steps_ahead script s.daemon s.place in (
+            subst (λ n. 2 ^ 40 ≤ n) (sym number) (omega (arith, drawn, may)),
+            drawn_on s.drawn (2 ^ 40 - 1) (entries_by s.daemon old.log.journal) (steps_by s.daemon script) ahead ahead t.way.may (omega (arith, may)),
+          )
 
   pub is_free : s.leaving ≡ None → (step : ScriptStep) (rest : List ScriptStep) → steps_ahead script s.daemon s.place ≡ step ∷ rest → IsFree x t.way.at.phase (ticket_of (event_of s.names step))
   is_free none step rest is = by t.way.at.phase refl (subst (LooksNext t.way.at.phase t.way.at.names) is t.way.kept.next) t.way.agrees
@@ -174,8 +187,8 @@ module _ {T : Type 0} (g : Ghosts T) (b : RunStart) (script : List ScriptStep) (
   pub on_way : (new : LoggedLock T) (after : Daemon) (s' : ScriptPlace) (at : Reached) (turn : DaemonTurn) → s'.drawn < 2 ^ 40 → s'.daemon ≡ s.daemon → turn.phase ≡ Phase.ready → turn.number ≤ new.lock.roll.drawn
       → HasKeptSoFar (WasLookRefused b new.lock.roll.drawn new.log.journal) (steps_by s.daemon script) (steps_ahead script s.daemon s'.place) (entries_by s.daemon new.log.journal) (after_turn at turn)
       → ((s'.leaving ≡ None) × (s'.names ≡ names_after at.names turn.lines turn.said)) ⊎ (s'.leaving ≡ Some leaves.Memory)
-      → IsOnWay b script new.lock.roll new.log.journal after s'
-  on_way new after s' at turn few same ready below kept names = record {
+      → MayHaveDrawn s'.drawn (entries_by s.daemon new.log.journal) (steps_by s.daemon script) (steps_ahead script s.daemon s'.place) → IsOnWay b script new.lock.roll new.log.journal after s'
+  on_way new after s' at turn few same ready below kept names may = record {
     at = after_turn at turn;
     kept = subst (λ id. HasKeptSoFar (WasLookRefused b new.lock.roll.drawn new.log.journal) (steps_by id script) (steps_ahead script id s'.place) (entries_by id new.log.journal) (after_turn at turn)) (sym same) kept;
     below = below;
@@ -183,6 +196,7 @@ module _ {T : Type 0} (g : Ghosts T) (b : RunStart) (script : List ScriptStep) (
     names = λ none. by_names none names;
     agrees = subst (λ p. PhaseAgrees p after s'.leaving) (sym ready) tt;
     means = by_means names;
+    may = subst (λ id. MayHaveDrawn s'.drawn (entries_by id new.log.journal) (steps_by id script) (steps_ahead script id s'.place)) (sym same) may;
   }
     where
       by_names : s'.leaving ≡ None → ((s'.leaving ≡ None) × (s'.names ≡ names_after at.names turn.lines turn.said)) ⊎ (s'.leaving ≡ Some leaves.Memory)
@@ -246,7 +260,9 @@ module _ {T : Type 0} (g : Ghosts T) (b : RunStart) (script : List ScriptStep) (
           (subst (λ p. p ≤ length script) (sym moves.place) within)
           (subst (λ c. MatchBool c (DaemonKeepsToScript (WasLookRefused b old.lock.roll.drawn old.log.journal) old.log.journal (steps_by s'.daemon script) (entries_by s'.daemon old.log.journal))
           (IsOnWay b script old.lock.roll old.log.journal x s')) (sym t.stays)
-          (on_way old x s' t.way.at turn (let d = moves.drawn in omega (arith, d, few)) moves.daemon refl t.way.below kept names))
+          (on_way old x s' t.way.at turn (let d = moves.drawn in omega (arith, d, few)) moves.daemon refl t.way.below kept names
+          (drawn_on s.drawn s'.drawn (entries_by s.daemon old.log.journal) (steps_by s.daemon script) (steps_ahead script s.daemon s.place) (steps_ahead script s.daemon s'.place) t.way.may
+          (fewer_lines script s.daemon s.place s'.place step after is moves.place s.drawn s'.drawn (let d = moves.drawn in omega (arith, d))))))
 
   -- it finds no memory, and means to leave
   pub starves : s.leaving ≡ None → EndsTurn b script o old s (record s { leaving = Some leaves.Memory })
@@ -262,7 +278,7 @@ module _ {T : Type 0} (g : Ghosts T) (b : RunStart) (script : List ScriptStep) (
       }) (AddsAtMostOne.none refl) (omega arith) (omega arith) (BringsOn.starves none refl) refl (omega arith) t.drawn (omega (arith, few)) t.within
       (subst (λ c. MatchBool c (DaemonKeepsToScript (WasLookRefused b old.lock.roll.drawn old.log.journal) old.log.journal (steps_by s.daemon script) (entries_by s.daemon old.log.journal))
       (IsOnWay b script old.lock.roll old.log.journal x (record s { leaving = Some leaves.Memory }))) (sym t.stays)
-      (record { at = t.way.at; kept = t.way.kept; below = t.way.below; few = few; names = λ none. absurd cc; agrees = agrees t.way.at.phase t.way.agrees; means = tt }))
+      (record { at = t.way.at; kept = t.way.kept; below = t.way.below; few = few; names = λ none. absurd cc; agrees = agrees t.way.at.phase t.way.agrees; means = tt; may = t.way.may }))
     where
       agrees : (p : Phase) → PhaseAgrees p x s.leaving → PhaseAgrees p x (Some leaves.Memory)
       agrees Phase.ready was = tt

@@ -17,7 +17,8 @@ use Rattle.sdr_model.specs.declared.script.ScriptStep.{ScriptStep}
 use Rattle.sdr_words.specs.Bindings.{bound, event_of}
 use Rattle.sdr_daemon.proofs.SayLemmas.{begun, begun_open, cut_off, line_off, line_on}
 use Rattle.sdr_daemon.proofs.TurnLemmas.{starves}
-use Rattle.sdr_daemon.specs.Progressing.{MeansToLeave, steps_ahead}
+use Rattle.sdr_daemon.specs.Progressing.{steps_ahead}
+use Rattle.sdr_daemon.specs.Scripts.{MeansToLeave}
 use Rattle.sdr_daemon.specs.TakingTurns.{DoesLine, EndsTurn, GoesBy, IsBeforeTurn, MaySayNext, MayTakeTurn, SaysLine, TakesTurn}
 use Rattle.sdr_daemon.specs.TurnEvents.{before_of}
 use Rattle.sdr_daemon.specs.Working.{BeginComesTo, ComesToWork, LineComesTo}

@@ -8,12 +8,11 @@ use Rattle.sdr_machine.specs.Holders.{hold_none}
 use Rattle.sdr_machine.specs.Roll.{Roll, daemon_of, first_roll}
 use Rattle.sdr_machine.specs.declared.daemon.Daemon.{Daemon}
 use Rattle.sdr_machine.specs.declared.has_ground.HasGround.{Ghosts}
-use Rattle.sdr_model.specs.declared.event.Leave.TheVariants as leaves
 use Rattle.sdr_model.specs.declared.event.Leave.{Leave}
 use Rattle.sdr_model.specs.declared.journal.Entry.{Entry}
 use Rattle.sdr_model.specs.declared.script.ScriptStep.{ScriptStep}
 use Rattle.sdr_words.specs.Daemons.{daemons_of}
-use Rattle.sdr_daemon.specs.Scripts.{HasKeptSoFar, IsLookRefused, DaemonKeepsToScript}
+use Rattle.sdr_daemon.specs.Scripts.{HasKeptSoFar, IsLookRefused, DaemonKeepsToScript, MayHaveDrawn, MeansToLeave}
 use Rattle.sdr_daemon.specs.Turns.{Phase, Reached, entries_by, steps_by}
 use Rattle.sdr_daemon.specs.declared.script_place.ScriptPlace.{ScriptPlace}
 
@@ -33,13 +32,6 @@ PhaseAgrees Phase.ready d leaving = ⊤
 PhaseAgrees (Phase.waiting ticket) d leaving = d.waits ≡ Some ticket
 PhaseAgrees (Phase.leaving leave) d leaving = leaving ≡ Some leave
 
--- if a daemon means to leave, then for want of memory, or behind its last line
-abbrev pub MeansToLeave : List ScriptStep → Option Leave → Type 0
-MeansToLeave rest None = ⊤
-MeansToLeave rest (Some leaves.Memory) = ⊤
-MeansToLeave rest (Some leaves.Done) = rest ≡ []
-MeansToLeave rest (Some leave) = ⊥
-
 -- A daemon is on its way: the lines before its place gave its entries.
 pub record IsOnWay (b : RunStart) (script : List ScriptStep) (r : Roll) (journal : List Entry) (d : Daemon) (s : ScriptPlace) : Type 0 where
   pub at : Reached
@@ -49,6 +41,7 @@ pub record IsOnWay (b : RunStart) (script : List ScriptStep) (r : Roll) (journal
   pub names : s.leaving ≡ None → s.names ≡ at.names
   pub agrees : PhaseAgrees at.phase d s.leaving
   pub means : MeansToLeave (steps_ahead script s.daemon s.place) s.leaving
+  pub may : MayHaveDrawn s.drawn (entries_by s.daemon journal) (steps_by s.daemon script) (steps_ahead script s.daemon s.place)
 
 -- The progress of a daemon holds of a roll and a journal: the daemon has left, and its entries keep to its script; or it is on its way.
 pub record ProgressHolds (b : RunStart) (script : List ScriptStep) (r : Roll) (journal : List Entry) (s : ScriptPlace) : Type 0 where

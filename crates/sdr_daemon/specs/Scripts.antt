@@ -1,6 +1,7 @@
 -- When a journal keeps to the scripts: each daemon's entries are its lines in order.
-use Rattle.std.specs.Prelude.{◌≡◌, ◌<◌, ◌≤◌, ◌⊎◌, ◌^◌, ◌&&◌, ℕ, List, [], ◌∷◌, ◌++◌, ◌==◌, All, Bool, true, false, not, filter, flat_map, nat_lt, Option, None, Some, ⊤}
+use Rattle.std.specs.Prelude.{◌≡◌, ◌<◌, ◌≤◌, ◌⊎◌, ◌+◌, ◌-◌, ◌^◌, ◌&&◌, ℕ, List, [], ◌∷◌, ◌++◌, ◌==◌, All, Bool, true, false, not, filter, flat_map, is_some, length, nat_lt, Option, None, Some, ⊤}
 use Rattle.std.specs.List.{AllByRecursion, list_all, list_any}
+use Rattle.law_runs.specs.LastEntries.{waited_ticket}
 use Rattle.sdr_base.specs.Media.{Told}
 use Rattle.sdr_machine.specs.Ground.{State}
 use Rattle.sdr_machine.specs.Legal.{Lead, is_fault}
@@ -31,25 +32,42 @@ pub record HasKeptSoFar (R : ℕ → ℕ → Type 0) (steps rest : List ScriptSt
   pub entries_are : entries ≡ flat_map (λ (t : DaemonTurn). t.entries) turns
   pub next : LooksNext at.phase at.names rest
 
--- A leave has its cause: it is done behind the last line, for a fault behind an entry in which the disk failed, for memory at any
--- time, and spent with a number of 2 ^ 40 or more.
-abbrev pub HasLeaveCause : List Entry → ℕ → List ScriptStep → Leave → Type 0
-HasLeaveCause journal number rest leaves.Done = rest ≡ []
-HasLeaveCause journal number rest leaves.Fault = list_any (λ (e : Entry). is_fault e.what && nat_lt e.number number) journal ≡ true
-HasLeaveCause journal number rest leaves.Memory = ⊤
-HasLeaveCause journal number rest leaves.Spent = 2 ^ 40 ≤ number
+-- whether the entry is a wait for a ticket
+abbrev pub is_wait : Entry → Bool
+is_wait e = is_some (waited_ticket e.what)
+
+-- A daemon with these entries, and with the last of its lines still ahead, may have drawn so many numbers: it has waited for a ticket, and so
+-- may have looked at it any number of times, or it has done as many lines.
+abbrev pub MayHaveDrawn : ℕ → List Entry → List ScriptStep → List ScriptStep → Type 0
+MayHaveDrawn drawn entries steps rest = (list_any is_wait entries ≡ true) ⊎ (drawn + length rest ≤ length steps)
+
+-- A leave of a daemon, behind these entries of its own, has its cause: it is done behind the last line, for a fault behind an entry in which
+-- the disk failed, for memory at any time, and spent with a number of 2 ^ 40 or more, where the daemon may have drawn 2 ^ 40 - 1 others.
+abbrev pub HasLeaveCause : List Entry → List Entry → List ScriptStep → ℕ → List ScriptStep → Leave → Type 0
+HasLeaveCause journal own steps number rest leaves.Done = rest ≡ []
+HasLeaveCause journal own steps number rest leaves.Fault = list_any (λ (e : Entry). is_fault e.what && nat_lt e.number number) journal ≡ true
+HasLeaveCause journal own steps number rest leaves.Memory = ⊤
+HasLeaveCause journal own steps number rest leaves.Spent = (2 ^ 40 ≤ number) × MayHaveDrawn (2 ^ 40 - 1) own steps rest
 
 -- the leave that a daemon is to make, where one has closed its transaction
 abbrev pub leave_due : Phase → Option Leave
 leave_due (Phase.leaving leave) = Some leave
 leave_due phase = None
 
+-- if a daemon means to leave, then for want of memory, or behind its last line
+abbrev pub MeansToLeave : List ScriptStep → Option Leave → Type 0
+MeansToLeave rest None = ⊤
+MeansToLeave rest (Some leaves.Memory) = ⊤
+MeansToLeave rest (Some leaves.Done) = rest ≡ []
+MeansToLeave rest (Some leave) = ⊥
+
 -- a daemon that is to make a leave makes that one, or leaves for a fault
 abbrev pub IsLeaveDue : Option Leave → Leave → Type 0
 IsLeaveDue None leave = ⊤
 IsLeaveDue (Some due) leave = (leave ≡ due) ⊎ (leave ≡ leaves.Fault)
 
--- A daemon's entries are those of its lines in order, of all of them unless it left early, and a leave.
+-- A daemon's entries are those of its lines in order, of all of them unless it left early, and a leave. Where a leave closed
+-- its transaction, that came for want of memory, or behind its last line.
 pub record DaemonKeepsToScript (R : ℕ → ℕ → Type 0) (journal : List Entry) (steps : List ScriptStep) (entries : List Entry) : Type 0 where
   pub rest : List ScriptStep
   pub before : List Entry
@@ -59,9 +77,10 @@ pub record DaemonKeepsToScript (R : ℕ → ℕ → Type 0) (journal : List Entr
   pub all : entries ≡ before ++ last ∷ []
   pub leave : Leave
   pub leaves : last.what ≡ whats.Leaves leave
+  pub means : MeansToLeave rest (leave_due at.phase)
   pub due : IsLeaveDue (leave_due at.phase) leave
   pub higher : at.number < last.number
-  pub cause : HasLeaveCause journal last.number rest leave
+  pub cause : HasLeaveCause journal before steps last.number rest leave
 
 -- A look at the ticket was refused under the number: no entry has this number, and the ticket isn't there after the entries with lower
 -- ones.

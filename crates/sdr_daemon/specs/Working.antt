@@ -8,7 +8,7 @@ use Rattle.sdr_machine.specs.declared.has_ground.HasGround.{Ghosts}
 use Rattle.sdr_model.specs.declared.journal.Said.{Said}
 use Rattle.sdr_model.specs.declared.script.ScriptStep.{ScriptStep}
 use Rattle.sdr_daemon.specs.Progressing.{WasLookRefused, steps_ahead}
-use Rattle.sdr_daemon.specs.Scripts.{HasKeptSoFar}
+use Rattle.sdr_daemon.specs.Scripts.{HasKeptSoFar, MayHaveDrawn}
 use Rattle.sdr_daemon.specs.TakingTurns.{IsBeforeTurn, TakesTurn}
 use Rattle.sdr_daemon.specs.TurnEvents.{BeforeTurn, HasSaid, before_of}
 use Rattle.sdr_daemon.specs.Turns.{Phase, Reached, SayLines, entries_by, names_after, opens_work, steps_by}
@@ -29,6 +29,7 @@ pub record IsInWork {T : Type 0} (g : Ghosts T) (b : RunStart) (script : List Sc
   pub opens : opens_work said ≡ true
   pub daemon : s.daemon ≡ first.daemon
   pub drawn : s.drawn ≡ first.drawn + 1
+  pub may : MayHaveDrawn s.drawn (entries_by first.daemon o.journal) (steps_by first.daemon script) (steps_ahead script first.daemon s.place)
   pub place : s.place ≤ length script
 
 -- whatever the daemon was before, it is in work now

@@ -7,7 +7,8 @@ use sdr_machine::Roll;
 use sdr_model::ScriptStep;
 use sdr_words::begins_or_looks;
 
-/// What a daemon does in its next turn.
+/// What a daemon does in its next turn, unless memory is wanting there for its line: then it does nothing in that turn, and leaves in the
+/// one after.
 #[derive(Clone, Copy, Debug, PartialEq, Eq)]
 pub enum Coming {
     /// Nothing: it has left, or there is none.
@@ -18,7 +19,7 @@ pub enum Coming {
     Comes { daemon: u8, line: u64 },
 }
 
-/// What a daemon that hasn't left does in its next turn. It takes no memory.
+/// What a daemon that hasn't left does in its next turn, if memory isn't wanting there. The call takes no memory.
 pub fn coming_of(roll: &Roll, progress: &ScriptPlace, script: &[ScriptStep]) -> Coming
     requires within { progress.now.place ≤ length script.now }
     ensures { result ≡ coming_of roll.now script.now progress.now }

@@ -12,18 +12,20 @@
 //!
 //! Proved: the type of `ScriptedRun` keeps that each daemon's entries are those of its lines that are done (`IsScriptedRun`), in
 //! whatever order daemons take turns. A turn says what it adds to the journal, and that all other daemons stay as they were (`turns`),
-//! whatever comes in it: a disk fault, no memory for a line or for what its name holds, a refused look, the last lock number. Each turn
-//! draws a number, or brings the daemon further in the script, or makes it mean to leave (`BringsOn`); that all leave after some turns
-//! isn't said. What a daemon does next is told before its turn (`coming_at`). Once all have left, the journal keeps to the scripts of
-//! the daemons that the script names (`keeps`), and no other daemon has an entry. `run_all` gives such a journal, legal and with what a
-//! crash leaves (`run`), and tells from it whether the disk failed and whether a daemon left for want of memory (`failed`, `starved`).
-//! It takes no memory but what the core's events and the scripts' names take.
+//! whatever comes in it: a disk fault, no memory for a line or for what its name holds, a refused look, the last lock number. Each
+//! turn draws a number, or brings the daemon further in the script, or makes it mean to leave (`BringsOn`); that all leave after some
+//! turns isn't said. `coming` tells what a daemon does next by the core, the progress and the script (`coming_at`). Once all have
+//! left, the journal keeps to the scripts of the daemons that the script names (`keeps`), and no other daemon has an entry. `run_all`
+//! gives such a journal, legal and with what a crash leaves (`run`), and tells from it whether the disk failed and whether a daemon
+//! left for want of memory (`failed`, `starved`). It takes no memory but what the core's events and the scripts' names take.
 //!
 //! Small journals are computed to keep to scripts (`proofs/BundleRow.antt`, `AwardedRow`, `StalledRow`, `EmptyRow`). Others are shown not
 //! to: a daemon without a line that has an entry beside its leave (`InventedRow`), a daemon that begins and leaves as done with no other
-//! entry (`DroppedRow`), a first transaction of other lines (`ExchangedRow`). Whether these journals are legal isn't said there.
+//! entry (`DroppedRow`), a first transaction of other lines (`ExchangedRow`), a daemon of few lines that leaves as spent with no other
+//! entry (`SpentRow`). Whether these journals are legal isn't said there.
 //!
-//! Not said: that a thread runs, that each daemon comes to its turn, that `run_all` returns, and when the gate is called.
+//! Not said: that a thread runs, that each daemon comes to its turn, that `run_all` returns, and when the gate is called. No clause joins
+//! `coming` to `turn` or to the gate: none says that a turn does what `coming` told before it, or that the gate is called with that.
 #![tactic(auto)]
 
 mod coming;

@@ -22,7 +22,9 @@ use std::thread::{Threads, yield_now};
 /// What a run of daemons has come to.
 #[derive(Drop)]
 pub struct RanDaemons<T> {
+    /// The entries of all daemons, their leaves among them.
     pub journal: Journal,
+    /// The ground on which the core ran.
     pub base: T,
     /// Whether the disk failed in an entry.
     pub failed: bool,
@@ -75,7 +77,7 @@ fn take_turns<R: Wait, T: Tells, J: Origin, S: Scripted, G: Gate>(
         if !take_turn(rt, run, gate, place) {
             return;
         }
-        // A look that waits is made again at once, so others get the lock first.
+        // A look that waits is made again at once. Before that this yields, to let others have the lock.
         yield_now();
     }
 }

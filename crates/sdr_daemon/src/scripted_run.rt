@@ -86,7 +86,8 @@ impl<T: Tells, J: Origin, S: Scripted> ScriptedRun<T, J, S> {
         self.progress.len()
     }
 
-    // Whether no daemon at a place takes turns: there is none, or it has left. What the core's roll tells comes with the answer.
+    // Whether no daemon at a place takes turns: there is none, or it has left. The clauses from `run` on aren't about the answer:
+    // they hand on what `Core::roll` ensures, which `turn` needs.
     fn is_gone(&self, place: usize) -> bool
         ensures gone { result ≡ is_gone place self.now }
         ensures run { KeepsRun T.HasGround J.begins self.now.core }
@@ -101,7 +102,7 @@ impl<T: Tells, J: Origin, S: Scripted> ScriptedRun<T, J, S> {
         }
     }
 
-    /// What the daemon at a place does in its next turn. It takes no memory.
+    /// What the daemon at a place does in its next turn, if memory isn't wanting there. The call takes no memory.
     pub fn coming(&self, place: usize) -> Coming
         ensures { result ≡ coming_at S.script place self.now }
     {
