@@ -26,6 +26,9 @@
 //!
 //! Not said: that a thread runs, that each daemon comes to its turn, that `run_all` returns, and when the gate is called. No clause joins
 //! `coming` to `turn` or to the gate: none says that a turn does what `coming` told before it, or that the gate is called with that.
+//!
+//! Only tested: that daemons run side by side, with the gate called while no lock is held, and that all leave a disk that fails at any
+//! call (`test_daemons`).
 #![tactic(auto)]
 
 mod coming;
