@@ -51,5 +51,8 @@ pub fn status_of<R: Threads + Wait + Sync, G: Gate + Sync>(
 
 /// Whether a text has this part.
 pub fn has(text: &[u8], part: &[u8]) -> bool {
+    if part.is_empty() {
+        return true;
+    }
     text.windows(part.len()).any(|window| window == part)
 }
