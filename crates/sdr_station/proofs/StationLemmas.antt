@@ -1,5 +1,5 @@
 -- What a station does with its ground.
-use Rattle.std.proofs.Common.{◌≡◌, ◌∙◌, ◌&&◌, nat_le, is_none, Bool, true, false, true≢false, not, if◌then◌else◌, Option, None, Some, refl, sym, ap, subst}
+use Rattle.std.proofs.Common.{◌≡◌, ◌≢◌, ◌∙◌, ◌&&◌, nat_le, is_none, Bool, true, false, true≢false, not, if◌then◌else◌, Option, None, Some, refl, sym, ap, subst}
 use Rattle.std.specs.Option.{option_map_or}
 use Rattle.sdr_machine.specs.Closing.{close_of}
 use Rattle.sdr_machine.specs.Crash.{LeavesBefore, LeavesOr, is_kept, commits_in}
@@ -19,6 +19,11 @@ use Rattle.sdr_model.specs.declared.answer.Reply.TheVariants as replies
 use Rattle.sdr_model.specs.declared.call.Call.{Call}
 use Rattle.sdr_model.specs.declared.event.Event.TheVariants as events
 use Rattle.step_things.specs.Answering.{dooms}
+
+-- no close but an end is kept
+pub only_ended_is_kept : (close : Close) → close ≢ closes.Ended → is_kept close ≡ false
+only_ended_is_kept closes.Ended other = absurd (other refl)
+only_ended_is_kept close other = refl
 
 -- what isn't kept is put back
 pub settles_back : {T : Type 0} {stands : T → GroundState → Type 0} {old new : T} (close : Close) → is_kept close

@@ -36,6 +36,17 @@ pub enum Closed {
     Exited,
 }
 
+// How an outermost close is told.
+fn closed_as(close: Close) -> Closed
+    ensures { result ≡ closed_as close }
+{
+    match close {
+        Close::Ended => Closed::Ended,
+        Close::Exited | Close::Faulted => Closed::Exited,
+        Close::Cancelled(reason) => Closed::Cancelled(reason),
+    }
+}
+
 /// A transaction on the world that a disk keeps, nested to a depth of 64. An end is all or nothing. After
 /// a disk fault each call answers `Failed`. A close costs what the transaction touched: some steps for
 /// each line that it changed and each block that it took or staged, and neither a copy of the heap nor a
@@ -281,16 +292,15 @@ impl<D: Disk, M: Media, F: Notify + Drop> Station<D, M, F> {
     }
 
     // Rolls the transaction back, which closes so.
-    fn roll_back(&mut self, told: Closed, close: Close) -> Result<Closed, Stop>
+    fn roll_back(&mut self, close: Close) -> Result<Closed, Stop>
         requires sound { self.old.failed ≡ None }
-        requires told { told ≡ closed_as close }
         requires unkept { is_kept close ≡ false }
         ensures { Closes ⟦<HeapGround<D, M, F> as HasGround>⟧ close self.old self.new result }
     {
         match self.ground.restore() {
             Ok(()) => {
                 self.nesting = Nesting::none();
-                Ok(told)
+                Ok(closed_as(close))
             }
             Err(Fault) => {
                 self.nesting = Nesting::none();
@@ -308,11 +318,7 @@ impl<D: Disk, M: Media, F: Notify + Drop> Station<D, M, F> {
     {
         match self.nesting.closing(event) {
             Close::Ended => self.keep(),
-            Close::Exited => self.roll_back(Closed::Exited, Close::Exited),
-            Close::Cancelled(reason) => {
-                self.roll_back(Closed::Cancelled(reason), Close::Cancelled(reason))
-            }
-            Close::Faulted => self.roll_back(Closed::Exited, Close::Faulted),
+            close => self.roll_back(close),
         }
     }
 

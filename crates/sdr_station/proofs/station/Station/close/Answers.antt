@@ -2,6 +2,7 @@ use Rattle.std.proofs.Common.{◌∙◌, ap, sym, subst}
 use Rattle.sdr_machine.specs.Nesting.{closing}
 use Rattle.sdr_model.specs.declared.answer.Close.{Close}
 use Rattle.sdr_station.proofs.GroundLemmas.{heap_ground}
+use Rattle.sdr_station.proofs.StationLemmas.{only_ended_is_kept}
 use Rattle.sdr_station.specs.Stationed.{Closes, Stationed}
 use Rattle.sdr_station.proofs.station.Station.close.Goals as goal
 
@@ -13,18 +14,13 @@ returns-in-Ended g c =
     subst (λ (k : Close). Closes h k c.args.self.now c.keep.new.self c.keep.result)
     (sym c.in-Ended.is ∙ c.closing.ensures ∙ ap (λ (s : Stationed D M). closing s.nesting c.args.event.now) c.self.view_is) c.keep.ensures
 
-pub returns-in-Exited : goal.returns-in-Exited
-returns-in-Exited g c =
+pub roll_back-requires-clause-unkept : goal.roll_back-requires-clause-unkept
+roll_back-requires-clause-unkept g c = only_ended_is_kept c.closing.result c.in_default.not-Ended
+
+pub returns-in_default : goal.returns-in_default
+returns-in_default g c =
     let D = g.row.D.Denot in
     let M = g.row.M.Denot in
     let h = heap_ground g.D.Disk.bytes g.D.Disk.moment g.D.Disk.faults g.D.Disk.may_hold_after g.M.Media in
     subst (λ (k : Close). Closes h k c.args.self.now c.roll_back.new.self c.roll_back.result)
-    (sym c.in-Exited.is ∙ c.closing.ensures ∙ ap (λ (s : Stationed D M). closing s.nesting c.args.event.now) c.self.view_is) c.roll_back.ensures
-
-pub returns-in-Cancelled : goal.returns-in-Cancelled
-returns-in-Cancelled g c =
-    let D = g.row.D.Denot in
-    let M = g.row.M.Denot in
-    let h = heap_ground g.D.Disk.bytes g.D.Disk.moment g.D.Disk.faults g.D.Disk.may_hold_after g.M.Media in
-    subst (λ (k : Close). Closes h k c.args.self.now c.roll_back-in-Cancelled.new.self c.roll_back-in-Cancelled.result)
-    (sym c.in-Cancelled.is ∙ c.closing.ensures ∙ ap (λ (s : Stationed D M). closing s.nesting c.args.event.now) c.self.view_is) c.roll_back-in-Cancelled.ensures
+    (c.closing.ensures ∙ ap (λ (s : Stationed D M). closing s.nesting c.args.event.now) c.self.view_is) c.roll_back.ensures

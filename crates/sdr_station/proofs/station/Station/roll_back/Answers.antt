@@ -13,9 +13,9 @@ returns-in-Ok g c =
     let close = c.args.close in
     let old : Stationed D M = record { ground = c.self.inside.ground; nesting = c.self.inside.nesting; failed = c.self.inside.failed } in
     let new : Stationed D M = record { ground = c.restore.new.self; nesting = c.none-self-inside.result; failed = c.self.inside.failed } in
-    subst (λ (o : Stationed D M). Closes h close o new (Ok c.args.told)) c.self.view_is (record {
+    subst (λ (o : Stationed D M). Closes h close o new (Ok c.closed_as.result)) c.self.view_is (record {
       closes = record {
-        is_told = c.requires.told;
+        is_told = c.closed_as.ensures;
         memory = settles_back close c.requires.unkept c.in-Ok.ensures.memory;
         settles = settles_back close c.requires.unkept c.in-Ok.ensures.put_back;
         failed = ap (λ (s : Stationed D M). s.failed) c.self.view_is ∙ c.requires.sound;
