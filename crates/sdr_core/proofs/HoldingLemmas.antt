@@ -100,10 +100,14 @@ some_said told said h inside s is none = by (h.nesting.depth == 0) inside is
     by true e all = contrary refl e
     by false e all = let far = all s in let no : far.begin ∷ far.more ≡ [] = sym far.all ∙ none in absurd cc
 
--- so it is kept
-pub spoken_kept : (told : Option Told) (daemons : List ℕ) (first : State) (c : Core) (spoken : List Spoken) → KeepsCore told daemons first c → works_of spoken ≡ c.log.works
-    → c.machine.roll.failed ≡ None → (id : ℕ) (d : Daemon) (h : Holding) → daemon_of c.machine.roll id ≡ Some d → d.holds ≡ Some h → (h.nesting.depth == 0) ≡ false
+-- what a daemon has said in its open transaction is kept, unless the disk has failed
+abbrev pub HaveSpoken : Roll → List Spoken → Type 0
+HaveSpoken r spoken =
+    r.failed ≡ None → (id : ℕ) (d : Daemon) (h : Holding) → daemon_of r id ≡ Some d → d.holds ≡ Some h → (h.nesting.depth == 0) ≡ false
     → IsSome (spoken_of spoken id)
+
+pub spoken_kept : (told : Option Told) (daemons : List ℕ) (first : State) (c : Core) (spoken : List Spoken) → KeepsCore told daemons first c → works_of spoken ≡ c.log.works
+    → HaveSpoken c.machine.roll spoken
 spoken_kept told daemons first c spoken keeps is sound id d h found holds inside = by (spoken_of spoken id) refl
   where
     nothing : spoken_of spoken id ≡ None → said_by c.log.works id ≡ []

@@ -79,7 +79,8 @@ made_quiet daemon event a begun done line v moves bytes =
     no_bytes true = given a.answer
     no_bytes false = refl
 
-module _ {T : Type 0} (g : Ghosts T) (keeps : Bool) (daemon : ℕ) (event : Event) (a : Came) (line : ℕ) (old new : Locked T) (log log' : Log) (acts : Acts g keeps MachineStep daemon event a old new) where
+module _ {T : Type 0} (g : Ghosts T) (daemon : ℕ) (event : Event) (a : Came) (line : ℕ) (old new : Locked T) (log log' : Log)
+    (acts : Acts g (commits_by old.roll daemon event) MachineStep daemon event a old new) where
   -- the event as the ground tells of it
   abbrev told_by : GroundState → Made
   told_by v = made_by daemon event a (g.moment old.base) (g.moment new.base) line v
@@ -103,13 +104,13 @@ module _ {T : Type 0} (g : Ghosts T) (keeps : Bool) (daemon : ℕ) (event : Even
   }
 
   -- it is made of a lock that stands for something
-  pub makes : HasState g.stands old → StepsCore g daemon line event a (record { lock = old; log = log }) (record { lock = new; log = log' }) → (keeps ≡ commits_by old.roll daemon event)
+  pub makes : HasState g.stands old → StepsCore g daemon line event a (record { lock = old; log = log }) (record { lock = new; log = log' })
       → MakesCoreStep g daemon line event a old log new log'
-  makes stands step same =
+  makes stands step =
       let s = acts.leads.each stands.for stands.stood in
       record {
         step = step;
-        asks = subst (λ k. Asks g k a old new) same acts.asks;
+        asks = acts.asks;
         called = s.tells.sound;
         drawn = (step_is (machine_at old.roll stands.for) (told_by s.for) (machine_at new.roll s.for) (s.tells.step line)).drawn;
       }

@@ -1,10 +1,8 @@
 -- The log that a keeper keeps, and what it has room for.
-use Rattle.std.specs.Prelude.{◌≡◌, ◌<◌, ◌≤◌, ◌+◌, ◌*◌, ◌⊎◌, ◌==◌, ◌++◌, length, ℕ, List, [], ◌∷◌, ◌||◌, Vec, Bool, Option, None, Some, true, false, IsSome, MatchOption, if◌then◌else◌, vec_capacity, vec_len, ⊤}
+use Rattle.std.specs.Prelude.{◌≡◌, ◌<◌, ◌≤◌, ◌+◌, ◌==◌, ◌++◌, ℕ, List, [], ◌∷◌, ◌||◌, Vec, Bool, Option, None, Some, true, false, IsSome, MatchOption, if◌then◌else◌, vec_capacity, vec_len, ⊤}
 use Rattle.std.specs.Option.{option_map, option_map_or, option_to_list}
 use Rattle.std.specs.declared.alloc.Global.{Global}
 use Rattle.sdr_machine.specs.Core.{Log, closed_by, is_failed, is_passed_over, was_outside, what_added, with_said}
-use Rattle.sdr_machine.specs.Roll.{Roll, daemon_of}
-use Rattle.sdr_machine.specs.Serving.{Locked}
 use Rattle.sdr_machine.specs.declared.daemon.Daemon.{Daemon}
 use Rattle.sdr_machine.specs.declared.daemon.Holding.{Holding}
 use Rattle.sdr_model.specs.declared.answer.Answer.{Answer}
@@ -79,22 +77,6 @@ pub record AddsEntries (what : Option What) (old new : Vec Entry Global) : Type 
 -- an event that was answered so stands in no transaction, unless it closes one
 abbrev pub PassesUnlessClosing : Event → Answer → Type 0
 PassesUnlessClosing event answer = closed_by answer ≡ None → (is_passed_over event answer || is_failed answer) ≡ true
-
--- what a daemon has said in its open transaction is kept, unless the disk has failed
-abbrev pub HaveSpoken : Roll → Keeper → Type 0
-HaveSpoken r k =
-    r.failed ≡ None → (id : ℕ) (d : Daemon) (h : Holding) → daemon_of r id ≡ Some d → d.holds ≡ Some h → (h.nesting.depth == 0) ≡ false
-    → IsSome (spoken_of k.works.items id)
-
--- there is room for all leaves of these daemons, or for two of each of those
-abbrev pub HasRoomOr : List Daemon → List Daemon → Keeper → Type 0
-HasRoomOr old new k = HasRoomFor (leaves_ahead new) k ⊎ HasRoomFor (2 * length old) k
-
--- lock and log are as before, and there is as much room
-pub record IsSame {T : Type 0} (lock : Locked T) (keeper : Keeper) (lock' : Locked T) (keeper' : Keeper) : Type 0 where
-  pub lock_same : lock' ≡ lock
-  pub log_same : log_of keeper' ≡ log_of keeper
-  pub room : (n : ℕ) → HasRoomFor n keeper → HasRoomFor n keeper'
 
 -- whether the event is a leave
 abbrev pub is_leave : Event → Bool

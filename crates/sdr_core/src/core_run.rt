@@ -1,20 +1,20 @@
 // A lock, and the journal of its run.
-ghost use Rattle.std.specs.Prelude.{◌≡◌, ◌≤◌, [], false, true, not, IfErr, IfOk, OnErr, if◌then◌else◌, is_some, length};
+ghost use Rattle.std.specs.Prelude.{◌≡◌, ◌≤◌, [], false, true, not, IfErr, IfOk, OnErr, Some, if◌then◌else◌, is_some, length};
 ghost use Rattle.sdr_machine.specs.Core.{is_failed};
 ghost use Rattle.sdr_machine.specs.Crash.{is_sound};
 ghost use Rattle.sdr_machine.specs.Standing.{GroundState};
 ghost use Rattle.sdr_machine.specs.Transaction.{bytes_given};
 ghost use Rattle.sdr_machine.specs.Holders.{HoldFirst};
 ghost use Rattle.sdr_machine.specs.Legal.{IsLegal};
-ghost use Rattle.sdr_machine.specs.Roll.{MayDraw, first_roll, held_by};
+ghost use Rattle.sdr_machine.specs.Roll.{MayDraw, daemon_of, first_roll, held_by};
 ghost use Rattle.sdr_core.specs.CoreKept.{BeginsOn, IsRunOf, KeepsRun, MakesCoreStep, HasState};
 ghost use Rattle.sdr_core.specs.Logging.{is_leave};
 
-use crate::making::{leave, make};
-use crate::{Keeper, Origin};
+use crate::making::{leaves_now, looks_again, number_of, room_for};
+use crate::{Draft, Keeper, Noted, Origin, Under};
 use sdr_base::NoMemory;
-use sdr_machine::{Came, Lock, Roll, Tells};
-use sdr_model::{Answer, Entry, Event, Journal, Reply};
+use sdr_machine::{Came, Daemon, Lock, Roll, Tells};
+use sdr_model::{Answer, Entry, Event, Journal, Leave, Reply};
 use std::alloc::Global;
 use std::marker::{Model, PhantomData};
 
@@ -66,6 +66,86 @@ impl<T: Tells, J: Origin> Core<T, J> {
         }
     }
 
+    // Makes an event of one of its daemons, and notes it.
+    fn make(
+        &mut self,
+        known: &Daemon,
+        daemon: u8,
+        line: u64,
+        event: &Event,
+    ) -> Result<Came, NoMemory>
+        requires drawn { MayDraw self.old.lock.roll (held_by self.old.lock.roll daemon) }
+        requires lasts { T.lasts self.old.lock.base 1 }
+        requires found { daemon_of self.old.lock.roll daemon ≡ Some known.now }
+        ensures makes { IfOk result (λ came. MakesCoreStep T.HasGround daemon line event.now came
+            self.old.lock self.old.log self.new.lock self.new.log) }
+        ensures err { OnErr result (self.new ≡ self.old) }
+    {
+        let number = number_of(self.lock.roll(), known);
+        let waited = looks_again(known, event);
+        let room = room_for(self.lock.base(), event)?;
+        let draft = Draft::new(self.alloc, event, room)?;
+        self.keeper
+            .reserve(daemon, self.lock.roll().daemons().len())?;
+        let begun = self.lock.moment();
+        let came = self.lock.event(daemon, event)?;
+        let left = leaves_now(self.lock.roll(), known);
+        let done = self.lock.moment();
+        let under = Under {
+            number,
+            waited,
+            left,
+        };
+        let noted = Noted {
+            line,
+            daemon,
+            came,
+            begun,
+            done,
+            under,
+        };
+        self.keeper.note(
+            &noted,
+            draft,
+            self.lock.base().moves(),
+            self.lock.base().shown(),
+        );
+        Ok(came)
+    }
+
+    // Makes a leave of one of its daemons, and notes it. It takes no memory.
+    fn leave(&mut self, known: &Daemon, daemon: u8, line: u64, leave: Leave) -> Came
+        requires drawn { MayDraw self.old.lock.roll (held_by self.old.lock.roll daemon) }
+        requires lasts { T.lasts self.old.lock.base 1 }
+        requires found { daemon_of self.old.lock.roll daemon ≡ Some known.now }
+        ensures { MakesCoreStep T.HasGround daemon line (Event.Leaves leave) result
+            self.old.lock self.old.log self.new.lock self.new.log }
+    {
+        let event = Event::Leaves(leave);
+        let number = number_of(self.lock.roll(), known);
+        let begun = self.lock.moment();
+        let Ok(came) = self.lock.event(daemon, &event) else {
+            unreachable!();
+        };
+        let left = leaves_now(self.lock.roll(), known);
+        let done = self.lock.moment();
+        let under = Under {
+            number,
+            waited: false,
+            left,
+        };
+        let noted = Noted {
+            line,
+            daemon,
+            came,
+            begun,
+            done,
+            under,
+        };
+        self.keeper.note_leave(&noted, &event, leave);
+        came
+    }
+
     /// Makes an event of a daemon, of the statement on a line. Want of memory leaves all as before; a leave takes none.
     pub fn event(&mut self, daemon: u8, line: u64, event: &Event) -> Result<Came, NoMemory>
         requires drawn { MayDraw self.old.lock.roll (held_by self.old.lock.roll daemon) }
@@ -77,23 +157,12 @@ impl<T: Tells, J: Origin> Core<T, J> {
         ensures failed { IfOk result (λ came.
             is_failed came.answer ≡ not (is_sound self.old.log.journal)) }
     {
+        let Some(known) = self.lock.roll().daemon(daemon) else {
+            return self.lock.event(daemon, event);
+        };
         match event {
-            Event::Leaves(by) => Ok(leave(
-                &mut self.lock,
-                &mut self.keeper,
-                daemon,
-                line,
-                event,
-                *by,
-            )),
-            _ => make(
-                &mut self.lock,
-                &mut self.keeper,
-                self.alloc,
-                daemon,
-                line,
-                event,
-            ),
+            Event::Leaves(leave) => Ok(self.leave(&known, daemon, line, *leave)),
+            _ => self.make(&known, daemon, line, event),
         }
     }
 
