@@ -1,4 +1,5 @@
 pub mod Coming
+pub mod Drawing
 pub mod Progressing
 pub mod Scripts
 pub mod TakingTurns
