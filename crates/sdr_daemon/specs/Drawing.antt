@@ -1,9 +1,10 @@
 -- What a daemon does while it holds a lock that is taken by number.
-use Rattle.std.specs.Prelude.{◌≡◌, ◌+◌, ◌==◌, ◌⊎◌, ℕ, Bool, List, [], ◌∷◌, ◌++◌, Some, filter, slice_index_or, slice_set, unwrap_or}
+use Rattle.std.specs.Prelude.{◌≡◌, ◌+◌, ◌==◌, ℕ, Bool, List, Some, filter, slice_index_or, slice_set, unwrap_or}
 use Rattle.std.specs.List.{list_any, position_or_len}
 use Rattle.sdr_machine.specs.Legal.{is_leave}
 use Rattle.sdr_model.specs.declared.event.Leave.TheVariants as leaves
 use Rattle.sdr_model.specs.declared.journal.Entry.{Entry}
+use Rattle.sdr_turn.specs.Entries.{MayAdd}
 use Rattle.sdr_daemon.specs.Progressing.{ScriptedCore}
 use Rattle.sdr_daemon.specs.declared.script_place.ScriptPlace.{ScriptPlace}
 
@@ -29,9 +30,7 @@ pub record GoesOnAt (drawn place : ℕ) (old new : List ScriptPlace) : Type 0 wh
 -- The daemon at a place has drawn the next number. The journal has at most one entry more, of that number and of that daemon.
 pub record DrawsAt {T : Type 0} (daemons : List ℕ) (place : ℕ) (old new : ScriptedCore T) : Type 0 where
   pub drawn : new.core.lock.roll.drawn ≡ old.core.lock.roll.drawn + 1
-  pub adds :
-      (new.core.log.journal ≡ old.core.log.journal)
-      ⊎ ((e : Entry) × (e.number ≡ new.core.lock.roll.drawn) × (place_of daemons e.daemon ≡ place) × (new.core.log.journal ≡ old.core.log.journal ++ e ∷ []))
+  pub adds : MayAdd (λ (e : Entry). e.number) (λ (e : Entry). place_of daemons e.daemon) new.core.lock.roll.drawn place old.core.log.journal new.core.log.journal
   pub goes_on : GoesOnAt 1 place old.progress new.progress
 
 -- the progress of a daemon that means to leave from then on, for want of memory unless it meant to before
