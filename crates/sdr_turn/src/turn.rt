@@ -1,5 +1,5 @@
 ghost use Rattle.std.specs.Prelude.{◌≡◌, ◌+◌, ◌<◌, ◌≤◌, ◌^◌, ◌↔◌, true, false, length, IsNone, IfNone, IfSome, IfOk, OnErr, All};
-ghost use Rattle.sdr_turn.specs.Entries.{MayAdd};
+ghost use Rattle.sdr_turn.specs.Entries.{MayAdd, made_at};
 ghost use Rattle.sdr_turn.specs.Found.{IsFound};
 ghost use Rattle.sdr_turn.specs.Seats.{IsIdleSeat};
 ghost use Rattle.sdr_turn.specs.Knowing.{after_draw, after_look, after_take, after_give};
@@ -53,7 +53,7 @@ impl<V: Kept> Turn<V> {
         let before = self
             .table
             .shared
-            .fetch_add::<Draws>(&mut seat.place, DRAWN, 1);
+            .fetch_add::<Draws>(&mut seat.table_seat, DRAWN, 1);
         seat.drawn += 1;
         Some(Number { value: before + 1 })
     }
@@ -69,7 +69,7 @@ impl<V: Kept> Turn<V> {
         ensures next { seat.old.knows.took ≡ true → result + 1 ≡ seat.old.knows.number }
         ensures lock { seat.new.lock ≡ seat.old.lock }
     {
-        self.table.shared.load::<Looks>(&mut seat.place, DONE)
+        self.table.shared.load::<Looks>(&mut seat.table_seat, DONE)
     }
 
     /// Waits until all numbers below this one are done, and takes the value.
@@ -78,7 +78,7 @@ impl<V: Kept> Turn<V> {
         requires number { seat.old.knows.number ≡ number }
         requires free { seat.old.knows.took ≡ false }
 
-        ensures found { IsFound V.entries V.number V.turns V.rests seat.old.knows number result }
+        ensures found { IsFound V.entries V.number V.maker V.turns V.rests seat.old.knows number result }
         ensures taken { seat.new.knows ≡ after_take seat.old.knows (V.entries result) }
         ensures lock { seat.new.lock ≡ seat.old.lock }
     {
@@ -99,17 +99,17 @@ impl<V: Kept> Turn<V> {
         requires number { (0 < number) × (seat.old.knows.number ≡ number) }
         requires free { seat.old.knows.took ≡ false }
 
-        ensures found { IfOk result (IsFound V.entries V.number V.turns V.rests seat.old.knows number) }
+        ensures found { IfOk result (IsFound V.entries V.number V.maker V.turns V.rests seat.old.knows number) }
         ensures taken { IfOk result (λ value. seat.new.knows ≡ after_take seat.old.knows (V.entries value)) }
         ensures same { OnErr result (seat.new ≡ seat.old) }
         ensures lock { seat.new.lock ≡ seat.old.lock }
     {
         let table = &self.table.shared;
-        let done = table.load::<Takes>(&mut seat.place, DONE);
+        let done = table.load::<Takes>(&mut seat.table_seat, DONE);
         if done != number - 1 {
             return Err(done);
         }
-        let slot = table.exchange(&mut seat.place, VALUE, None);
+        let slot = table.exchange(&mut seat.table_seat, VALUE, None);
         let Some(value) = slot else { unreachable!() };
         Ok(value)
     }
@@ -129,17 +129,20 @@ impl<V: Kept> Turn<V> {
         requires took { seat.old.knows.took ≡ true }
         requires turn { V.turns held ≡ seat.old.knows.number }
         requires rests { V.rests held }
-        requires adds { MayAdd V.number seat.old.knows.number seat.old.knows.seen (V.entries held) }
+        requires adds { MayAdd V.number V.maker seat.old.knows.number seat.old.knows.place
+            seat.old.knows.seen (V.entries held) }
 
         ensures gave { seat.new.knows ≡ after_give seat.old.knows (V.entries held) }
+        // The entries that its place made are those that it added, this one the last of them.
+        ensures made { made_at V.maker seat.old.knows.place (V.entries held) ≡ seat.new.knows.mine }
         ensures rises { seat.old.knows.front ≤ seat.new.knows.front }
         ensures lock { seat.new.lock ≡ seat.old.lock }
     {
         let Held { value } = held;
         let table = &self.table.shared;
-        let slot = table.exchange(&mut seat.place, VALUE, Some(value));
+        let slot = table.exchange(&mut seat.table_seat, VALUE, Some(value));
         let None = slot else { unreachable!() };
-        let before = table.fetch_add::<Gives>(&mut seat.place, DONE, 1);
+        let before = table.fetch_add::<Gives>(&mut seat.table_seat, DONE, 1);
         // Who waits has drawn before it looks whether its number is served, so none of these can miss the wake.
         if table.peek(DRAWN) > before + 1 {
             table.wake_all(DONE);
