@@ -1,3 +1,4 @@
+pub mod AtLock
 pub mod Coming
 pub mod Drawing
 pub mod Progressing

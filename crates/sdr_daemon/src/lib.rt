@@ -34,10 +34,12 @@
 //! call (`test_daemons`).
 #![tactic(auto)]
 
+mod at_lock;
 mod coming;
 mod running;
 mod script_place;
 mod scripted_run;
+mod threads;
 mod turn;
 
 pub use coming::Coming;
