@@ -1,3 +1,4 @@
+pub mod AtLockLemmas
 pub mod AwardedRow
 pub mod BundleRow
 pub mod ComingLemmas

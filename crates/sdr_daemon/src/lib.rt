@@ -6,9 +6,11 @@
 //! 2. A leave closes the transaction that is open: that is one turn, and the leave's own entry comes in the next.
 //! 3. A look at a ticket that waits is made again in the daemon's next turn. It adds an entry once.
 //! 4. `ScriptedRun` is a core with the progress of its daemons. Its type keeps that the journal keeps to the lines that are done.
-//! 5. `run_all` keeps a `ScriptedRun` under a lock. Each daemon takes its turns in a thread, and the gate is called before each begin,
-//!    look and leave, never under the lock. Where a thread can't be started, the caller takes turns of all daemons until they have left.
-//!    Once the threads are done, it runs what a script still has.
+//! 5. `run_all` puts a `ScriptedRun` into a turn lock, at which each daemon has a seat. A daemon takes its turns in a thread: it calls the
+//!    gate, draws a number, waits until it is served, takes its turn and looks what it does next. So the gate is called before each begin,
+//!    look and leave, never under the lock; but for a leave to which a daemon comes with the lock, as where the disk has failed since it
+//!    drew. Where a thread can't be started, the caller takes turns of its daemon.
+//! 6. Once the threads have given all seats back the lock is closed, and the caller runs what a script still has.
 //!
 //! Proved: the type of `ScriptedRun` keeps that each daemon's entries are those of its lines that are done (`IsScriptedRun`), in
 //! whatever order daemons take turns. `coming` tells what a daemon does next by the core, the progress and the script (`coming_at`). A
@@ -20,7 +22,7 @@
 //! drawn (`done`). The daemon at a place has left just where an entry of that place is a leave (`left`). Once all have left, the journal
 //! keeps to the scripts of the daemons that the script names (`keeps`), and no other daemon has an entry. `run_all` gives such a journal,
 //! legal and with what a crash leaves (`run`), and tells from it whether the disk failed and whether a daemon left for want of memory
-//! (`failed`, `starved`). It takes no memory but what the core's events and the scripts' names take.
+//! (`failed`, `starved`). It takes the memory for the lock before any turn, and each daemon leaves for want of memory where there is none.
 //!
 //! Small journals are computed to keep to scripts (`proofs/BundleRow.antt`, `AwardedRow`, `StalledRow`, `EmptyRow`). Others are shown not
 //! to: a daemon without a line that has an entry beside its leave (`InventedRow`), a daemon that begins and leaves as done with no other

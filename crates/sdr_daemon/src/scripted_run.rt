@@ -116,6 +116,7 @@ impl<T: Tells, J: Origin, S: Scripted> ScriptedRun<T, J, S> {
     pub fn places(&self) -> usize
         ensures places { result ≡ length self.now.progress }
         ensures daemons { result ≡ length J.begins.daemons }
+        ensures few { result ≤ MOST_DAEMONS }
     {
         self.progress.len()
     }
