@@ -127,3 +127,14 @@ gone_there gone (s ∷ these) (suc place) d inside = gone_there gone these place
 -- a daemon at a place takes no turns where it has left
 pub gone_is : {T : Type 0} (place : ℕ) (v : ScriptedCore T) (d : ScriptPlace) → place < length v.progress → is_gone place v ≡ has_left v.core.lock.roll (slice_index_or v.progress place d).daemon
 gone_is place v d inside = gone_there (λ (s : ScriptPlace). has_left v.core.lock.roll s.daemon) v.progress place d inside
+
+gone_as : (gone : ScriptPlace → Bool) (next : ScriptPlace → Coming) (these : List ScriptPlace) (place : ℕ) → option_map_or gone (slice_get these place) true ≡ true
+    → option_map_or (λ (s : ScriptPlace). if gone s then comings.Gone else next s) (slice_get these place) comings.Gone ≡ comings.Gone
+gone_as gone next [] place left = refl
+gone_as gone next (s ∷ these) zero left = ap (λ b. if b then comings.Gone else next s) left
+gone_as gone next (s ∷ these) (suc place) left = gone_as gone next these place left
+
+-- nothing comes where no daemon takes turns
+pub nothing_comes : {T : Type 0} (script : List ScriptStep) (place : ℕ) (v : ScriptedCore T) → is_gone place v ≡ true → coming_at script place v ≡ comings.Gone
+nothing_comes script place v left =
+    gone_as (λ (s : ScriptPlace). has_left v.core.lock.roll s.daemon) (coming_of v.core.lock.roll script) v.progress place left

@@ -24,7 +24,7 @@ use Rattle.sdr_daemon.specs.Drawing.{entries_at, have_leave, place_of}
 use Rattle.sdr_daemon.specs.Progressing.{IsOnWay, IsScriptedRun, ProgressHolds, WasLookRefused}
 use Rattle.sdr_daemon.specs.Scripts.{DaemonKeepsToScript}
 use Rattle.sdr_daemon.specs.TakingTurns.{is_gone}
-use Rattle.sdr_daemon.specs.Turns.{DaemonTurn, EndsLook, GivesEntry, IsTurn, Reached, TakeTurns, after_turn, entries_by, steps_by}
+use Rattle.sdr_daemon.specs.Turns.{DaemonTurn, EndsLook, GivesEntry, IsTurn, Reached, TakeTurns, after_turn, at_start, entries_by, steps_by}
 use Rattle.sdr_daemon.specs.declared.script_place.ScriptPlace.{ScriptPlace}
 
 next_same : (n i : ℕ) → (1 + n == suc i) ≡ (n == i)
@@ -67,8 +67,8 @@ place_test (s ∷ these) apart (suc i) d within id = by (s.daemon == id) refl (p
     by false is rest = ap (λ b. cond (not b) (1 + place_of ds id) 0 == suc i) is ∙ next_same (place_of ds id) i ∙ rest
 
 -- no leave is among the entries of a turn
-no_leave : {R : ℕ → ℕ → Type 0} (at : Reached) (t : DaemonTurn) → IsTurn R at t → have_leave t.entries ≡ false
-no_leave at t turns = by turns
+no_leave : (R : ℕ → ℕ → Type 0) (at : Reached) (t : DaemonTurn) → IsTurn R at t → have_leave t.entries ≡ false
+no_leave R at t turns = by turns
   where
     given : (what : What) → GivesEntry at t what → is_leave what ≡ false → have_leave t.entries ≡ false
     given what gives no = ap have_leave gives.is ∙ ap (λ w. is_leave w || false) gives.what_is ∙ ap (λ b. b || false) no
@@ -87,11 +87,11 @@ no_leave at t turns = by turns
     by (IsTurn.refused_look ticket said may answer none higher refused phase) = ap have_leave none
 
 -- nor among those of turns
-no_leaves : {R : ℕ → ℕ → Type 0} (at : Reached) (turns : List DaemonTurn) → TakeTurns R at turns → have_leave (flat_map (λ (t : DaemonTurn). t.entries) turns) ≡ false
-no_leaves at [] taken = refl
-no_leaves at (t ∷ turns) taken =
+no_leaves : (R : ℕ → ℕ → Type 0) (at : Reached) (turns : List DaemonTurn) → TakeTurns R at turns → have_leave (flat_map (λ (t : DaemonTurn). t.entries) turns) ≡ false
+no_leaves R at [] taken = refl
+no_leaves R at (t ∷ turns) taken =
     list_any-append (λ (e : Entry). is_leave e.what) t.entries (flat_map (λ (u : DaemonTurn). u.entries) turns)
-    ∙ (λ i. no_leave at t taken.0 i || no_leaves (after_turn at t) turns taken.2 i)
+    ∙ (λ i. no_leave R at t taken.0 i || no_leaves R (after_turn at t) turns taken.2 i)
 
 module _ {T : Type 0} (g : Ghosts T) (b : RunStart) (script : List ScriptStep) (k : LoggedLock T) where
   -- where a daemon's progress holds, it has left just where one of its entries is a leave
@@ -105,7 +105,7 @@ module _ {T : Type 0} (g : Ghosts T) (b : RunStart) (script : List ScriptStep) (
       by true keeps =
           sym (ap have_leave keeps.all ∙ list_any-append (λ (e : Entry). is_leave e.what) keeps.before (keeps.last ∷ [])
           ∙ ap (λ w. have_leave keeps.before || (is_leave w || false)) keeps.leaves ∙ or_true (have_leave keeps.before))
-      by false way = sym (ap have_leave way.kept.entries_are ∙ no_leaves _ way.kept.turns way.kept.taken)
+      by false way = sym (ap have_leave way.kept.entries_are ∙ no_leaves (WasLookRefused b k.lock.roll.drawn k.log.journal) at_start way.kept.turns way.kept.taken)
 
   module _ (these : List ScriptPlace) (run : IsScriptedRun g b script k these) (place : ℕ) where
     daemons_are : length b.daemons ≡ length these

@@ -3,6 +3,8 @@ use Rattle.std.proofs.Common.{◌≡◌, ◌∙◌, ◌<◌, ◌≤◌, ◌+◌,
 use Rattle.std.proofs.lemmas.List.{get_or_default}
 use Rattle.std.proofs.lemmas.List.Sums.{sum_by-cons}
 use Rattle.std.specs.Prelude.{length, slice_index_or, slice_set, sum_by, unwrap_or}
+use Rattle.arrayvec.proofs.ArrayVecLemmas.{items-with_items}
+use Rattle.arrayvec.specs.ArrayVec.{ArrayVec, with_items}
 use Rattle.sdr_core.specs.CoreKept.{LoggedLock, RunStart}
 use Rattle.sdr_machine.specs.Roll.{Roll}
 use Rattle.sdr_machine.specs.declared.has_ground.HasGround.{Ghosts}
@@ -109,3 +111,7 @@ pub starved_next : (these : List ScriptPlace) (i : ℕ) (d : ScriptPlace) → i 
 starved_next [] i d inside = absurd (omega (arith, inside))
 starved_next (s ∷ these) zero d inside = refl
 starved_next (s ∷ these) (suc i) d inside = ap (λ l. starved s ∷ l) (starved_next these i d (omega (arith, inside)))
+
+-- what is written through the slice of these stands there
+pub starved_at : (v : ArrayVec ScriptPlace) (seen new : List ScriptPlace) → seen ≡ v.items → new ≡ map starved seen → (with_items v new).items ≡ map starved v.items
+starved_at v seen new same is = items-with_items v new (ap length is ∙ length-map seen starved ∙ ap length same) ∙ is ∙ ap (map starved) same

@@ -1,10 +1,10 @@
 -- What a daemon does while it holds a lock that is taken by number.
-use Rattle.std.specs.Prelude.{◌≡◌, ◌+◌, ◌==◌, ℕ, Bool, List, Some, filter, slice_index_or, slice_set, unwrap_or}
+use Rattle.std.specs.Prelude.{◌≡◌, ◌+◌, ◌==◌, ℕ, Bool, List, Some, slice_index_or, slice_set, unwrap_or}
 use Rattle.std.specs.List.{list_any, position_or_len}
 use Rattle.sdr_machine.specs.Legal.{is_leave}
 use Rattle.sdr_model.specs.declared.event.Leave.TheVariants as leaves
 use Rattle.sdr_model.specs.declared.journal.Entry.{Entry}
-use Rattle.sdr_turn.specs.Entries.{MayAdd}
+use Rattle.sdr_turn.specs.Entries.{MayAdd, made_at}
 use Rattle.sdr_daemon.specs.Progressing.{ScriptedCore}
 use Rattle.sdr_daemon.specs.declared.script_place.ScriptPlace.{ScriptPlace}
 
@@ -14,7 +14,7 @@ place_of daemons daemon = position_or_len (λ id. id == daemon) daemons
 
 -- the entries of the daemon at a place
 abbrev pub entries_at : List ℕ → ℕ → List Entry → List Entry
-entries_at daemons place journal = filter (λ (e : Entry). place_of daemons e.daemon == place) journal
+entries_at daemons place journal = made_at (λ (e : Entry). place_of daemons e.daemon) place journal
 
 -- whether one of these entries is a leave
 abbrev pub have_leave : List Entry → Bool

@@ -185,6 +185,15 @@ impl<T: Tells, J: Origin, S: Scripted> ScriptedRun<T, J, S> {
         }
     }
 
+    // How many numbers were drawn. The clause `holds` hands on what the type keeps.
+    fn drawn(&self) -> u64
+        ensures drawn { result ≡ self.now.core.lock.roll.drawn }
+        ensures holds { IsScriptedRun T.HasGround J.begins S.script self.now.core
+            self.now.progress }
+    {
+        self.core.roll().drawn()
+    }
+
     // The daemon at a place, which passes over no line, takes a turn. Where memory was wanting in that, it takes the next, in which it
     // leaves.
     fn draw_once(&mut self, place: usize)
@@ -192,9 +201,9 @@ impl<T: Tells, J: Origin, S: Scripted> ScriptedRun<T, J, S> {
         requires comes { coming_at S.script place self.old ≡ Coming.Passes → ⊥ }
         ensures { DrawsAt J.begins.daemons place self.old self.new }
     {
-        let before = self.core.roll().drawn();
+        let before = self.drawn();
         self.turn(place);
-        if self.core.roll().drawn() > before {
+        if self.drawn() > before {
             return;
         }
         self.turn(place);
