@@ -69,13 +69,13 @@ both_go (s ∷ these) (suc place) m n one two same counted again more = both_go 
 
 -- it has gone on twice
 pub goes_on_twice : (place m n : ℕ) (a b c : List ScriptPlace) → GoesOnAt m place a b → GoesOnAt n place b c → GoesOnAt (m + n) place a c
-goes_on_twice place m n a b c first then =
-    let P : List ScriptPlace → Type 0 = λ l. then.own.daemon ≡ (slice_index_or l place then.own).daemon in
-    let Q : List ScriptPlace → Type 0 = λ l. then.own.drawn ≡ (slice_index_or l place then.own).drawn + n in
-    let both = both_go a place m n first.own then.own first.daemon first.counted (subst P first.is then.daemon) (subst Q first.is then.counted) in
+goes_on_twice place m n a b c first second =
+    let P : List ScriptPlace → Type 0 = λ l. second.own.daemon ≡ (slice_index_or l place second.own).daemon in
+    let Q : List ScriptPlace → Type 0 = λ l. second.own.drawn ≡ (slice_index_or l place second.own).drawn + n in
+    let both = both_go a place m n first.own second.own first.daemon first.counted (subst P first.is second.daemon) (subst Q first.is second.counted) in
     record {
-      own = then.own;
-      is = then.is ∙ ap (λ l. slice_set l place then.own) first.is ∙ set-set a place first.own then.own;
+      own = second.own;
+      is = second.is ∙ ap (λ l. slice_set l place second.own) first.is ∙ set-set a place first.own second.own;
       daemon = both.0;
       counted = both.1;
     }
@@ -83,12 +83,12 @@ goes_on_twice place m n a b c first then =
 -- it draws a number between two times at which it goes on by none
 pub draws_between : {T : Type 0} (daemons : List ℕ) (place : ℕ) (a b c d : ScriptedCore T) → b.core ≡ a.core → GoesOnAt 0 place a.progress b.progress → DrawsAt daemons place b c
     → d.core ≡ c.core → GoesOnAt 0 place c.progress d.progress → DrawsAt daemons place a d
-draws_between {T} daemons place a b c d before first draws behind then =
+draws_between {T} daemons place a b c d before first draws behind last =
     let Adds : LoggedLock T → LoggedLock T → Type 0 = λ old new. MayAdd (λ (e : Entry). e.number) (λ (e : Entry). place_of daemons e.daemon) new.lock.roll.drawn place old.log.journal new.log.journal in
     record {
       drawn = ap (λ (k : LoggedLock T). k.lock.roll.drawn) behind ∙ draws.drawn ∙ ap (λ (k : LoggedLock T). k.lock.roll.drawn + 1) before;
       adds = subst (λ k. Adds k d.core) before (subst (λ k. Adds b.core k) (sym behind) draws.adds);
-      goes_on = goes_on_twice place 1 0 a.progress c.progress d.progress (goes_on_twice place 0 1 a.progress b.progress c.progress first draws.goes_on) then;
+      goes_on = goes_on_twice place 1 0 a.progress c.progress d.progress (goes_on_twice place 0 1 a.progress b.progress c.progress first draws.goes_on) last;
     }
 
 module _ {T : Type 0} (b : RunStart) (script : List ScriptStep) (place : ℕ) (v w : ScriptedCore T) (turn : TurnsAt b script place v w) where
@@ -172,7 +172,7 @@ module _ {T : Type 0} (g : Ghosts T) (b : RunStart) (script : List ScriptStep) (
 pub drawn_next : {T : Type 0} (g : Ghosts T) (b : RunStart) (script : List ScriptStep) (place : ℕ) (v w u : ScriptedCore T) → IsScriptedRun g b script w.core w.progress → is_gone place v ≡ false
     → (turn : TurnsAt b script place v w) → w.core ≡ v.core → turn.own ≡ record (slice_index_or v.progress place turn.own) { leaving = Some leaves.Memory }
     → (is_gone place w ≡ false → TurnsAt b script place w u) → DrawsAt b.daemons place v u
-drawn_next {T} g b script place v w u run stays turn core own then = by next.does
+drawn_next {T} g b script place v w u run stays turn core own again = by next.does
   where
     at : place < length v.progress
     at = (at_place (λ (z : ScriptPlace). has_left v.core.lock.roll z.daemon) v.progress place turn.own stays).0
@@ -189,7 +189,7 @@ drawn_next {T} g b script place v w u run stays turn core own then = by next.doe
         ∙ ap (λ (k : LoggedLock T). has_left k.lock.roll turn.own.daemon) core ∙ ap (has_left v.core.lock.roll) turn.ends.same ∙ sym (gone_is place v turn.own at) ∙ stays
 
     next : TurnsAt b script place w u
-    next = then still
+    next = again still
 
     means : (slice_index_or w.progress place next.own).leaving ≡ Some leaves.Memory
     means = ap (λ (z : ScriptPlace). z.leaving) (here next.own ∙ own)

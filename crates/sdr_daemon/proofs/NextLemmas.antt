@@ -70,14 +70,14 @@ module _ (r : Roll) (script : List ScriptStep) (s : ScriptPlace) (step : ScriptS
 
 -- an event is refused outside a transaction where it is neither a begin nor a look
 pub refused_if : (event : Event) → is_begin_or_look event ≡ false → is_refused_outside event ≡ true
-refused_if events.Begin no = absurd (true≢false no)
-refused_if (events.Look ticket) no = absurd (true≢false no)
-refused_if event no = refl
+refused_if events.Begin isnt = absurd (true≢false isnt)
+refused_if (events.Look ticket) isnt = absurd (true≢false isnt)
+refused_if event isnt = refl
 
 pub comes_if : (event : Event) → is_begin_or_look event ≡ true → is_refused_outside event ≡ false
-comes_if events.Begin yes = refl
-comes_if (events.Look ticket) yes = refl
-comes_if event yes = absurd (true≢false (sym yes))
+comes_if events.Begin is = refl
+comes_if (events.Look ticket) is = refl
+comes_if event is = absurd (true≢false (sym is))
 
 there_is : (gone : ScriptPlace → Bool) (next : ScriptPlace → Coming) (these : List ScriptPlace) (place : ℕ) (d : ScriptPlace) → option_map_or gone (slice_get these place) true ≡ false
     → option_map_or (λ (s : ScriptPlace). if gone s then comings.Gone else next s) (slice_get these place) comings.Gone ≡ next (slice_index_or these place d)
@@ -101,7 +101,8 @@ over_as gone next never (x ∷ these) zero = by (gone x)
     by false = never x
 over_as gone next never (x ∷ these) (suc place) = over_as gone next never these place
 
-something : (r : Roll) (script : List ScriptStep) (s : ScriptPlace) → is_over (coming_of r script s) ≡ false
+-- something comes to a daemon that hasn't left
+pub something : (r : Roll) (script : List ScriptStep) (s : ScriptPlace) → is_over (coming_of r script s) ≡ false
 something r script s = by (leaves_early r s) (steps_ahead script s.daemon s.place)
   where
     line : (step : ScriptStep) (refused : Bool) → is_over (with_line s step refused) ≡ false
@@ -138,3 +139,9 @@ gone_as gone next (s ∷ these) (suc place) left = gone_as gone next these place
 pub nothing_comes : {T : Type 0} (script : List ScriptStep) (place : ℕ) (v : ScriptedCore T) → is_gone place v ≡ true → coming_at script place v ≡ comings.Gone
 nothing_comes script place v left =
     gone_as (λ (s : ScriptPlace). has_left v.core.lock.roll s.daemon) (coming_of v.core.lock.roll script) v.progress place left
+
+-- what comes is a begin where it is a begin or a look, but no look
+pub begins_else : (event : Event) → is_begin_or_look event ≡ true → ((ticket : ℕ) → event ≡ events.Look ticket → ⊥) → event ≡ events.Begin
+begins_else events.Begin is other = refl
+begins_else (events.Look ticket) is other = absurd (other ticket refl)
+begins_else event is other = absurd (true≢false (sym is))

@@ -1,5 +1,6 @@
 -- Which place has made an entry, and where a daemon has left.
-use Rattle.std.proofs.Common.{◌≡◌, ◌∙◌, ◌<◌, ◌==◌, ◌+◌, ◌||◌, ℕ, suc, zero, List, [], ◌∷◌, ◌++◌, Bool, true, false, true≢false, MatchBool, arith, refl, sym, ap, subst, cond, flat_map, length-map, not}
+use Rattle.std.proofs.Common.{◌≡◌, ◌∙◌, ◌<◌, ◌==◌, ◌+◌, ◌||◌, ℕ, suc, zero, List, [], ◌∷◌, ◌++◌, Bool, true, false, true≢false, MatchBool, arith, refl, sym, ap, subst, cond, flat_map, not}
+use Rattle.std.proofs.lemmas.List.{length-map}
 use Rattle.std.proofs.lemmas.List.Folds.{list_any-append}
 use Rattle.std.specs.List.{IsDistinct, list_any}
 use Rattle.std.specs.Option.{option_map_or}
@@ -49,7 +50,7 @@ place_test (s ∷ these) apart zero d within id = by (s.daemon == id) refl
         let one : s.daemon ≡ id = same_number s.daemon id is in
         ap (λ b. cond (not b) (1 + place_of ds id) 0 == 0) is ∙ sym (number_same id s.daemon (sym one))
     by false is =
-        ap (λ b. cond (not b) (1 + place_of ds id) 0 == 0) is ∙ other_number (1 + place_of ds id) 0 (λ no. absurd (omega (arith, no)))
+        ap (λ b. cond (not b) (1 + place_of ds id) 0 == 0) is ∙ other_number (1 + place_of ds id) 0 (λ one. absurd (omega (arith, one)))
         ∙ sym (turned s.daemon id is)
 place_test (s ∷ these) apart (suc i) d within id = by (s.daemon == id) refl (place_test these apart.1 i d (omega (arith, within)) id)
   where
@@ -62,7 +63,7 @@ place_test (s ∷ these) apart (suc i) d within id = by (s.daemon == id) refl (p
     by : (b : Bool) → (s.daemon == id) ≡ b → (place_of ds id == i) ≡ (id == other) → (cond (not (s.daemon == id)) (1 + place_of ds id) 0 == suc i) ≡ (id == other)
     by true is rest =
         let one : s.daemon ≡ id = same_number s.daemon id is in
-        ap (λ b. cond (not b) (1 + place_of ds id) 0 == suc i) is ∙ other_number 0 (suc i) (λ no. absurd (omega (arith, no)))
+        ap (λ b. cond (not b) (1 + place_of ds id) 0 == suc i) is ∙ other_number 0 (suc i) (λ one. absurd (omega (arith, one)))
         ∙ sym (ap (λ n. n == other) (sym one) ∙ each_at (λ n. nat_eq s.daemon n ≡ false) these apart.0 i d (omega (arith, within)))
     by false is rest = ap (λ b. cond (not b) (1 + place_of ds id) 0 == suc i) is ∙ next_same (place_of ds id) i ∙ rest
 
@@ -71,7 +72,7 @@ no_leave : (R : ℕ → ℕ → Type 0) (at : Reached) (t : DaemonTurn) → IsTu
 no_leave R at t turns = by turns
   where
     given : (what : What) → GivesEntry at t what → is_leave what ≡ false → have_leave t.entries ≡ false
-    given what gives no = ap have_leave gives.is ∙ ap (λ w. is_leave w || false) gives.what_is ∙ ap (λ b. b || false) no
+    given what gives isnt = ap have_leave gives.is ∙ ap (λ w. is_leave w || false) gives.what_is ∙ ap (λ b. b || false) isnt
 
     ends : (ticket : ℕ) (s : Said) (what : What) → EndsLook ticket s what → is_leave what ≡ false
     ends ticket s what (EndsLook.awarded answer is) = ap is_leave is

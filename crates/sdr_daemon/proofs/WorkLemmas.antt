@@ -1,5 +1,5 @@
 -- What a begin, a line and a leave come to in the turn of a transaction.
-use Rattle.std.proofs.Common.{◌≡◌, ◌∙◌, ◌<◌, ◌≤◌, ◌⊎◌, ◌+◌, ◌^◌, ℕ, List, ◌∷◌, true≢false, None, Some, inl, inr, sym, ap, subst, length}
+use Rattle.std.proofs.Common.{◌≡◌, ◌∙◌, ◌<◌, ◌≤◌, ◌⊎◌, ◌+◌, ◌^◌, ℕ, List, ◌∷◌, true≢false, None, Some, inl, inr, refl, sym, ap, subst, length}
 use Rattle.std.specs.Prelude.{IsSome}
 use Rattle.sdr_core.specs.CoreKept.{RunStart, LoggedLock, MakesCoreStep}
 use Rattle.sdr_daemon.specs.declared.turn.LineOutcome.TheVariants as outcomes
