@@ -1,5 +1,5 @@
 -- What the daemon at a place does while it holds a lock that is taken by number.
-use Rattle.std.proofs.Common.{◌≡◌, ◌∙◌, ◌<◌, ◌≤◌, ◌⊎◌, ◌+◌, ◌-◌, ◌&&◌, ℕ, suc, zero, List, [], ◌∷◌, ◌++◌, true, true≢false, false, Option, None, Some, inl, inr, arith, refl, sym, ap, subst, append-nil, length-set}
+use Rattle.std.proofs.Common.{◌≡◌, ◌∙◌, ◌<◌, ◌≤◌, ◌+◌, ◌-◌, ◌&&◌, ℕ, suc, zero, List, [], ◌∷◌, ◌++◌, true, true≢false, false, Option, None, Some, inl, inr, arith, refl, sym, ap, subst, append-nil, length-set}
 use Rattle.std.proofs.lemmas.List.{get_or-set_same, get_or_default, set-get_or, set-set}
 use Rattle.std.specs.Prelude.{if◌then◌else◌, is_none, is_some, length, slice_index_or, slice_set}
 use Rattle.sdr_core.proofs.NumberLemmas.{run_counted}
@@ -18,7 +18,7 @@ use Rattle.sdr_turn.specs.Entries.{MayAdd}
 use Rattle.sdr_daemon.proofs.NextLemmas.{coming_there, gone_is, leaves_meant, over_is}
 use Rattle.sdr_daemon.proofs.PlaceLemmas.{place_is}
 use Rattle.sdr_daemon.proofs.RunLemmas.{at_place}
-use Rattle.sdr_daemon.specs.Coming.{coming_at, coming_of, is_over}
+use Rattle.sdr_daemon.specs.Coming.{coming_at, is_over}
 use Rattle.sdr_daemon.specs.Drawing.{DrawsAt, GoesOnAt, place_of}
 use Rattle.sdr_daemon.specs.Progressing.{IsScriptedRun, ScriptedCore, first_progress}
 use Rattle.sdr_daemon.specs.TakingTurns.{AddsAtMostOne, DoesComing, TurnsAt, is_gone}

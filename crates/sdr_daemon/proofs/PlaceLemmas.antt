@@ -2,7 +2,7 @@
 use Rattle.std.proofs.Common.{◌≡◌, ◌∙◌, ◌<◌, ◌==◌, ◌+◌, ◌||◌, ℕ, suc, zero, List, [], ◌∷◌, ◌++◌, Bool, true, false, true≢false, MatchBool, arith, refl, sym, ap, subst, cond, flat_map, not}
 use Rattle.std.proofs.lemmas.List.{length-map}
 use Rattle.std.proofs.lemmas.List.Folds.{list_any-append}
-use Rattle.std.specs.List.{IsDistinct, list_any}
+use Rattle.std.specs.List.{IsDistinct}
 use Rattle.std.specs.Option.{option_map_or}
 use Rattle.std.specs.Prelude.{filter, length, map, nat_eq, slice_index_or}
 use Rattle.law_runs.proofs.CoreLemmas.{or_true}
@@ -10,7 +10,6 @@ use Rattle.sdr_core.specs.CoreKept.{LoggedLock, RunStart}
 use Rattle.sdr_machine.proofs.RollLemmas.{number_same, same_number, turned}
 use Rattle.sdr_machine.specs.Core.{has_left}
 use Rattle.sdr_machine.specs.Legal.{is_leave}
-use Rattle.sdr_machine.specs.Roll.{Roll}
 use Rattle.sdr_machine.specs.declared.daemon.Daemon.{Daemon}
 use Rattle.sdr_machine.specs.declared.has_ground.HasGround.{Ghosts}
 use Rattle.sdr_model.specs.declared.journal.Entry.{Entry}

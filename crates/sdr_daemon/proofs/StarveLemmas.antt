@@ -1,8 +1,8 @@
 -- All daemons mean to leave for want of memory.
-use Rattle.std.proofs.Common.{◌≡◌, ◌∙◌, ◌<◌, ◌≤◌, ◌+◌, ℕ, suc, zero, List, [], ◌∷◌, ◌++◌, Bool, true, false, true≢false, MatchBool, Option, None, Some, arith, refl, sym, ap, subst, drop, map, take}
+use Rattle.std.proofs.Common.{◌≡◌, ◌∙◌, ◌<◌, ◌≤◌, ◌+◌, ℕ, suc, zero, List, [], ◌∷◌, ◌++◌, Bool, true, false, MatchBool, Option, None, Some, arith, refl, sym, ap, subst, drop, map, take}
 use Rattle.std.proofs.lemmas.List.{get_or-map, length-map}
 use Rattle.std.proofs.lemmas.List.Sums.{sum_by-cons}
-use Rattle.std.specs.Prelude.{is_none, length, slice_index_or, slice_set, sum_by, unwrap_or}
+use Rattle.std.specs.Prelude.{length, slice_index_or, slice_set, sum_by, unwrap_or}
 use Rattle.arrayvec.proofs.ArrayVecLemmas.{items-with_items}
 use Rattle.arrayvec.specs.ArrayVec.{ArrayVec, with_items}
 use Rattle.sdr_core.specs.CoreKept.{LoggedLock, RunStart}
@@ -111,21 +111,6 @@ pub starved_next : (these : List ScriptPlace) (i : ℕ) (d : ScriptPlace) → i 
 starved_next [] i d inside = absurd (omega (arith, inside))
 starved_next (s ∷ these) zero d inside = refl
 starved_next (s ∷ these) (suc i) d inside = ap (λ l. starved s ∷ l) (starved_next these i d (omega (arith, inside)))
-
--- a daemon that doesn't mean to leave does so once it is starved, and one that does stays as it is
-pub starved_new : (s : ScriptPlace) → is_none s.leaving ≡ true → starved s ≡ record s { leaving = Some leaves.Memory }
-starved_new s none = by s.leaving none
-  where
-    by : (o : Option Leave) → is_none o ≡ true → record s { leaving = Some (unwrap_or o leaves.Memory) } ≡ record s { leaving = Some leaves.Memory }
-    by None none = refl
-    by (Some leave) none = absurd (true≢false (sym none))
-
-pub starved_same : (s : ScriptPlace) → is_none s.leaving ≡ false → starved s ≡ s
-starved_same s some = ap (λ (o : Option Leave). record s { leaving = o }) (by s.leaving some)
-  where
-    by : (o : Option Leave) → is_none o ≡ false → Some (unwrap_or o leaves.Memory) ≡ o
-    by None some = absurd (true≢false some)
-    by (Some leave) some = refl
 
 -- one more is starved, where it is read from those of which the ones before it are
 pub starved_step : (these now next : List ScriptPlace) (i : ℕ) (item : ScriptPlace) → now ≡ starved_to i these → item ≡ slice_index_or now i item → i < length these → next ≡ slice_set now i (starved item)

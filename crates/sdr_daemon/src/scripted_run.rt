@@ -85,9 +85,7 @@ fn starve_all(these: &mut [ScriptPlace])
     ensures { these.new ≡ map starved these.old }
 {
     for own in these.iter_mut() {
-        if own.leaving.is_none() {
-            own.leaving = Some(Leave::Memory);
-        }
+        own.leaving = Some(own.leaving.unwrap_or(Leave::Memory));
     }
 }
 

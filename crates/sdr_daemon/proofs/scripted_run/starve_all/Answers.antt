@@ -1,17 +1,13 @@
-use Rattle.std.proofs.Common.{◌∙◌, ap, sym}
-use Rattle.std.proofs.lemmas.List.{set-get_or}
-use Rattle.std.specs.Prelude.{slice_set}
-use Rattle.sdr_daemon.proofs.StarveLemmas.{starved_new, starved_same, starved_step}
+use Rattle.std.proofs.Common.{Some, ap}
+use Rattle.std.specs.Prelude.{slice_index_or, slice_set}
+use Rattle.sdr_daemon.proofs.StarveLemmas.{starved_step}
+use Rattle.sdr_model.specs.declared.event.Leave.{Leave}
 use Rattle.sdr_daemon.specs.declared.script_place.ScriptPlace.{ScriptPlace}
 use Rattle.sdr_daemon.proofs.scripted_run.starve_all.Goals as goal
-use Rattle.sdr_daemon.proofs.scripted_run.starve_all.Goals.{then-is_none, else-is_none}
 
 pub loop-own-preserved : goal.loop-own-preserved
 loop-own-preserved c =
-    let step = starved_step c.args.these.now c.loop-own.these c.if-is_none.these c.loop-own.own-index c.own-item.result c.loop-own.invariant c.own-item.is c.loop-own-test.true in
-    let put = λ (s : ScriptPlace). slice_set c.loop-own.these c.loop-own.own-index s in
-    elim c.if-is_none.branch [
-      then-is_none w ↦ step (w.these-is ∙ ap put (sym (starved_new c.own-item.result (sym c.is_none.ensures ∙ w.if-is_none.true))))
-    | else-is_none w ↦
-        step (w.these-is ∙ sym (set-get_or c.loop-own.these c.loop-own.own-index c.own-item.result) ∙ ap put (sym c.own-item.is) ∙ ap put (sym (starved_same c.own-item.result (sym c.is_none.ensures ∙ w.if-is_none.false))))
-    ]
+    let i = c.loop-own.own-index in
+    let own = slice_index_or c.loop-own.these i c.own-item.result in
+    starved_step c.args.these.now c.loop-own.these _ i own c.loop-own.invariant (ap (λ (s : ScriptPlace). slice_index_or c.loop-own.these i s) c.own-item.is) c.loop-own-test.true
+    (ap (λ (leave : Leave). slice_set c.loop-own.these i (record own { leaving = Some leave })) c.unwrap_or.ensures)

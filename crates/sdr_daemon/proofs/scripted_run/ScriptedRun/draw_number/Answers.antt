@@ -1,7 +1,6 @@
-use Rattle.std.proofs.Common.{◌≡◌, ◌∙◌, false, ap, sym}
+use Rattle.std.proofs.Common.{◌∙◌, ap}
 use Rattle.sdr_core.specs.CoreKept.{LoggedLock}
 use Rattle.sdr_daemon.proofs.DrawingLemmas.{draws_between, takes_turns}
-use Rattle.sdr_daemon.specs.Coming.{is_over}
 use Rattle.sdr_daemon.specs.Drawing.{entries_at, have_leave}
 use Rattle.sdr_daemon.proofs.scripted_run.ScriptedRun.draw_number.Goals as goal
 
