@@ -1,7 +1,7 @@
 -- Each step of a reader is allowed.
-use Rattle.std.proofs.Common.{◌≡◌, ◌≢◌, ⊎_elim, ℕ, ◌≤◌, ◌==◌, Bool, true, false, List, [], ◌++◌, length, set, refl, sym, ◌∙◌, ap, subst, arith, le_refl}
+use Rattle.std.proofs.Common.{◌≡◌, ◌≢◌, ⊎_elim, ℕ, ◌≤◌, ◌==◌, Bool, true, false, List, [], ◌++◌, length, set, refl, sym, ◌∙◌, ap, subst, arith, le_refl, ◌+◌, ◌<◌, ◌∷◌, suc, get_or, take}
 use Rattle.std.specs.Prelude.{MatchBool, slice_index}
-use Rattle.std.proofs.lemmas.List.{set-get_or}
+use Rattle.std.proofs.lemmas.List.{set-get_or, take_more, take_more_set}
 use mathlib.Core.Option.{some}
 use lib.ListN.{get_elem?}
 use Rattle.atomic_table.specs.Table.{State, Me, Allows, Splits, Joins}
@@ -9,6 +9,7 @@ use Rattle.atomic_table.proofs.Lists.{at_set, at_snoc, set_again}
 use Rattle.sdr_board.specs.Known.{longer}
 use Rattle.sdr_board.specs.Plays.{Looking, Peeking, Checking, Comparing}
 use Rattle.sdr_board.specs.Posted.{board_words, Fits, IsPosted}
+use Rattle.sdr_board.specs.Totals.{totals, words_of}
 use Rattle.sdr_board.specs.Views.{reader_view, with_look, with_front, with_seen, with_met, with_told, with_longer}
 use Rattle.sdr_board.specs.declared.view.View.{View}
 use Rattle.sdr_board.proofs.Beginnings.{prefix_self, longer_of}
@@ -120,3 +121,12 @@ module _ {S : Type 0} where
             (at_set s.views id j both u t.1))
             (at_set (set s.views id both) other j (reader_view []) u e);
       }
+
+-- the words read are those of the totals so far, with the next word
+pub next_read : (stood : List Entry) (words : List ℕ) (i x : ℕ) → i < length words → i < 9 → take i words ≡ take i (words_of (totals stood)) → x ≡ slice_index (board_words stood (length stood) []) (2 + i)
+    → take (i + 1) (set words i x) ≡ take (i + 1) (words_of (totals stood))
+next_read stood words i x less few before is =
+    let all = words_of (totals stood) in
+    let on : 2 + i ≡ suc (suc i) = omega arith in
+    let here : x ≡ get_or all i 0 = is ∙ ap (slice_index (board_words stood (length stood) [])) on in
+    take_more_set words i x less ∙ (ap (λ (ws : List ℕ). ws ++ x ∷ []) before ∙ ap (λ (y : ℕ). take i all ++ y ∷ []) here) ∙ sym (take_more all i 0 few)

@@ -1,5 +1,6 @@
 -- The totals of a journal add up, and those with one entry more are those of one entry more.
-use Rattle.std.proofs.Common.{◌≡◌, ℕ, ◌+◌, ◌-◌, ◌^◌, ◌<◌, ◌≤◌, min, Bool, true, false, cond, List, [], ◌∷◌, ◌++◌, count_by, length, sum_by, refl, sym, ◌∙◌, ap, arith, length-append}
+use Rattle.std.proofs.Common.{◌≡◌, ℕ, ◌+◌, ◌-◌, ◌^◌, ◌<◌, ◌≤◌, min, Bool, true, false, cond, List, [], ◌∷◌, ◌++◌, count_by, length, sum_by, refl, sym, ◌∙◌, ap, arith, append_assoc, get_or, length-append, take}
+use Rattle.std.proofs.lemmas.List.{take_more}
 use Rattle.std.proofs.lemmas.List.Sums.{sum_by-cons, sum_by_push}
 use Rattle.sdr_board.specs.Totals.{is_ended, is_cancelled, is_exited, is_faulted, is_look, is_leave, is_taking, is_giving, moves_in, last_number, capped, totals, AddsUp, with_entry}
 use Rattle.sdr_base.specs.declared.moves.Move.{Move}
@@ -70,3 +71,10 @@ totals-push es e =
   where
     moves : (kind : Move → Bool) → capped (sum_by (λ x. moves_in kind x.what) (es ++ e ∷ [])) ≡ capped (capped (sum_by (λ x. moves_in kind x.what) es) + moves_in kind e.what)
     moves kind = ap capped (sum_by_push (λ x. moves_in kind x.what) es e) ∙ sym (capped-plus (sum_by (λ x. moves_in kind x.what) es) (moves_in kind e.what))
+
+-- the totals of first entries, with the next one
+pub totals-more : (before entries : List Entry) (i : ℕ) (e : Entry) → i < length entries → e ≡ get_or entries i e
+    → totals (before ++ take (i + 1) entries) ≡ with_entry (totals (before ++ take i entries)) e
+totals-more before entries i e less is =
+    ap totals (ap (λ (l : List Entry). before ++ l) (take_more entries i e less ∙ ap (λ (x : Entry). take i entries ++ x ∷ []) (sym is)) ∙ sym (append_assoc before (take i entries) (e ∷ [])))
+    ∙ totals-push (before ++ take i entries) e

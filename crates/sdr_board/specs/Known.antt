@@ -30,7 +30,7 @@ abbrev pub longer : List Entry → List Entry → List Entry
 longer xs ys = cond (nat_le (length xs) (length ys)) ys xs
 
 -- A look makes this of a pass: where it doesn't meet the writer, the pass has seen what stood on the board.
-pub record Looks (old new : Seen) : Type 0 where
+pub record HasLooked (old new : Seen) : Type 0 where
   pub board : new.board ≡ old.board
   pub looks : new.looks ≡ old.looks + 1
   pub stood : IsPrefix old.stood new.stood
@@ -40,7 +40,7 @@ pub record Looks (old new : Seen) : Type 0 where
 
 -- A read of at most so many looks makes this of a pass: where its last look doesn't meet the writer, the pass has seen what stood on the board
 -- as that look began; and where each of so many looks meets the writer, the pass has seen what it had seen before.
-pub record Reads (most : ℕ) (old new : Seen) : Type 0 where
+pub record HasRead (most : ℕ) (old new : Seen) : Type 0 where
   pub board : new.board ≡ old.board
   pub looks : old.looks < new.looks
   pub few : new.looks ≤ old.looks + most

@@ -2,7 +2,7 @@
 ghost use Rattle.std.specs.Prelude.{◌≡◌, ◌<◌, [], length};
 ghost use mathlib.Core.List.{IsPrefix};
 ghost use Rattle.sdr_board.specs.Known.{published};
-ghost use Rattle.sdr_board.specs.Totals.{totals};
+ghost use Rattle.sdr_board.specs.Totals.{totals, words_of};
 ghost use Rattle.sdr_board.specs.Views.{writer_view, writing_view};
 
 use crate::board::Board;
@@ -40,19 +40,20 @@ impl Board {
     {
         let shared = &self.table.shared;
         shared.store::<Begins>(place, BEGUN, last.entries);
-        self.write(place, last.words());
+        self.write(place, last);
         shared.compare_exchange_with::<Ends>(place, STANDS, before, last.entries, journal);
     }
 
-    // Writes the words of the totals that were begun.
-    fn write(&self, place: &mut Place, words: [u64; 9])
+    // Writes the totals that were begun, but the first.
+    fn write(&self, place: &mut Place, last: Totals)
         requires board { place.old.table_id ≡ self.now }
         requires begun { place.old.me.0 ≡ writing_view place.old.me.0.seen place.old.me.0.begun [] }
         requires more { length place.old.me.0.seen < place.old.me.0.begun }
 
         ensures board { place.new.table_id ≡ self.now }
-        ensures written { place.new.me ≡ (writing_view place.old.me.0.seen place.old.me.0.begun words, place.old.me.1) }
+        ensures written { place.new.me ≡ (writing_view place.old.me.0.seen place.old.me.0.begun (words_of last), place.old.me.1) }
     {
+        let words = last.words();
         for i in 0..words.len() {
             self.table.shared.store::<Writes>(place, FIRST + i, words[i]);
         }

@@ -1,7 +1,7 @@
 // How a reader reads, and how one reader takes over what another has seen.
 ghost use Rattle.std.specs.Prelude.{◌≡◌, ◌+◌, ◌≤◌, false, not, is_none, length, IsNone, IfSome};
 ghost use mathlib.Core.List.{IsPrefix};
-ghost use Rattle.sdr_board.specs.Known.{longer, Looks, Reads};
+ghost use Rattle.sdr_board.specs.Known.{longer, HasLooked, HasRead};
 ghost use Rattle.sdr_board.specs.Totals.{totals, words_of};
 ghost use Rattle.sdr_board.specs.Views.{with_front};
 
@@ -22,12 +22,12 @@ impl Board {
 
         ensures totals { result ≡ totals pass.new.entries }
         ensures seen { IsPrefix pass.old.entries pass.new.entries }
-        ensures reads { Reads 8 pass.old pass.new }
+        ensures reads { HasRead 8 pass.old pass.new }
     {
         let backoff = Backoff::new();
         for _ in 0..MOST_LOOKS {
             if self.try_read(pass) {
-                break;
+                return *pass.last;
             }
             backoff.spin();
         }
@@ -38,7 +38,7 @@ impl Board {
     fn try_read(&self, pass: &mut Pass) -> bool
         requires board { pass.old.board ≡ self.now }
 
-        ensures looks { Looks pass.old pass.new }
+        ensures looked { HasLooked pass.old pass.new }
         ensures met { result ≡ not pass.new.met }
     {
         match self.look(&mut pass.place) {

@@ -1,7 +1,7 @@
 -- The words so far are written.
 use Rattle.std.proofs.Common.{◌≡◌, take}
 use Rattle.sdr_board.specs.Views.{writing_view}
-use Rattle.sdr_board.proofs.publishing.Board.write.Given as goal
+use Rattle.sdr_board.proofs.board.Board.write.Given as goal
 
 abbrev pub invariant-loop-i : goal.invariant-loop-i
 invariant-loop-i l =
