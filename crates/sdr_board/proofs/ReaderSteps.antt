@@ -1,12 +1,11 @@
 -- Each step of a reader is allowed.
-use Rattle.std.proofs.Common.{◌≡◌, ◌≢◌, ⊎_elim, ℕ, ◌≤◌, ◌==◌, Bool, true, false, List, [], ◌++◌, length, set, refl, sym, ◌∙◌, ap, subst, arith, le_refl, ◌+◌, ◌<◌, ◌∷◌, suc, get_or, take}
+use Rattle.std.proofs.Common.{◌≡◌, ⊎_elim, ℕ, ◌≤◌, ◌==◌, Bool, true, false, List, [], ◌++◌, length, set, refl, sym, ◌∙◌, ap, subst, arith, le_refl, ◌+◌, ◌<◌, ◌∷◌, suc, get_or, take}
 use Rattle.std.specs.Prelude.{MatchBool, slice_index}
 use Rattle.std.proofs.lemmas.List.{set-get_or, take_more, take_more_set}
 use mathlib.Core.Option.{some}
 use lib.ListN.{get_elem?}
 use Rattle.atomic_table.specs.Table.{State, Me, Allows, Splits, Joins}
 use Rattle.atomic_table.proofs.Lists.{at_set, at_snoc, set_again}
-use Rattle.sdr_board.specs.Known.{longer}
 use Rattle.sdr_board.specs.Plays.{Looking, Peeking, Checking, Comparing}
 use Rattle.sdr_board.specs.Posted.{board_words, Fits, IsPosted}
 use Rattle.sdr_board.specs.Totals.{totals, words_of}

@@ -9,7 +9,7 @@ use Rattle.atomic_table.proofs.Lists.{at_set}
 use Rattle.sdr_board.specs.Posted.{board_words, Fits, IsPosted}
 use Rattle.sdr_board.specs.Views.{reader_view, writer_view}
 use Rattle.sdr_board.specs.declared.view.View.{View}
-use Rattle.sdr_board.proofs.Beginnings.{prefix_length, prefix_whole, prefix_self}
+use Rattle.sdr_board.proofs.Beginnings.{prefix_length, prefix_whole}
 use Rattle.sdr_model.specs.declared.journal.Entry.{Entry}
 
 -- where no totals of more entries are begun than stood on the board, those of these entries stand there, and none are being written

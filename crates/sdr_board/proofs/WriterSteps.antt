@@ -1,18 +1,17 @@
 -- Each step of the writer is allowed.
-use Rattle.std.proofs.Common.{◌≡◌, ◌≢◌, ℕ, zero, suc, ◌+◌, ◌<◌, ◌≤◌, ◌==◌, true, List, [], ◌∷◌, ◌++◌, drop, length, set, refl, sym, ◌∙◌, ap, subst, arith}
-use Rattle.std.specs.Prelude.{slice_index, slice_set}
+use Rattle.std.proofs.Common.{◌≡◌, ◌≢◌, ℕ, suc, ◌+◌, ◌<◌, ◌≤◌, ◌==◌, true, List, [], ◌∷◌, ◌++◌, drop, length, set, refl, sym, ◌∙◌, ap, subst, arith}
 use Rattle.std.proofs.lemmas.Bool.Decides.{nat_tests}
 use mathlib.Core.List.{IsPrefix}
 use mathlib.Core.Option.{some, some-injective}
 use lib.ListN.{get_elem?}
 use prog.Atomic.{either}
-use Rattle.atomic_table.specs.Table.{State, Me, step, Allows}
+use Rattle.atomic_table.specs.Table.{State, step, Allows}
 use Rattle.sdr_board.specs.Plays.{Beginning, Writing, Ending}
 use Rattle.sdr_board.specs.Posted.{posted, board_words, Fits, IsPosted}
 use Rattle.sdr_board.specs.Totals.{totals, words_of}
 use Rattle.sdr_board.specs.Views.{writer_view, writing_view}
 use Rattle.sdr_board.specs.declared.view.View.{View}
-use Rattle.sdr_board.proofs.Beginnings.{prefix_self, prefix_trans, prefix_length}
+use Rattle.sdr_board.proofs.Beginnings.{prefix_self, prefix_trans}
 use Rattle.sdr_board.proofs.Rules.{changed, allowed}
 use Rattle.sdr_model.specs.declared.journal.Entry.{Entry}
 

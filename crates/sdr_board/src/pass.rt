@@ -26,11 +26,11 @@ impl Model for Pass {
     ghost Value = { Seen };
 
     ghost view = { λ p. record {
-        board = p.place.table_id;
-        entries = p.place.me.0.seen;
-        looks = p.place.me.0.looks;
-        stood = p.place.me.0.stood;
-        met = p.place.me.0.met;
+      board = p.place.table_id;
+      entries = p.place.me.0.seen;
+      looks = p.place.me.0.looks;
+      stood = p.place.me.0.stood;
+      met = p.place.me.0.met;
     } };
 
     ghost invariant = { λ p. (p.place.me.0.writes ≡ false) × (p.place.me.1 ≡ []) × (padded_value p.last ≡ totals p.place.me.0.seen) };

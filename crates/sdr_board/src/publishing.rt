@@ -55,7 +55,9 @@ impl Board {
     {
         let words = last.words();
         for i in 0..words.len() {
-            self.table.shared.store::<Writes>(place, FIRST + i, words[i]);
+            self.table
+                .shared
+                .store::<Writes>(place, FIRST + i, words[i]);
         }
     }
 }

@@ -4,6 +4,7 @@ ghost use mathlib.Core.List.{IsPrefix};
 ghost use Rattle.sdr_board.specs.Known.{longer, HasLooked, HasRead};
 ghost use Rattle.sdr_board.specs.Totals.{totals, words_of};
 ghost use Rattle.sdr_board.specs.Views.{with_front};
+ghost use Rattle.sdr_board.specs.declared.reading.TheConstants.{MOST_LOOKS};
 
 use crate::board::Board;
 use crate::pass::Pass;
@@ -22,7 +23,7 @@ impl Board {
 
         ensures totals { result ≡ totals pass.new.entries }
         ensures seen { IsPrefix pass.old.entries pass.new.entries }
-        ensures reads { HasRead 8 pass.old pass.new }
+        ensures reads { HasRead MOST_LOOKS pass.old pass.new }
     {
         let backoff = Backoff::new();
         for _ in 0..MOST_LOOKS {

@@ -1,5 +1,5 @@
 // Totals of a journal.
-ghost use Rattle.std.specs.Prelude.{◌≡◌, ◌+◌, ◌<◌, ◌^◌, ◌++◌, [], List, count_by, length};
+ghost use Rattle.std.specs.Prelude.{◌≡◌, ◌+◌, ◌<◌, ◌^◌, ◌++◌, List, count_by, length};
 ghost use Rattle.sdr_board.specs.Totals.{AddsUp, is_giving, is_taking, moves_said, totals, with_entry, with_moves, words_of};
 ghost use Rattle.sdr_model.specs.declared.journal.Entry.{Entry};
 
@@ -138,7 +138,17 @@ impl Totals {
     pub(crate) fn from_words(entries: u64, words: [u64; 9]) -> Totals
         ensures { (t : Totals) → entries ≡ t.entries → words ≡ words_of t → result ≡ t }
     {
-        let [number, ended, cancelled, exited, faulted, looks, left, taken, given] = words;
+        let [
+            number,
+            ended,
+            cancelled,
+            exited,
+            faulted,
+            looks,
+            left,
+            taken,
+            given,
+        ] = words;
         Totals {
             entries,
             number,

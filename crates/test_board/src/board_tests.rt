@@ -26,9 +26,12 @@ fn totals_count_each_kind_of_entry(rt: HostRuntime) -> Result<(), Fail> {
             taken,
             given,
         } = totals;
-        assert_eq!(
-            rt; [entries, number, ended, cancelled, exited, faulted, looks, left, taken, given],
-            want, "of {count}"
+        assert_eq!(rt;
+            [
+                entries, number, ended, cancelled, exited, faulted, looks, left, taken, given
+            ],
+            want,
+            "of {count}"
         );
         assert_eq!(rt; totals_of_first(u64::from(count)), totals, "of {count}");
     }

@@ -41,9 +41,9 @@ returns-clause-totals c =
     let count : found ≡ length log = same ∙ looked.5 in
     let hit : (found == length before.0.stood) ≡ true = eq-eqb found (length before.0.stood) (count ∙ ap (λ (l : List Entry). length l) (sym at_check)) in
     let after : c.load.new.seat.me ≡ (with_seen before.0, before.1) =
-        subst (λ b. MatchBool b (◌≡◌ {A = Mine} c.load.new.seat.me (with_seen before.0, before.1)) (◌≡◌ {A = Mine} c.load.new.seat.me (with_met before.0, before.1))) hit c.load.ensures.2.1 in
+    subst (λ b. MatchBool b (◌≡◌ {A = Mine} c.load.new.seat.me (with_seen before.0, before.1)) (◌≡◌ {A = Mine} c.load.new.seat.me (with_met before.0, before.1))) hit c.load.ensures.2.1 in
     let words : c.peek-words.result ≡ words_of (totals log) =
-        c.peek-words.ensures.words (omega (arith, c.load.ensures.2.0, count, ap (λ (l : List Entry). length l) at_look)) ∙ ap (λ (l : List Entry). words_of (totals l)) at_look in (
+    c.peek-words.ensures.words (omega (arith, c.load.ensures.2.0, count, ap (λ (l : List Entry). length l) at_look)) ∙ ap (λ (l : List Entry). words_of (totals l)) at_look in (
       c.from_words.ensures (totals log) looked.5 words ∙ ap totals (sym (ap (λ (m : Mine). m.0.stood) after ∙ at_check)),
       ap (λ (m : Mine). m.0.seen) after ∙ sym (ap (λ (m : Mine). m.0.stood) after),
     )

@@ -1,11 +1,11 @@
-use Rattle.std.proofs.Common.{◌≡◌, ◌∙◌, ◌+◌, ◌==◌, List, [], ◌∷◌, ◌++◌, refl, sym, ap, subst, arith}
+use Rattle.std.proofs.Common.{◌≡◌, ◌∙◌, ◌==◌, List, sym, ap, subst, arith}
 use mathlib.Core.Option.{some}
 use prog.Atomic.{either}
 use Rattle.atomic_table.specs.Table.{Allows, Me, step}
 use Rattle.sdr_board.specs.Plays.{Beginning, Ending}
 use Rattle.sdr_board.specs.Posted.{IsPosted}
 use Rattle.sdr_board.specs.Totals.{words_of}
-use Rattle.sdr_board.specs.Views.{writer_view, writing_view}
+use Rattle.sdr_board.specs.Views.{writing_view}
 use Rattle.sdr_board.specs.declared.totals.Totals.{Totals}
 use Rattle.sdr_board.specs.declared.view.View.{View}
 use Rattle.sdr_board.proofs.WriterSteps.{begins, ends}
@@ -38,7 +38,7 @@ compare_exchange_with-requires c =
     let seat = c.write.new.place in
     let counted = ap (λ (t : Totals). t.entries) c.requires.totals.0 in
     let all : seat.me ≡ (writing_view seen new (words_of last), place.me.1) =
-        c.write.ensures.written ∙ ap (λ (m : Mine). (writing_view m.0.seen m.0.begun (words_of last), m.1)) c.store.ensures.2 in (
+    c.write.ensures.written ∙ ap (λ (m : Mine). (writing_view m.0.seen m.0.begun (words_of last), m.1)) c.store.ensures.2 in (
       c.write.ensures.board ∙ sym c.self.view_is,
       omega (arith, c.self.invariant),
       subst (λ (m : Mine). Allows (IsPosted {S = List Entry}) slots seat.id m 0 (λ n. either (n == old) new n) (Ending (step slots 0 old new (some journal)) m)) (sym all)

@@ -1,4 +1,4 @@
-use Rattle.std.proofs.Common.{◌≡◌, ◌∙◌, true, false, List, refl, ap, arith, subst, sym}
+use Rattle.std.proofs.Common.{◌≡◌, ◌∙◌, true, false, List, refl, arith, subst, sym}
 use mathlib.Core.List.{IsPrefix}
 use Rattle.sdr_board.proofs.Beginnings.{prefix_self, prefix_trans}
 use Rattle.sdr_board.proofs.board.Board.read.Goals as goal
