@@ -3,6 +3,34 @@ use sdr_board::{Board, Totals};
 use std::test::*;
 use std::time::{Duration, Instant};
 
+// The totals with these numbers, in the order in which they are printed.
+fn row(numbers: [u64; 10]) -> Totals {
+    let [
+        entries,
+        number,
+        ended,
+        cancelled,
+        exited,
+        faulted,
+        looks,
+        left,
+        taken,
+        given,
+    ] = numbers;
+    Totals {
+        entries,
+        number,
+        ended,
+        cancelled,
+        exited,
+        faulted,
+        looks,
+        left,
+        taken,
+        given,
+    }
+}
+
 #[test]
 fn totals_count_each_kind_of_entry(rt: HostRuntime) -> Result<(), Fail> {
     for (count, want) in [
@@ -13,27 +41,9 @@ fn totals_count_each_kind_of_entry(rt: HostRuntime) -> Result<(), Fail> {
         (8, [8, 8, 1, 1, 1, 1, 3, 1, 2, 1]),
         (17, [17, 17, 3, 2, 2, 2, 6, 2, 6, 3]),
     ] {
-        let totals = Totals::of(first_entries(rt.alloc(), count)?.as_slice());
-        let Totals {
-            entries,
-            number,
-            ended,
-            cancelled,
-            exited,
-            faulted,
-            looks,
-            left,
-            taken,
-            given,
-        } = totals;
-        assert_eq!(rt;
-            [
-                entries, number, ended, cancelled, exited, faulted, looks, left, taken, given
-            ],
-            want,
-            "of {count}"
-        );
-        assert_eq!(rt; totals_of_first(u64::from(count)), totals, "of {count}");
+        let journal = first_entries(rt.alloc(), count)?;
+        assert_eq!(rt; Totals::of(journal.as_slice()), row(want), "of {count}");
+        assert_eq!(rt; totals_of_first(u64::from(count)), row(want), "of {count}");
     }
     Ok(())
 }
