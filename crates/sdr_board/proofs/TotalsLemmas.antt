@@ -1,5 +1,5 @@
 -- The totals of a journal add up, and those with one entry more are those of one entry more.
-use Rattle.std.proofs.Common.{◌≡◌, ℕ, ◌+◌, ◌-◌, ◌<◌, Bool, cond, List, [], ◌∷◌, ◌++◌, length, sum_by, refl, sym, ◌∙◌, ap, arith, append_assoc, get_or, length-append, take}
+use Rattle.std.proofs.Common.{◌≡◌, ℕ, ◌+◌, ◌<◌, Bool, cond, List, [], ◌∷◌, ◌++◌, length, sum_by, refl, sym, ◌∙◌, ap, arith, append_assoc, get_or, length-append, take}
 use Rattle.std.proofs.lemmas.List.{take_more}
 use Rattle.std.proofs.lemmas.List.Sums.{sum_by-cons, sum_by_push}
 use Rattle.sdr_board.specs.Totals.{is_ended, is_cancelled, is_exited, is_faulted, is_look, is_leave, is_taking, is_giving, moves_in, last_number, capped, totals, AddsUp, with_entry}

@@ -1,4 +1,4 @@
-use Rattle.std.proofs.Common.{◌+◌, ◌++◌, ◌∙◌, List, ap, arith, subst, sym}
+use Rattle.std.proofs.Common.{◌++◌, ◌∙◌, List, ap, arith, subst, sym}
 use Rattle.std.proofs.lemmas.List.{take_all}
 use Rattle.sdr_board.specs.Totals.{AddsUp, totals, with_entry}
 use Rattle.sdr_board.specs.declared.totals.Totals.{Totals}
