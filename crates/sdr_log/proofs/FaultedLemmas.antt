@@ -1,6 +1,6 @@
 -- A recovery in which the disk failed.
-use Rattle.std.proofs.Common.{◌≡◌, ◌<◌, ◌⊎◌, inl, inr, ⊎_elim, ℕ, ◌+◌, ◌*◌, List, [], ◌∷◌, length, Some, sym, ◌∙◌, subst, arith}
-use Rattle.std.specs.Prelude.{Option}
+use Rattle.std.proofs.Common.{◌≡◌, ◌<◌, ◌⊎◌, inl, inr, ℕ, ◌+◌, ◌*◌, List, [], ◌∷◌, length, Some, sym, ◌∙◌, subst, arith}
+use Rattle.std.specs.Prelude.{Option, Result, Ok, Err, OnErr}
 use Rattle.std.proofs.lemmas.Option.{same_Some}
 use Rattle.sdr_disk.specs.Moments.{AtEach, IsTorn, Only, Reads, Syncs}
 use Rattle.sdr_disk.specs.Ranges.{Agrees, range}
@@ -14,6 +14,12 @@ use Rattle.sdr_log.specs.declared.record.Record.{Record}
 use Rattle.sdr_log.proofs.PendingLemmas.{logged_less, logged_none, synced_left}
 use Rattle.sdr_log.proofs.RestoringLemmas.{reads_may, reads_only}
 
+-- what holds whatever comes, where an error comes
+pub on_error : {T E P : Type 0} (result : Result T E) → P → OnErr result P
+on_error (Ok value) holds = tt
+on_error (Err why) holds = holds
+
+-- Calls of a disk.
 module _ {D : Type 0} (bytes : D → Option (List ℕ)) (moment : D → ℕ) (may_hold_after : D → ℕ → List ℕ → Type 0) where
   -- the sync before the gate failed: what is pending is logged, as before
   pub sync_failed : (f : Frame) (old new : D) (x y : List ℕ) → bytes old ≡ Some x → bytes new ≡ bytes old → bytes new ≡ Some y →

@@ -3,6 +3,7 @@ use Rattle.std.proofs.lemmas.List.{nil_from_length}
 use Rattle.sdr_disk.specs.Ranges.{IsInNone}
 use Rattle.sdr_log.specs.Logged.{line_ranges}
 use Rattle.sdr_log.specs.declared.record.Record.{Record}
+use Rattle.sdr_log.proofs.FaultedLemmas.{on_error}
 use Rattle.sdr_log.proofs.OutsideLemmas.{both_line, both_same, both_then}
 use Rattle.sdr_log.proofs.PuttingLemmas.{lines_more, lines_none, putting_all, putting_each, putting_failed, putting_more, putting_none, putting_written}
 use Rattle.sdr_log.proofs.lines.put_lines.Goals as goal
@@ -33,9 +34,10 @@ returns-in_err-put_line-clause-any_moment g c x is m =
     (c.loop-line.invariant.told x is) c.put_line.ensures.moments m
 
 pub returns-in_err-put_line-clause-faulted : goal.returns-in_err-put_line-clause-faulted
-returns-in_err-put_line-clause-faulted g c x is y now m =
+returns-in_err-put_line-clause-faulted g c =
+    on_error c.from_residual.result (λ x is y now m.
     putting_failed _ _ _ _ _ _ x _ _ _ _ _ c.in-Some.ensures.cases.0 c.put_line.ensures.long
-    (c.loop-line.invariant.told x is) c.put_line.ensures.moments y now c.put_line.ensures.others m
+    (c.loop-line.invariant.told x is) c.put_line.ensures.moments y now c.put_line.ensures.others m)
 
 pub returns-in_err-put_line-clause-inside : goal.returns-in_err-put_line-clause-inside
 returns-in_err-put_line-clause-inside g c =
