@@ -1,4 +1,4 @@
-use Rattle.std.proofs.Common.{◌≡◌, ◌<◌, ◌≤◌, All, [], false, length, vec_capacity, vec_len}
+use Rattle.std.proofs.Common.{◌≡◌, ◌<◌, ◌≤◌, All, false, length, vec_capacity, vec_len}
 use Rattle.sdr_core.specs.Numbers.{numbers_done}
 use Rattle.sdr_daemon.specs.Coming.{is_over}
 use Rattle.sdr_daemon.proofs.running.first_of_all.Given as goal

@@ -1,5 +1,5 @@
-use Rattle.std.proofs.Common.{◌<◌, List, subst}
-use Rattle.std.specs.Prelude.{All, length}
+use Rattle.std.proofs.Common.{◌<◌, subst}
+use Rattle.std.specs.Prelude.{All}
 use Rattle.sdr_model.specs.declared.journal.Entry.{Entry}
 use Rattle.sdr_turn.specs.Seats.{Seated}
 use Rattle.sdr_daemon.proofs.AtLockLemmas.{places_below}

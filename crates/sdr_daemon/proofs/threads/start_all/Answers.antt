@@ -1,9 +1,9 @@
-use Rattle.std.proofs.Common.{◌≡◌, ◌∙◌, ◌<◌, ℕ, List, false, sym, subst, arith}
+use Rattle.std.proofs.Common.{◌≡◌, ◌∙◌, ◌<◌, false, sym, subst, arith}
 use Rattle.std.specs.Prelude.{All, length}
 use Rattle.std.proofs.lemmas.List.Elements.{All-pop, All-push}
 use Rattle.sdr_model.specs.declared.journal.Entry.{Entry}
 use Rattle.sdr_turn.specs.Seats.{Seated, IsNewSeat}
-use Rattle.sdr_daemon.specs.AtLock.{AreBeforeTurns, IsAtLock}
+use Rattle.sdr_daemon.specs.AtLock.{IsAtLock}
 use Rattle.sdr_daemon.specs.Coming.{is_over}
 use Rattle.sdr_daemon.specs.declared.at_lock.SeatedDaemon.{SeatedDaemon}
 use Rattle.sdr_daemon.specs.declared.coming.Coming.{Coming}
