@@ -1,5 +1,5 @@
 -- What a daemon does next.
-use Rattle.std.proofs.Common.{◌≡◌, ◌∙◌, ◌<◌, ◌≤◌, ◌+◌, ◌^◌, ◌||◌, ℕ, suc, zero, List, [], ◌∷◌, Bool, true, false, true≢false, None, Some, arith, refl, sym, ap}
+use Rattle.std.proofs.Common.{◌≡◌, ◌∙◌, ◌<◌, ◌+◌, ◌^◌, ◌||◌, ℕ, suc, zero, List, [], ◌∷◌, Bool, true, false, true≢false, None, Some, arith, refl, sym, ap}
 use Rattle.std.proofs.lemmas.Bool.Decides.{nat_tests}
 use Rattle.std.specs.Option.{option_map_or}
 use Rattle.std.specs.Prelude.{if◌then◌else◌, is_some, length, nat_le, slice_get, slice_index_or}
@@ -23,35 +23,17 @@ use Rattle.sdr_daemon.specs.declared.script_place.ScriptPlace.{ScriptPlace}
 leaves_at_once : (r : Roll) (script : List ScriptStep) (s : ScriptPlace) → leaves_early r s ≡ true → LeavesNext r script s
 leaves_at_once r script s early = ap (λ b. if b then comings.Comes s.daemon 0 else coming_with s (steps_ahead script s.daemon s.place)) early
 
--- it leaves where the disk has failed
-pub leaves_failed : (r : Roll) (script : List ScriptStep) (s : ScriptPlace) → is_some r.failed ≡ true → LeavesNext r script s
-leaves_failed r script s failed = leaves_at_once r script s (ap (λ b. b || is_some s.leaving || nat_le (2 ^ 40) (s.drawn + 1)) failed)
-
--- where it means to
+-- it leaves where it means to
 pub leaves_meant : (r : Roll) (script : List ScriptStep) (s : ScriptPlace) (leave : Leave) → s.leaving ≡ Some leave → LeavesNext r script s
 leaves_meant r script s leave meant =
     leaves_at_once r script s
     (ap (λ o. is_some r.failed || is_some o || nat_le (2 ^ 40) (s.drawn + 1)) meant ∙ ap (λ b. b || nat_le (2 ^ 40) (s.drawn + 1)) (or_true (is_some r.failed)))
 
--- where its numbers are spent
-pub leaves_spent : (r : Roll) (script : List ScriptStep) (s : ScriptPlace) → 2 ^ 40 ≤ s.drawn + 1 → LeavesNext r script s
-leaves_spent r script s spent =
-    let is : nat_le (2 ^ 40) (s.drawn + 1) ≡ true = grind (arith, nat_tests) in
-    leaves_at_once r script s (ap (λ b. is_some r.failed || is_some s.leaving || b) is ∙ or_true (is_some r.failed || is_some s.leaving))
-
--- behind its last line
-pub leaves_done : (r : Roll) (script : List ScriptStep) (s : ScriptPlace) → steps_ahead script s.daemon s.place ≡ [] → LeavesNext r script s
-leaves_done r script s none = ap (λ l. if leaves_early r s then comings.Comes s.daemon 0 else coming_with s l) none ∙ same (leaves_early r s)
-  where
-    same : (b : Bool) → (if b then comings.Comes s.daemon 0 else comings.Comes s.daemon 0) ≡ comings.Comes s.daemon 0
-    same true = refl
-    same false = refl
-
 -- what a daemon does with a line ahead that is refused outside a transaction, or isn't
 abbrev pub with_line : ScriptPlace → ScriptStep → Bool → Coming
 with_line s step refused = if refused then comings.Passes else comings.Comes s.daemon step.line
 
--- else its next line comes
+-- where nothing makes it leave, its next line comes
 pub comes_with : (r : Roll) (script : List ScriptStep) (s : ScriptPlace) (step : ScriptStep) (rest : List ScriptStep) → r.failed ≡ None → s.leaving ≡ None → s.drawn + 1 < 2 ^ 40
     → steps_ahead script s.daemon s.place ≡ step ∷ rest → coming_of r script s ≡ with_line s step (is_refused_outside (event_of s.names step))
 comes_with r script s step rest sound stays few ahead =
@@ -68,12 +50,7 @@ module _ (r : Roll) (script : List ScriptStep) (s : ScriptPlace) (step : ScriptS
   pub passes_by : is_refused_outside event ≡ true → coming_of r script s ≡ comings.Passes
   passes_by passes = by_event ∙ ap (with_line s step) passes
 
--- an event is refused outside a transaction where it is neither a begin nor a look
-pub refused_if : (event : Event) → is_begin_or_look event ≡ false → is_refused_outside event ≡ true
-refused_if events.Begin isnt = absurd (true≢false isnt)
-refused_if (events.Look ticket) isnt = absurd (true≢false isnt)
-refused_if event isnt = refl
-
+-- a begin or a look is not refused outside a transaction
 pub comes_if : (event : Event) → is_begin_or_look event ≡ true → is_refused_outside event ≡ false
 comes_if events.Begin is = refl
 comes_if (events.Look ticket) is = refl
@@ -139,9 +116,3 @@ gone_as gone next (s ∷ these) (suc place) left = gone_as gone next these place
 pub nothing_comes : {T : Type 0} (script : List ScriptStep) (place : ℕ) (v : ScriptedCore T) → is_gone place v ≡ true → coming_at script place v ≡ comings.Gone
 nothing_comes script place v left =
     gone_as (λ (s : ScriptPlace). has_left v.core.lock.roll s.daemon) (coming_of v.core.lock.roll script) v.progress place left
-
--- what comes is a begin where it is a begin or a look, but no look
-pub begins_else : (event : Event) → is_begin_or_look event ≡ true → ((ticket : ℕ) → event ≡ events.Look ticket → ⊥) → event ≡ events.Begin
-begins_else events.Begin is other = refl
-begins_else (events.Look ticket) is other = absurd (other ticket refl)
-begins_else event is other = absurd (true≢false (sym is))

@@ -1,8 +1,8 @@
 //! Daemons that run their scripts at one lock, each in a thread of its own.
 //!
-//! 1. A turn of a daemon is what it does while it holds the lock once: a line that is passed over, a transaction from its begin to its
-//!    close, one look, or its leave. It draws at most one lock number, and adds at most one entry, of that number. A line that is passed
-//!    over draws none, so turns are not counted by lock numbers here.
+//! 1. A turn of a daemon is a line that is passed over, a transaction from its begin to its close, one look, or its leave. It draws at most
+//!    one lock number, and adds at most one entry, of that number. A line that is passed over draws none. While a daemon holds the lock once
+//!    it takes turns up to the one that draws the number, and passes over lines behind that.
 //! 2. A leave closes the transaction that is open: that is one turn, and the leave's own entry comes in the next.
 //! 3. A look at a ticket that waits is made again in the daemon's next turn. It adds an entry once.
 //! 4. `ScriptedRun` is a core with the progress of its daemons. Its type keeps that the journal keeps to the lines that are done.
