@@ -79,10 +79,10 @@ fn readers_see_the_totals_of_first_entries(rt: HostRuntime) -> Result<(), Fail> 
         start: Instant::now(&rt)?,
         time: Duration::from_secs(1),
     };
-    let Some((tallies, last)) = readers_beside_writer(&rt, rt.alloc(), &bounds) else {
+    let Some((first, second, third, last)) = readers_beside_writer(&rt, rt.alloc(), &bounds) else {
         panic!(rt; "no memory")
     };
-    for tally in tallies {
+    for tally in [first, second, third] {
         assert_eq!(rt; tally.wrong, None);
         assert!(rt; tally.reads >= 1);
     }

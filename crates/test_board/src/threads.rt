@@ -155,7 +155,7 @@ pub fn readers_beside_writer<R: Threads + Clock + Sync>(
     rt: &R,
     alloc: Global,
     bounds: &Bounds,
-) -> Option<([Tally; 3], Totals)> {
+) -> Option<(Tally, Tally, Tally, Totals)> {
     let Ok((board, mut writer, one)) = Board::new(alloc) else {
         return None;
     };
@@ -174,5 +174,5 @@ pub fn readers_beside_writer<R: Threads + Clock + Sync>(
     );
     let mut writer = writer?;
     let mut last = board.split(&mut writer);
-    Some(([first, second, third], board.read(&mut last)))
+    Some((first, second, third, board.read(&mut last)))
 }
