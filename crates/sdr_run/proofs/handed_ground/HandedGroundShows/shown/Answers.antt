@@ -1,6 +1,6 @@
 use Rattle.std.proofs.Common.{subst, sym}
 use Rattle.sdr_station.specs.Grounded.{Grounded, StandsInMemory}
-use Rattle.sdr_run.proofs.handed_ground.HandedGroundTells.shown.Goals as goal
+use Rattle.sdr_run.proofs.handed_ground.HandedGroundShows.shown.Goals as goal
 
 pub returns : goal.returns
 returns g c v at =
