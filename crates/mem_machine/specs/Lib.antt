@@ -1,5 +1,4 @@
-pub mod Asking
-pub mod Bare
-pub mod CodedPlain
-pub mod Leaves
+pub mod Answering
+pub mod Memory
+pub mod MemoryRun
 pub mod Plain

@@ -4,23 +4,27 @@ use Rattle.std.proofs.lemmas.Bool.Decides.{nat_tests}
 use Rattle.std.proofs.lemmas.List.{length-map, take_all}
 use Rattle.std.proofs.lemmas.List.Filters.{length-filter_both}
 use Rattle.std.specs.Option.{option_map_or, option_and_then}
+use Rattle.std.specs.Prelude.{if◌then◌else◌}
 use Rattle.sdr_base.specs.Media.{Told}
+use Rattle.sdr_model.specs.declared.event.Event.{Event}
 use Rattle.sdr_model.specs.declared.event.Event.TheVariants as events
 use Rattle.sdr_model.specs.declared.event.Leave.{Leave}
 use Rattle.sdr_machine.specs.Core.{Core}
 use Rattle.sdr_machine.specs.Lapses.{Lapses, LapsesLast}
-use Rattle.sdr_machine.specs.Holders.{HoldFirst, holders}
+use Rattle.sdr_machine.specs.Holders.{HoldFirst, hold_none, holders}
 use Rattle.sdr_machine.specs.Leaving.{AllLeave, HoldersLeave, LeaveInTurn, MakesLeave, holds_number, served_daemon, staying}
-use Rattle.sdr_machine.specs.Machine.{MachineStep}
-use Rattle.sdr_machine.specs.Roll.{MayDraw, Roll, daemon_of, held_by, served_number}
+use Rattle.sdr_machine.specs.Machine.{Machine, Made, MachineStep, roll_acting, roll_coming, roll_failed, roll_holding}
+use Rattle.sdr_machine.specs.Roll.{MayDraw, Roll, after_leave, daemon_of, held_by, served_number, with_daemon, with_drawn, with_number}
 use Rattle.sdr_machine.specs.declared.came.Came.{Came}
 use Rattle.sdr_machine.specs.declared.daemon.Daemon.{Daemon}
 use Rattle.sdr_machine.specs.declared.daemon.Holding.{Holding}
 use Rattle.sdr_machine.proofs.GroundLemmas.{lapses_same}
 use Rattle.sdr_machine.proofs.HolderLemmas.{IsFirst, find_first, put_fewer, put_length, served_holds}
+use Rattle.sdr_machine.proofs.HolderSteps.{leave_none}
+use Rattle.sdr_machine.proofs.StepLemmas.{from_option}
 use Rattle.sdr_machine.proofs.WorkLemmas.{on_some}
 use Rattle.sdr_core.proofs.LeaveLemmas.{LeaveIs, leave_is}
-use Rattle.sdr_core.specs.Going.{GoesUnasked, HasCome, MakesNext, NextCore}
+use Rattle.sdr_core.specs.Going.{GoesUnasked, HasCome, LeavesNone, MakesNext, NextCore}
 use Rattle.sdr_core.specs.declared.has_run.HasRun.{Ghosts}
 
 -- counts that didn't fall, and then didn't
@@ -55,6 +59,45 @@ module _ (r : Roll) (d : Daemon) (may : HoldFirst [] r.daemons) (served : served
     where
       turn : (b : Bool) → (h.number == served_number r) ≡ true → (served_number r == h.number) ≡ true
       turn b is = grind (arith, nat_tests)
+
+-- where the disk has failed, an event leaves it so
+failed_coming : (r : Roll) (d : Daemon) (event : Event) → (roll_coming r d event).failed ≡ r.failed
+failed_coming r d events.Request = refl
+failed_coming r d (events.Leaves leave) = by (served_number r == 0)
+  where
+    by : (b : Bool) → (if b then with_daemon (with_drawn r) (after_leave d) else with_number r d 0).failed ≡ r.failed
+    by true = refl
+    by false = refl
+failed_coming r d event = refl
+
+failed_holding : (r : Roll) (d : Daemon) (h : Holding) (event : Event) → (roll_holding r d h event).failed ≡ r.failed
+failed_holding r d h (events.Leaves leave) = by (served_number r == h.number)
+  where
+    by : (b : Bool) → (if b then with_daemon r (after_leave d) else r).failed ≡ r.failed
+    by true = refl
+    by false = refl
+failed_holding r d h event = refl
+
+failed_same : (r : Roll) (daemon : ℕ) (event : Event) → (roll_failed r daemon event).failed ≡ r.failed
+failed_same r daemon event = by_daemon (daemon_of r daemon)
+  where
+    by_holding : (d : Daemon) (o : Option Holding) → (option_map_or (λ (h : Holding). roll_holding r d h event) o (roll_coming r d event)).failed ≡ r.failed
+    by_holding d None = failed_coming r d event
+    by_holding d (Some h) = failed_holding r d h event
+
+    by_left : (d : Daemon) (b : Bool) → (if b then r else option_map_or (λ (h : Holding). roll_holding r d h event) d.holds (roll_coming r d event)).failed ≡ r.failed
+    by_left d true = refl
+    by_left d false = by_holding d d.holds
+
+    by_daemon : (o : Option Daemon) → (option_map_or (λ (d : Daemon). roll_acting r d event) o r).failed ≡ r.failed
+    by_daemon None = refl
+    by_daemon (Some d) = by_left d d.left
+
+-- so unless it has failed, it hadn't before
+sound_before : (m : Machine) (e : Made) (m' : Machine) → MachineStep m e m' → m'.roll.failed ≡ None → m.roll.failed ≡ None
+sound_before m e m' step sound =
+    from_option m.roll.failed step (λ none _. none)
+    (λ moment some goes. sym (failed_same m.roll e.daemon e.said.event) ∙ sym (ap (λ (n : Machine). n.roll.failed) goes.after) ∙ sound)
 
 module _ {R : Type 0} (r : Ghosts R) (leave : Leave) (a : Came) (old new : R) where
   -- a leave that was made
@@ -112,6 +155,24 @@ module _ {R : Type 0} (r : Ghosts R) (leave : Leave) (a : Came) (old new : R) wh
   -- a leave asks no media
   pub unasked : (daemon : ℕ) → MakesNext r daemon 0 (events.Leaves leave) a old new → HasCome r old → r.asks new ≤ r.asks old
   unasked daemon makes come = let few = (makes.each come.core come.here).few in omega (arith, few)
+
+  -- and where no number is held, none is behind it
+  pub leaves_none : (daemon : ℕ) → MakesNext r daemon 0 (events.Leaves leave) a old new → HasCome r old → LeavesNone (r.roll_of old) (r.roll_of new)
+  leaves_none daemon makes come =
+      let c = come.core in
+      let n = makes.each c come.here in
+      let before = r.rolls old c come.here in
+      let after = r.rolls new n.next n.here in
+      let step : MachineStep c.machine n.made n.next.machine =
+      subst (MachineStep c.machine n.made) (sym (ap (λ (x : Core). x.machine) n.step.history)) n.step.step in
+      let sound : (r.roll_of new).failed ≡ None → c.machine.roll.failed ≡ None =
+      λ well. sound_before c.machine n.made n.next.machine step (ap (λ (x : Roll). x.failed) after ∙ well) in
+      record {
+        sound = λ well. sym (ap (λ (x : Roll). x.failed) before) ∙ sound well;
+        none = λ well none.
+            sym (ap (λ (x : Roll). hold_none x.daemons) after)
+            ∙ leave_none c.machine n.made n.next.machine leave (sound well) (ap (λ (x : Roll). hold_none x.daemons) before ∙ none) n.event_is step;
+      }
 
   -- one leaves, and then the others
   pub holders_more : (d : Daemon) (next : R) → served_daemon (r.roll_of old) ≡ Some d → MakesNext r d.id 0 (events.Leaves leave) a old new → r.asks new ≤ r.asks old

@@ -1,9 +1,11 @@
 -- A run that goes on event by event: what an event and the leaves at the end make of it.
-use Rattle.std.specs.Prelude.{◌≡◌, ◌≤◌, ◌+◌, ℕ, List}
+use Rattle.std.specs.Prelude.{◌≡◌, ◌≤◌, ◌+◌, ℕ, List, None, true}
 use Rattle.sdr_machine.specs.Asked.{outside_asked}
 use Rattle.sdr_machine.specs.Core.{Core, CoreStep}
+use Rattle.sdr_machine.specs.Holders.{hold_none}
 use Rattle.sdr_machine.specs.Lapses.{HasLapseCause, LapsesLast}
 use Rattle.sdr_machine.specs.Machine.{Made}
+use Rattle.sdr_machine.specs.Roll.{Roll}
 use Rattle.sdr_machine.specs.declared.came.Came.{Came}
 use Rattle.sdr_model.specs.declared.event.Event.{Event}
 use Rattle.sdr_core.specs.Caused.{SeenMedia}
@@ -41,6 +43,11 @@ pub record MakesNext {R : Type 0} (r : Ghosts R) (daemon line : ℕ) (event : Ev
   pub gap : HasLapseCause a.answer (r.lapses old) (r.lapses new)
   pub drawn : (r.roll_of new).drawn ≤ (r.roll_of old).drawn + 1
   pub lasts : r.lasts new
+
+-- Unless the disk has failed, it hadn't before, and no number is held if none was.
+pub record LeavesNone (old new : Roll) : Type 0 where
+  pub sound : new.failed ≡ None → old.failed ≡ None
+  pub none : new.failed ≡ None → hold_none old.daemons ≡ true → hold_none new.daemons ≡ true
 
 -- some events were made, of which P tells, by which the run has come to a core
 pub record ComesBy {R : Type 0} (r : Ghosts R) (P : List Made → Core → Type 0) (new : R) : Type 0 where

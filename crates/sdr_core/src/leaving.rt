@@ -1,9 +1,9 @@
 // The leaves at the end of a run.
-ghost use Rattle.std.specs.Prelude.{◌≡◌, ◌≤◌, ◌+◌, ◌*◌, ◌^◌, ◌++◌, filter, length, map, not, take};
-ghost use Rattle.sdr_machine.specs.Holders.{holders};
+ghost use Rattle.std.specs.Prelude.{◌≡◌, ◌≤◌, ◌+◌, ◌*◌, ◌^◌, ◌++◌, None, filter, length, map, not, take, true};
+ghost use Rattle.sdr_machine.specs.Holders.{hold_none, holders};
 ghost use Rattle.sdr_machine.specs.Leaving.{AllLeave, HoldersLeave, LeaveInTurn};
 ghost use Rattle.sdr_machine.specs.Roll.{MayDraw, held_by};
-ghost use Rattle.sdr_core.specs.Going.{GoesUnasked, MakesNext};
+ghost use Rattle.sdr_core.specs.Going.{GoesUnasked, LeavesNone, MakesNext};
 ghost use Rattle.sdr_core.specs.Leaving.{LastsOn, RunLeads};
 
 use crate::{Core, Origin, Runs};
@@ -40,6 +40,7 @@ fn make_leave<R: Runs>(run: &mut R, daemon: u8, leave: Leave) -> Came
     requires lasts { R.lasts run.old }
     ensures makes { MakesNext R.HasRun daemon 0 (Event.Leaves leave) result run.old run.new }
     ensures asks { R.asks run.new ≤ R.asks run.old }
+    ensures none { LeavesNone (R.roll_of run.old) (R.roll_of run.new) }
 {
     run.roll();
     let Ok(came) = run.event(daemon, 0, &Event::Leaves(leave)) else {
@@ -53,6 +54,7 @@ fn holders_leave<R: Runs>(run: &mut R, leave: Leave)
     requires lasts { R.lasts run.old }
     ensures left { GoesUnasked R.HasRun (HoldersLeave (R.told run.old) leave) run.old run.new }
     ensures lasts { R.lasts run.new }
+    ensures none { hold_none (R.roll_of run.new).daemons ≡ true }
     ensures daemons { length (R.roll_of run.new).daemons ≡ length (R.roll_of run.old).daemons }
     ensures drawn { (R.roll_of run.new).drawn ≤ (R.roll_of run.old).drawn
         + holders (R.roll_of run.old).daemons }
@@ -69,6 +71,8 @@ fn leave_in_turn<R: Runs>(run: &mut R, daemons: &[u8], leave: Leave)
     requires drawn { (R.roll_of run.old).drawn + length daemons.now ≤ 2 ^ 60 }
     ensures left { GoesUnasked R.HasRun (LeaveInTurn (R.told run.old) leave daemons.now)
         run.old run.new }
+    ensures none { LeavesNone (R.roll_of run.old) (R.roll_of run.new) }
+    ensures drawn { (R.roll_of run.new).drawn ≤ (R.roll_of run.old).drawn + length daemons.now }
 {
     match daemons {
         [] => (),
@@ -80,11 +84,15 @@ fn leave_in_turn<R: Runs>(run: &mut R, daemons: &[u8], leave: Leave)
 }
 
 /// Makes the leaves at the end of a schedule: the daemons that hold a number make one, in lock order, and then those that
-/// haven't left yet do, in their order. It takes no memory, and asks no media.
+/// haven't left yet do, in their order. It takes no memory, and asks no media. Unless the disk has failed, no number is held then.
 pub fn leave_all<R: Runs>(run: &mut R, leave: Leave)
     requires lasts { R.lasts run.old }
     requires drawn { (R.roll_of run.old).drawn + 2 * length (R.roll_of run.old).daemons ≤ 2 ^ 60 }
     ensures left { GoesUnasked R.HasRun (AllLeave (R.told run.old) leave) run.old run.new }
+    ensures none { (R.roll_of run.new).failed ≡ None →
+        hold_none (R.roll_of run.new).daemons ≡ true }
+    ensures drawn { (R.roll_of run.new).drawn ≤ (R.roll_of run.old).drawn
+        + 2 * length (R.roll_of run.old).daemons }
 {
     holders_leave(run, leave);
     let mut ids = [0u8; MOST_DAEMONS];

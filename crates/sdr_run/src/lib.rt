@@ -26,17 +26,21 @@
 #![tactic(auto)]
 
 mod daemons;
+mod drying;
 mod handed;
 mod handed_ground;
 mod opening;
 mod playing;
+mod recording;
 mod replaying;
-mod running;
 mod sending;
+mod steps;
 
 pub use daemons::run_daemons;
 pub use handed::{Handed, HandedIn};
-pub use playing::{Ran, play};
+pub use drying::{DryRun, dry};
+pub use playing::{Played, play};
+pub use recording::{Ran, play_recorded};
 pub use replaying::replay;
-pub use running::{RunError, daemons_of, run};
 pub use sending::handed_is_send;
+pub use steps::{ScriptSteps, Steps, daemons_of};

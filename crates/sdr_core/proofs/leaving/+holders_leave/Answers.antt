@@ -1,4 +1,5 @@
 use Rattle.std.proofs.Common.{◌≡◌, ◌∙◌, None, Some, arith, subst, sym}
+use Rattle.sdr_machine.proofs.HolderLemmas.{unserved_none}
 use Rattle.sdr_machine.specs.Leaving.{served_daemon}
 use Rattle.sdr_machine.specs.Roll.{Roll}
 use Rattle.sdr_machine.specs.declared.daemon.Daemon.{Daemon}
@@ -49,3 +50,7 @@ pub returns-in_default-clause-left : goal.returns-in_default-clause-left
 returns-in_default-clause-left g t c =
     holders_none g.R.HasRun c.args.leave c.args.run.now
     (subst (λ r. served_daemon r ≡ None) c.roll.ensures.roll (sym c.served.ensures ∙ c.in_default.is))
+
+pub returns-in_default-clause-none : goal.returns-in_default-clause-none
+returns-in_default-clause-none g t c =
+    unserved_none (g.R.HasRun.roll_of c.args.run.now) (subst (λ r. served_daemon r ≡ None) c.roll.ensures.roll (sym c.served.ensures ∙ c.in_default.is))

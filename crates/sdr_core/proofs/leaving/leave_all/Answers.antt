@@ -39,4 +39,15 @@ returns g c =
       left = all_leave g.R.HasRun told c.args.leave run mid next c.holders_leave.ensures.left
           (subst (λ t. GoesUnasked g.R.HasRun (LeaveInTurn t c.args.leave staying_then) mid next) c.holders_leave.ensures.left.told
           (subst (λ (ds : List ℕ). GoesUnasked g.R.HasRun (LeaveInTurn (g.R.HasRun.told mid) c.args.leave ds) mid next) (items g c.before) c.leave_in_turn.ensures.left));
+      none = λ well. c.leave_in_turn.ensures.none.none well c.holders_leave.ensures.none;
+      drawn =
+          omega (
+            arith,
+            c.leave_in_turn.ensures.drawn,
+            c.holders_leave.ensures.drawn,
+            c.holders_leave.ensures.daemons,
+            holders_few (g.R.HasRun.roll_of run).daemons,
+            ap length (items g c.before),
+            staying_few (g.R.HasRun.roll_of mid),
+          );
     }
