@@ -1,7 +1,8 @@
 mod GreetingExample
-pub mod GapLemmas
+pub mod DryLemmas
 pub mod ScheduleLemmas
 pub mod PlayingLemmas
+pub mod RecordingLemmas
 pub mod HandedLemmas
 pub mod SettledLemmas
 pub mod ReplayingLemmas

@@ -21,5 +21,5 @@ returns-in-Ok-play-clause-ran g c =
     let seen : g.row.K.Denot → Output = output g.K.Sink.taken g.K.Sink.faults in
     let w = c.with_parts.ensures in
     replayed g.D.Disk g.M.Media c.args.disk c.args.media c.args.script.now c.in-Ok.base g.J.HandedIn.condition
-    c.requires.settled c.in-Ok.ensures.opened g.J.HandedIn.was c.requires.handed (seen c.args.out.now) (seen c.play.new.out) c.in-Ok-play.ran
+    c.requires.settled c.in-Ok.ensures.opened g.J.HandedIn.was c.requires.handed (seen c.args.out.now) (seen c.play.new.out) c.in-Ok-play_recorded.ran
     c.with_parts.result c.in-Ok-play.ensures.ran w.same w.disk w.size w.stays w.seen w.media
