@@ -1,5 +1,5 @@
 -- Events of a run on a world in memory.
-use Rattle.std.proofs.Common.{◌≡◌, ◌∙◌, ◌≤◌, ◌+◌, ℕ, List, [], ◌∷◌, Bool, true, false, true≢false, Option, None, Some, length, if◌then◌else◌, map, refl, sym, ap, subst, arith}
+use Rattle.std.proofs.Common.{◌≡◌, ◌∙◌, ◌≤◌, ◌+◌, ℕ, List, [], ◌∷◌, Bool, true, false, true≢false, Option, None, Some, Result, Ok, Err, IfOk, OnOk, OnErr, length, if◌then◌else◌, map, refl, sym, ap, subst, arith}
 use Rattle.std.proofs.lemmas.List.{length-map}
 use Rattle.sdr_base.specs.Media.{Told}
 use Rattle.sdr_base.specs.declared.media.Media.{Ghosts as MediaGhosts}
@@ -151,6 +151,22 @@ next_of media daemon line event a old new responds gap told lapses drawn needs =
   drawn = drawn;
   lasts = tt;
 }
+
+-- so it is of what came of one
+pub next_all : {M E : Type 0} (media : MediaGhosts M) (daemon line : ℕ) (event : Event) (old new : MemoryRun M) (r : Result Came E)
+    → IfOk r (λ a. Responds (media.told old.media) (machine_of old) daemon event a (machine_of new))
+    → IfOk r (λ a. HasLapseCause a.answer (lapses_of media old.media) (lapses_of media new.media))
+    → media.told new.media ≡ media.told old.media → LapsesLast (lapses_of media old.media) (lapses_of media new.media)
+    → OnOk r (new.roll.drawn ≤ old.roll.drawn + 1) → OnOk r (media.asks new.media ≤ media.asks old.media + outside_asked (machine_of old) daemon event)
+    → IfOk r (λ a. MakesNext (memory_run media) daemon line event a old new)
+next_all media daemon line event old new (Ok a) responds gap told lapses drawn needs = next_of media daemon line event a old new responds gap told lapses drawn needs
+next_all media daemon line event old new (Err e) responds gap told lapses drawn needs = tt
+
+-- what a lock has come to by it is kept
+pub kept_of : {M E : Type 0} (media : MediaGhosts M) (old new : Locked (InMemory M)) (daemon : ℕ) (event : Event) {k : MemoryRun M} (r : Result Came E)
+    → IfOk r (λ a. Answered media k (run_of new) daemon event a) → OnErr r (new ≡ old) → IsKept old.roll → IsKept new.roll
+kept_of media old new daemon event (Ok a) answered same kept = answered.kept
+kept_of {M} media old new daemon event (Err e) answered same kept = subst (λ (l : Locked (InMemory M)). IsKept l.roll) (sym same) kept
 
 -- a leave agrees with whatever media tell
 agrees_leaving : (told : Option Told) (w : World) (leave : Leave) (a : Answer) (bytes : List ℕ) → AgreesWith told w (events.Leaves leave) a bytes

@@ -1,8 +1,11 @@
 -- A dry run, and what is promised of it.
-use Rattle.std.proofs.Common.{◌≡◌, List, true, false, refl, subst}
+use Rattle.std.proofs.Common.{◌≡◌, ◌≤◌, ◌+◌, ℕ, List, [], true, false, true≢false, Option, refl, subst, arith}
+use Rattle.std.proofs.KnownBytes.{Appends-nil}
 use Rattle.std.specs.Io.KnownBytes.{Appends}
+use Rattle.sdr_base.specs.Media.{Told}
 use Rattle.sdr_base.specs.declared.media.Media.{Ghosts as MediaGhosts}
-use Rattle.sdr_core.specs.Caused.{media_change}
+use Rattle.sdr_core.proofs.CausedLemmas.{failed_refl}
+use Rattle.sdr_core.specs.Caused.{MediaChange, SeenMedia, from_to, media_change}
 use Rattle.sdr_machine.specs.Core.{first_core}
 use Rattle.sdr_machine.specs.Ground.{bare}
 use Rattle.sdr_model.specs.World.{empty_world}
@@ -60,3 +63,43 @@ module _ {M : Type 0} (m : MediaGhosts M) (script : List ScriptStep) (files : M)
   -- so often media were asked
   pub asks_of : AsksAlong (m.told files) script (m.asks files) (m.asks ran.media) out out' ran.played
   asks_of = record { rest = dry.rest; made = dry.made; core = dry.core; run = dry.run; printed = dry.printed; asks = dry.asks }
+
+-- what else holds of what a run has left and has printed
+pub some_weaker : (media : MediaChange) (script : List ScriptStep) (P Q : List ScriptStep → List ℕ → Type 0)
+    → ((rest : List ScriptStep) (text : List ℕ) → P rest text → Q rest text) → SomeRun media script P →
+    SomeRun media script Q
+some_weaker media script P Q more r = record {
+  rest = r.rest;
+  made = r.made;
+  core = r.core;
+  run = r.run;
+  caused = r.caused;
+  printed = more r.rest (run_text r.made) r.printed;
+}
+
+-- no step was made
+none_run : (told : Option Told) (script : List ScriptStep) → RunsDry told script script [] (first_core (daemons_of script) (bare empty_world))
+none_run told script = record { front = []; steps = refl; follows = tt; runs = refl }
+
+-- and nothing was printed
+pub some_none : (media : SeenMedia) (script : List ScriptStep) (old : Option (List ℕ)) → SomeRun (from_to media media) script (λ rest text. Appends old old text)
+some_none media script old = record {
+  rest = script;
+  made = [];
+  core = first_core (daemons_of script) (bare empty_world);
+  run = none_run media.told script;
+  caused = failed_refl media;
+  printed = Appends-nil old;
+}
+
+-- nor were media asked
+pub asks_none : (told : Option Told) (script : List ScriptStep) (asked : ℕ) (old : Output)
+    → AsksAlong told script asked asked old old (record { starved = true; printing = true })
+asks_none told script asked old = record {
+  rest = script;
+  made = [];
+  core = first_core (daemons_of script) (bare empty_world);
+  run = none_run told script;
+  printed = (λ fed. absurd (true≢false fed), Appends-nil old.taken);
+  asks = omega arith;
+}

@@ -24,12 +24,13 @@ use Rattle.sdr_model.specs.declared.script.ScriptStep.{ScriptStep}
 use Rattle.sdr_run.specs.Daemons.{RunsDaemons, RunsOn, RunsOnGround}
 use Rattle.sdr_run.specs.Handed.{HandedDisk, StaysAsHanded, handed_as}
 use Rattle.sdr_run.specs.Opening.{OpenedSo}
-use Rattle.sdr_run.specs.Playing.{Output, PlaysOut, RunsScript}
+use Rattle.sdr_run.specs.Playing.{Output}
+use Rattle.sdr_run.specs.Recording.{PlaysOut, RunsScript}
 use Rattle.sdr_run.proofs.HandedLemmas.{open_again, stays_rest}
 use Rattle.sdr_run.proofs.SettledLemmas.{ground_where}
 use Rattle.sdr_run.specs.Replaying.{IsNotRun, IsSettled, LeavesJournal, RanOn, ReplaysOn, begins_on, with_base}
 use Rattle.sdr_run.specs.Settled.{StandsWhere}
-use Rattle.sdr_run.specs.declared.playing.Ran.{Ran}
+use Rattle.sdr_run.specs.declared.recording.Ran.{Ran}
 use Rattle.sdr_station.specs.CrashNow.{crash_now}
 use Rattle.sdr_station.specs.Grounded.{Grounded, Leaves, OpensAs}
 use Rattle.sdr_station.specs.Opening.{IsOpen, first_on}

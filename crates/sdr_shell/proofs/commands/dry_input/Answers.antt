@@ -9,14 +9,14 @@ use Rattle.sdr_core.specs.Caused.{media_change}
 use Rattle.sdr_run.specs.Schedule.{RunsWhole}
 use Rattle.sdr_shell.specs.Answers.{RanAsking, seen}
 use Rattle.sdr_shell.specs.Still.{WritesOut}
-use Rattle.sdr_shell.proofs.commands.dry.Goals as goal
+use Rattle.sdr_shell.proofs.commands.dry_input.Goals as goal
 
 pub returns-in-Ok-clause-done : goal.returns-in-Ok-clause-done
 returns-in-Ok-clause-done g c is = record {
   read = read_to_the_end _ _ _ c.in-Ok.ensures.script;
   script = c.in-Ok.script;
   input = had_script _ _ _ c.in-Ok.ensures.script;
-  run = subst (λ (steps : List ScriptStep). RunsWhole (media_change g.M.Media.told g.M.Media.faults g.M.Media.short c.args.media.now c.run_script.new.media)
+  run = subst (λ (steps : List ScriptStep). RunsWhole (media_change g.M.Media.told g.M.Media.faults g.M.Media.short c.args.media c.run_script.result.1)
       steps (Appends (g.K.Sink.taken c.args.output.now) (g.K.Sink.taken c.run_script.new.output))) c.as_slice.ensures (c.run_script.ensures.done is);
 }
 
@@ -46,8 +46,8 @@ pub returns-in-Ok-clause-asks : goal.returns-in-Ok-clause-asks
 returns-in-Ok-clause-asks g c = inr (record {
   script = c.in-Ok.script;
   input = had_script _ _ _ c.in-Ok.ensures.script;
-  ran = subst (λ (steps : List ScriptStep). RanAsking (g.M.Media.told c.args.media.now) steps (g.M.Media.asks c.args.media.now)
-      (g.M.Media.asks c.run_script.new.media) (seen g.K.Sink.taken g.K.Sink.faults c.args.output.now)
+  ran = subst (λ (steps : List ScriptStep). RanAsking (g.M.Media.told c.args.media) steps (g.M.Media.asks c.args.media)
+      (g.M.Media.asks c.run_script.result.1) (seen g.K.Sink.taken g.K.Sink.faults c.args.output.now)
       (seen g.K.Sink.taken g.K.Sink.faults c.run_script.new.output)) c.as_slice.ensures c.run_script.ensures.asks;
 })
 

@@ -1,0 +1,19 @@
+use Rattle.std.proofs.Common.{ap, arith, inr}
+use Rattle.mem_machine.specs.Plain.{Plain}
+use Rattle.mem_machine.proofs.plain.Plain.event.Goals as goal
+
+pub make-requires-clause-drawn : goal.make-requires-clause-drawn
+make-requires-clause-drawn c =
+    let events = ap (λ (p : Plain). p.events) c.self.view_is in
+    let drawn = c.self.invariant.drawn in
+    inr (omega (arith, c.requires.events, events, drawn))
+
+pub returns-clause-step : goal.returns-clause-step
+returns-clause-step c = λ line. c.in_ok-came.ensures.responds.steps line
+
+pub invariant_of-self-2 : goal.invariant_of-self-2
+invariant_of-self-2 c =
+    let events = ap (λ (p : Plain). p.events) c.self.view_is in
+    let was = c.self.invariant.drawn in
+    let one = c.in_ok-came.ensures.drawn in
+    record { few = omega (arith, c.requires.events, events); drawn = omega (arith, was, one) }

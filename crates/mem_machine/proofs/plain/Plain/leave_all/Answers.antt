@@ -1,0 +1,24 @@
+use Rattle.std.proofs.Common.{ap, arith, length}
+use Rattle.mem_machine.proofs.RunLemmas.{leaves_from}
+use Rattle.mem_machine.specs.Plain.{Plain}
+use Rattle.mem_machine.proofs.plain.Plain.leave_all.Goals as goal
+
+pub leave_all-requires-clause-drawn : goal.leave_all-requires-clause-drawn
+leave_all-requires-clause-drawn c =
+    let events = ap (λ (p : Plain). p.events) c.self.view_is in
+    let drawn = c.self.invariant.drawn in
+    let many = ap (λ (p : Plain). length p.roll.daemons) c.self.view_is in
+    omega (arith, c.requires.events, events, drawn, many)
+
+pub returns-clause-left : goal.returns-clause-left
+returns-clause-left c = leaves_from _ c.args.leave c.self.inside.run c.leave_all.new.run c.leave_all.ensures.left
+
+pub returns-clause-none : goal.returns-clause-none
+returns-clause-none c = c.leave_all.ensures.none c.never_fails.ensures
+
+pub invariant_of-self : goal.invariant_of-self
+invariant_of-self c =
+    let events = ap (λ (p : Plain). p.events) c.self.view_is in
+    let was = c.self.invariant.drawn in
+    let more = c.leave_all.ensures.drawn in
+    record { few = omega (arith, c.requires.events, events); drawn = omega (arith, was, more) }
