@@ -224,6 +224,10 @@ module _ {M : Type 0} (media : MediaGhosts M) (old new : InMemory M) where
         subst (λ (s : State). media.asks new.media ≤ media.asks old.media + outside_needed s.world call) (sym stands.now) needs;
   }
 
+  -- where nothing was done, they weren't
+  pub asks_none : (call : Call) → new ≡ old → CallAsks (memory_ground media) call old new
+  asks_none call same = subst (λ (m : InMemory M). CallAsks (memory_ground media) call old m) (sym same) (record { each = λ v stands. omega arith })
+
   -- what is kept where media were asked
   pub keeps_called : media.told new.media ≡ media.told old.media → media.faults old.media ≤ media.faults new.media → media.short old.media ≤ media.short new.media
       → KeepsGround (memory_ground media) true old new

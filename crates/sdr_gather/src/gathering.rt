@@ -107,11 +107,7 @@ fn add_piece<M: Media>(
 /// Gathers the bytes of pieces, of at most a page together, for which there is room. It takes no memory. Media are asked once
 /// for each piece that lies with them, in order, until the first that fails or gives too few bytes. Each byte is read into
 /// a page, and copied once, to the end of those gathered.
-pub fn gather<M: Media>(
-    media: &mut M,
-    pieces: &[Piece],
-    bytes: &mut Vec<u8>,
-) -> Result<(), Gap>
+pub fn gather<M: Media>(media: &mut M, pieces: &[Piece], bytes: &mut Vec<u8>) -> Result<(), Gap>
     requires page { length (pieces_told pieces.now) ≤ 4096 }
     requires blank { bytes.old.items ≡ [] }
     requires room { 4096 ≤ vec_capacity bytes.old }

@@ -40,8 +40,8 @@ mod sending;
 mod steps;
 
 pub use daemons::run_daemons;
-pub use handed::{Handed, HandedIn};
 pub use drying::{DryRun, dry};
+pub use handed::{Handed, HandedIn};
 pub use playing::{Played, play};
 pub use recording::{Ran, play_recorded};
 pub use replaying::replay;

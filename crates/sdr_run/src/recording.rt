@@ -8,8 +8,8 @@ ghost use Rattle.sdr_run.specs.Playing.{output};
 ghost use Rattle.sdr_run.specs.Recording.{PlaysOut};
 ghost use Rattle.sdr_words.specs.Daemons.{daemons_of};
 
-use crate::playing::{Played, play};
 use crate::Steps;
+use crate::playing::{Played, play};
 use sdr_base::Sink;
 use sdr_core::{Core, Origin};
 use sdr_machine::Tells;
