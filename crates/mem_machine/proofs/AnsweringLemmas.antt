@@ -19,7 +19,7 @@ use Rattle.sdr_model.specs.Pieces.{AsksBytes, AsksPage, asked_addr, asked_count,
 use Rattle.sdr_model.specs.Reading.{reads_media}
 use Rattle.sdr_model.specs.RowMoves.{row_moves}
 use Rattle.sdr_model.specs.Rows.{ByRow}
-use Rattle.sdr_model.specs.Step.{StopsWith, is_answer}
+use Rattle.sdr_model.specs.Step.{StopsWith}
 use Rattle.sdr_model.specs.Steps.{Outcome, Refuses}
 use Rattle.sdr_model.specs.Wire.{GivesBytes, Spells, ToldBytes, headers_part, source_part, trailers_part, wire_part}
 use Rattle.sdr_model.specs.World.{World, block_at, misnamed, refusal_for}

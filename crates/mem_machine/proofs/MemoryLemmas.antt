@@ -18,7 +18,7 @@ use Rattle.sdr_model.proofs.FewLemmas.{few_more}
 use Rattle.sdr_model.proofs.FewSteps.{few_row}
 use Rattle.sdr_model.specs.Accounts.{tickets_of}
 use Rattle.sdr_model.specs.Charges.{left_in, thing_charge}
-use Rattle.sdr_model.specs.Dry.{StepsDry, StopsReading, dry_moves}
+use Rattle.sdr_model.specs.Dry.{StepsDry, dry_moves}
 use Rattle.sdr_model.specs.Few.{most_pieces}
 use Rattle.sdr_model.specs.World.{World, at_rest, empty_world}
 use Rattle.sdr_model.specs.declared.answer.Answer.TheVariants as answers

@@ -1,5 +1,5 @@
 -- Events of a run on a world in memory.
-use Rattle.std.proofs.Common.{◌≡◌, ◌∙◌, ◌≤◌, ◌+◌, ℕ, List, [], ◌∷◌, Bool, true, false, true≢false, Option, None, Some, Result, Ok, Err, IfOk, OnOk, OnErr, length, if◌then◌else◌, map, refl, sym, ap, subst, arith}
+use Rattle.std.proofs.Common.{◌≡◌, ◌∙◌, ◌≤◌, ◌+◌, ℕ, List, [], ◌∷◌, Bool, true, false, true≢false, Option, None, Some, Result, Ok, Err, IfOk, OnOk, OnErr, length, if◌then◌else◌, map, refl, sym, subst, arith}
 use Rattle.std.proofs.lemmas.List.{length-map}
 use Rattle.sdr_base.specs.Media.{Told}
 use Rattle.sdr_base.specs.declared.media.Media.{Ghosts as MediaGhosts}
@@ -14,22 +14,20 @@ use Rattle.sdr_machine.proofs.WorkLemmas.{on_some}
 use Rattle.sdr_machine.specs.Agreeing.{AgreesWith}
 use Rattle.sdr_machine.specs.Asked.{outside_asked}
 use Rattle.sdr_machine.specs.Core.{Core, core_after}
-use Rattle.sdr_machine.specs.Ground.{State}
 use Rattle.sdr_machine.specs.Holders.{HoldFirst}
 use Rattle.sdr_machine.specs.Lapses.{HasLapseCause, LapsesLast}
 use Rattle.sdr_machine.specs.Leaving.{AllLeave, HoldersLeave, LeaveInTurn, MakesLeave, served_daemon, staying}
 use Rattle.sdr_machine.specs.Machine.{Machine, Made, MachineStep}
-use Rattle.sdr_machine.specs.Roll.{Roll, first_roll, newcomer}
+use Rattle.sdr_machine.specs.Roll.{first_roll, newcomer}
 use Rattle.sdr_machine.specs.Serving.{Acts, IsInSomeState, Locked, MakesMachineStep, machine_at, takes_memory}
 use Rattle.sdr_machine.specs.declared.came.Came.{Came}
-use Rattle.sdr_machine.specs.declared.daemon.Daemon.{Daemon}
 use Rattle.sdr_core.specs.Going.{GoesUnasked, MakesNext}
 use Rattle.sdr_core.specs.Logging.{is_leave}
 use Rattle.sdr_core.specs.declared.has_run.HasRun.{Ghosts as RunGhosts}
 use Rattle.mem_machine.proofs.MemoryLemmas.{memory_ground}
 use Rattle.mem_machine.specs.Answering.{lapses_of}
 use Rattle.mem_machine.specs.Memory.{InMemory, StandsBare, Worlds, machine_on, standing_bare}
-use Rattle.mem_machine.specs.MemoryRun.{GivesBytes, IsAt, IsKept, MemoryRun, Responds, StepsAt, bytes_answered, machine_of, made_dry, rolls_at}
+use Rattle.mem_machine.specs.MemoryRun.{GivesBytes, IsAt, IsKept, MemoryRun, Responds, bytes_answered, machine_of, made_dry, rolls_at}
 use Rattle.mem_machine.specs.Plain.{AllLeaveFrom}
 
 -- a run on a world in memory as a run

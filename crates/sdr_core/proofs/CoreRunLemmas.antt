@@ -4,7 +4,6 @@ use Rattle.sdr_machine.specs.Asked.{outside_asked}
 use Rattle.sdr_machine.specs.Core.{Core, CoreStep}
 use Rattle.sdr_machine.specs.Machine.{Made}
 use Rattle.sdr_machine.specs.Serving.{made_by}
-use Rattle.sdr_machine.specs.Standing.{GroundState}
 use Rattle.sdr_machine.specs.declared.came.Came.{Came}
 use Rattle.sdr_machine.specs.declared.has_ground.HasGround.{Ghosts}
 use Rattle.sdr_model.specs.declared.event.Event.{Event}

@@ -16,7 +16,7 @@ use Rattle.sdr_machine.specs.Asked.{is_served, makes_calls, outside_asked, outsi
 use Rattle.sdr_machine.specs.Crash.{LeavesOr}
 use Rattle.sdr_machine.specs.Lapses.{Lapses, HasLapseCause}
 use Rattle.sdr_machine.specs.Machine.{Machine, Made, Goes, Faults, with_roll}
-use Rattle.sdr_machine.specs.Roll.{Roll, daemon_of, served_number, with_drawn, with_fault}
+use Rattle.sdr_machine.specs.Roll.{Roll, served_number, with_drawn, with_fault}
 use Rattle.sdr_machine.specs.Served.{HoldsServed}
 use Rattle.sdr_machine.specs.Serving.{Acts, Asks, Brings, CallAsks, EventAsks, KeepsGround, Locked, MeetsFault, is_disk_fault, is_sight, machine_at, made_by}
 use Rattle.sdr_machine.specs.Standing.{GroundState, standing_at}

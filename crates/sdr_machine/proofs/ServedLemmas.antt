@@ -1,5 +1,5 @@
 -- What an event leaves of a ground that is ready for the roll of its lock.
-use Rattle.std.proofs.Common.{◌≡◌, ◌≤◌, ◌<◌, ◌∙◌, ◌==◌, ◌+◌, ◌-◌, ℕ, List, [], ◌∷◌, Bool, true, false, true≢false, Option, None, Some, is_some, arith, cond, map, nat_le, refl, sym, ap, subst}
+use Rattle.std.proofs.Common.{◌≡◌, ◌≤◌, ◌<◌, ◌∙◌, ◌==◌, ◌+◌, ◌-◌, ℕ, List, [], ◌∷◌, Bool, true, false, true≢false, Option, None, Some, is_some, arith, map, nat_le, refl, sym, ap, subst}
 use Rattle.std.proofs.lemmas.Bool.Decides.{nat_tests}
 use Rattle.std.specs.Option.{option_map_or}
 use Rattle.std.specs.Prelude.{if◌then◌else◌}
@@ -25,8 +25,7 @@ use Rattle.sdr_machine.specs.declared.daemon.Daemon.{Daemon}
 use Rattle.sdr_machine.specs.declared.daemon.Holding.{Holding}
 use Rattle.sdr_machine.specs.declared.has_ground.HasGround.{Ghosts}
 use Rattle.sdr_machine.specs.declared.nesting.Nesting.{Nesting}
-use Rattle.sdr_machine.proofs.RollLemmas.{among, contrary, each_also, each_found, each_newcomer, each_put, found_put, least_put, least_stays, least_within, number_held, number_same, other_put, put_here, put_later, same_number}
-use Rattle.sdr_machine.proofs.WorkLemmas.{found_id}
+use Rattle.sdr_machine.proofs.RollLemmas.{among, contrary, each_also, each_found, each_newcomer, each_put, found_put, least_put, least_stays, least_within, number_held, number_same, other_put, same_number}
 
 -- where a daemon is put in its place, each is that one or was there before
 pub by_daemon : (ds : List Daemon) (d x : Daemon) → among d.id ds ≡ Some x → (P : ℕ → Daemon → Type 0) → P d.id d

@@ -4,26 +4,23 @@ use Rattle.std.proofs.KnownBytes.{Appends-nil, Appends-trans}
 use Rattle.std.specs.Io.KnownBytes.{Appends}
 use Rattle.sdr_base.proofs.WrittenLemmas.{rose_later}
 use Rattle.sdr_base.specs.Causes.{Rose}
-use Rattle.sdr_base.specs.Media.{Told}
 use Rattle.sdr_base.specs.Written.{AppendsPart}
 use Rattle.sdr_core.specs.CoreKept.{RunStart, LoggedLock}
-use Rattle.sdr_core.specs.Going.{GoesUnasked, MakesNext, NextCore, media_of}
+use Rattle.sdr_core.specs.Going.{GoesUnasked, NextCore, media_of}
 use Rattle.sdr_core.specs.Leaving.{LastsOn}
 use Rattle.sdr_core.specs.declared.has_run.HasRun.{Ghosts as RunGhosts}
 use Rattle.sdr_daemon.specs.Progressing.{IsFresh}
 use Rattle.sdr_core.proofs.CausedLemmas.{caused_by, caused_later, caused_more, failed_refl, stayed_by}
 use Rattle.sdr_run.proofs.ScheduleLemmas.{bindings_after-push, follows-push, outside_along-push, run_text-push, runs-push}
-use Rattle.sdr_core.specs.Caused.{AreCaused, IsCaused, from_to}
-use Rattle.sdr_run.specs.Needing.{outside_along}
+use Rattle.sdr_core.specs.Caused.{IsCaused, from_to}
 use Rattle.sdr_run.specs.Schedule.{MakesEvent, bindings_after, run_text}
 use Rattle.sdr_machine.specs.Asked.{outside_asked}
-use Rattle.sdr_machine.specs.Core.{Core, CoreStep, RunsCore}
+use Rattle.sdr_machine.specs.Core.{Core, CoreStep}
 use Rattle.sdr_machine.specs.Leaving.{AllLeave}
 use Rattle.sdr_machine.specs.Machine.{Made}
 use Rattle.sdr_machine.specs.Roll.{first_roll}
 use Rattle.sdr_machine.specs.declared.has_ground.HasGround.{Ghosts}
 use Rattle.sdr_model.specs.declared.answer.Answer.{Answer}
-use Rattle.sdr_model.specs.declared.event.Event.{Event}
 use Rattle.sdr_model.specs.declared.script.ScriptStep.{ScriptStep}
 use Rattle.sdr_run.specs.Playing.{IsPrinted, Output, Plays, PrintsMore, leave_of}
 use Rattle.sdr_run.specs.Running.{AnswersStep, HasMade, HasRun, Running}

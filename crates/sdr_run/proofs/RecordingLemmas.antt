@@ -2,7 +2,7 @@
 use Rattle.std.proofs.Common.{◌≡◌, ◌∙◌, List, [], ℕ, Bool, not, refl, sym, ap, subst}
 use Rattle.sdr_core.proofs.CoreRunLemmas.{core_run}
 use Rattle.sdr_core.specs.Caused.{AreCaused, from_to, media_on}
-use Rattle.sdr_core.specs.CoreKept.{BeginsOn, IsRunOf, LoggedLock, RunStart, core_at}
+use Rattle.sdr_core.specs.CoreKept.{BeginsOn, IsRunOf, LoggedLock, RunStart}
 use Rattle.sdr_core.specs.CoreRun.{CoreAt}
 use Rattle.sdr_machine.specs.Core.{Core, RunsCore, first_core}
 use Rattle.sdr_machine.specs.Crash.{is_sound}

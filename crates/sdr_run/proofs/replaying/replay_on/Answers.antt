@@ -1,8 +1,7 @@
-use Rattle.std.proofs.Common.{◌≡◌, ◌∙◌, List, ℕ, ap, arith, length, subst, sym}
+use Rattle.std.proofs.Common.{◌≡◌, ◌∙◌, List, ℕ, ap, subst, sym}
 use Rattle.sdr_core.specs.CoreKept.{BeginsOn}
 use Rattle.sdr_model.specs.declared.script.ScriptStep.{ScriptStep}
 use Rattle.sdr_run.proofs.ReplayingLemmas.{begins_opened, opened_unrun, replayed}
-use Rattle.sdr_run.proofs.SettledLemmas.{ground_where}
 use Rattle.sdr_run.specs.Playing.{Output, output}
 use Rattle.sdr_run.specs.Recording.{PlaysOut}
 use Rattle.sdr_run.specs.Replaying.{begins_on}

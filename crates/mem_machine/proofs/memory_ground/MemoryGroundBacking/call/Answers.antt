@@ -1,4 +1,4 @@
-use Rattle.std.proofs.Common.{◌≡◌, ◌∙◌, ap, arith, refl, subst, sym, true}
+use Rattle.std.proofs.Common.{◌≡◌, ◌∙◌, ap, arith, refl, subst, true}
 use Rattle.sdr_machine.specs.Serving.{Brings, CallAsks, Calls, KeepsGround}
 use Rattle.sdr_machine.specs.Standing.{GroundState}
 use Rattle.mem_machine.proofs.MemoryLemmas.{asks_call, asks_none, brings_call, keeps_called, keeps_unasked, memory_ground, reached_called, reached_may}

@@ -1,4 +1,4 @@
-use Rattle.std.proofs.Common.{◌∙◌, ap, refl}
+use Rattle.std.proofs.Common.{◌∙◌, ap}
 use Rattle.mem_machine.proofs.MemoryLemmas.{brings_both, brings_kept, keeps_unasked, reached_kept}
 use Rattle.mem_machine.specs.Memory.{worlds_kept}
 use Rattle.mem_machine.proofs.memory_ground.MemoryGroundBacking.keep.Goals as goal

@@ -1,4 +1,4 @@
-use Rattle.std.proofs.Common.{IfOk, ap, subst, sym}
+use Rattle.std.proofs.Common.{IfOk, subst}
 use Rattle.std.proofs.lemmas.Result.{IfOk-weaker}
 use Rattle.sdr_machine.specs.declared.came.Came.{Came}
 use Rattle.mem_machine.proofs.RunLemmas.{Answered, answered_so, kept_of, run_of}
