@@ -1,5 +1,5 @@
 // The lock of a machine: it serves the daemon whose number is served, on any ground.
-ghost use Rattle.std.specs.Prelude.{◌&&◌, ◌==◌, not, ◌≡◌, ◌<◌, ◌+◌, ◌^◌, ◌∷◌, ◌⊎◌, IfErr, IfOk, None, Some, Ok, OnErr, OnOk, true, false};
+ghost use Rattle.std.specs.Prelude.{◌&&◌, ◌==◌, ◌≡◌, ◌<◌, ◌+◌, ◌^◌, ◌∷◌, ◌⊎◌, IfErr, IfOk, None, Some, Ok, OnErr, true, false};
 ghost use Rattle.sdr_machine.specs.Crash.{commits_by, commits_in, commits_of, commits_under};
 ghost use Rattle.sdr_machine.specs.Ground.{State};
 ghost use Rattle.sdr_machine.specs.Machine.{MachineStep, StepsOf, Comes, ComesLooking, Holds, OnTurn, Performs, Enters, Looks, LooksHolding, BeginsUnder, Closes, FaultsWithin, ComesLeaving, Draws, IsSuspended, LeavesHolding, is_of_work, is_outside};

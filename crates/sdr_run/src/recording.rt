@@ -1,5 +1,5 @@
 // A schedule that is played with a journal of it.
-ghost use Rattle.std.specs.Prelude.{◌≡◌, ◌≤◌, ◌^◌, IfErr, IfOk, length};
+ghost use Rattle.std.specs.Prelude.{◌≡◌, ◌≤◌, ◌+◌, ◌^◌, IfErr, IfOk, length};
 ghost use Rattle.sdr_core.specs.CoreKept.{BeginsOn};
 ghost use Rattle.sdr_core.specs.Leaving.{LastsOn};
 ghost use Rattle.sdr_machine.specs.Crash.{is_sound};

@@ -1,4 +1,4 @@
-use Rattle.std.proofs.Common.{◌≡◌, ◌∙◌, List, ℕ, ap, arith, subst}
+use Rattle.std.proofs.Common.{◌≡◌, ◌∙◌, List, ℕ, ap, arith, length, subst}
 use Rattle.mem_machine.proofs.RunLemmas.{memory_run}
 use Rattle.mem_machine.specs.MemoryRun.{MemoryRun, first_run}
 use Rattle.sdr_run.proofs.DryLemmas.{dry_of}
