@@ -15,9 +15,30 @@ use crossbeam_utils::Backoff;
 use std::alloc::Global;
 use std::marker::Model;
 use std::sync::Wait;
+use std::time::Duration;
 
 /// How many numbers a seat may draw.
 const MOST: u64 = 1 << 40;
+
+/// A thread that sleeps looks whether it is served after so many milliseconds, even if nothing wakes it.
+const LONGEST_SLEEP: u64 = 20;
+
+// How a thread waits.
+#[derive(Drop)]
+struct Waiting {
+    backoff: Backoff,
+    /// How many numbers were done when it last went to sleep.
+    slept_at: Option<u64>,
+}
+
+impl Waiting {
+    fn new() -> Waiting {
+        Waiting {
+            backoff: Backoff::new(),
+            slept_at: None,
+        }
+    }
+}
 
 /// A lock over a value, whose holders are served in the order in which they drew. It is not `Drop`: `close` gives the
 /// value back.
@@ -83,11 +104,11 @@ impl<V: Kept> Turn<V> {
         ensures lock { seat.new.lock ≡ seat.old.lock }
     {
         let Number { value: number } = number;
-        let backoff = Backoff::new();
+        let mut waiting = Waiting::new();
         for _ in rt.forever() {
             match self.try_take(seat, number) {
                 Ok(value) => return Held { value },
-                Err(done) => self.wait_past(rt, &backoff, done),
+                Err(done) => self.wait_past(rt, &mut waiting, done),
             }
         }
         unreachable!()
@@ -114,13 +135,27 @@ impl<V: Kept> Turn<V> {
         Ok(value)
     }
 
-    // Lets other threads go on: it spins, then yields, and after some calls sleeps while just so many numbers are done.
-    fn wait_past<R: Wait>(&self, rt: &R, backoff: &Backoff, done: u64) {
-        if backoff.is_completed() {
-            self.table.shared.park(rt, DONE, low_half(done));
-        } else {
-            backoff.snooze();
+    // Lets other threads go on: it spins, then yields, and after some calls sleeps while just so many numbers are done. A give
+    // wakes the thread that sleeps longest, which mostly is the next to be served. One that isn't wakes the next sleeper before
+    // it sleeps again, once for each count of numbers done.
+    fn wait_past<R: Wait>(&self, rt: &R, waiting: &mut Waiting, done: u64) {
+        if !waiting.backoff.is_completed() {
+            waiting.backoff.snooze();
+            return;
         }
+        let table = &self.table.shared;
+        if waiting.slept_at != Some(done) {
+            if waiting.slept_at.is_some() {
+                table.wake_one(DONE);
+            }
+            waiting.slept_at = Some(done);
+        }
+        table.park_timeout(
+            rt,
+            DONE,
+            low_half(done),
+            Duration::from_millis(LONGEST_SLEEP),
+        );
     }
 
     /// Gives the value back: the number is done, and the seat saw the value's entries.
@@ -145,7 +180,7 @@ impl<V: Kept> Turn<V> {
         let before = table.fetch_add::<Gives>(&mut seat.table_seat, DONE, 1);
         // Who waits has drawn before it looks whether its number is served, so none of these can miss the wake.
         if table.peek(DRAWN) > before + 1 {
-            table.wake_all(DONE);
+            table.wake_one(DONE);
         }
     }
 }
