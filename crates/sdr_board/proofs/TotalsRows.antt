@@ -23,8 +23,8 @@ use Rattle.sdr_model.specs.declared.journal.What.TheVariants as whats
 use Rattle.sdr_model.specs.declared.journal.What.{What}
 
 -- ten numbers, in the order in which they are printed
-abbrev row : ℕ → ℕ → ℕ → ℕ → ℕ → ℕ → ℕ → ℕ → ℕ → ℕ → Totals
-row entries number ended cancelled exited faulted looks left taken given = record {
+abbrev ten : ℕ → ℕ → ℕ → ℕ → ℕ → ℕ → ℕ → ℕ → ℕ → ℕ → Totals
+ten entries number ended cancelled exited faulted looks left taken given = record {
   entries = entries;
   number = number;
   ended = ended;
@@ -68,15 +68,15 @@ abbrev bundle_journal : List Entry
 bundle_journal = entry 1 (whats.Work bundle_said closes.Ended) ∷ entry 2 (whats.Leaves leaves.Done) ∷ []
 
 -- an empty journal
-pub nothing_in_totals : totals [] ≡ row 0 0 0 0 0 0 0 0 0 0
+pub nothing_in_totals : totals [] ≡ ten 0 0 0 0 0 0 0 0 0 0
 nothing_in_totals = refl
 
 -- a bundle out of a file
-pub bundle_in_totals : totals bundle_journal ≡ row 2 2 1 0 0 0 0 1 8 0
+pub bundle_in_totals : totals bundle_journal ≡ ten 2 2 1 0 0 0 0 1 8 0
 bundle_in_totals = refl
 
 -- its first entry alone
-pub first_of_bundle_in_totals : totals_of_first 1 bundle_journal ≡ row 1 1 1 0 0 0 0 0 8 0
+pub first_of_bundle_in_totals : totals_of_first 1 bundle_journal ≡ ten 1 1 1 0 0 0 0 0 8 0
 first_of_bundle_in_totals = refl
 
 -- A journal with each kind of entry. Blocks that a transaction took and gave back count where it ended, and nowhere else.
@@ -95,5 +95,5 @@ mixed_journal =
     ∷ entry 11 (whats.Leaves leaves.Fault)
     ∷ []
 
-pub mixed_in_totals : totals mixed_journal ≡ row 8 11 1 1 1 1 3 1 1 1
+pub mixed_in_totals : totals mixed_journal ≡ ten 8 11 1 1 1 1 3 1 1 1
 mixed_in_totals = refl

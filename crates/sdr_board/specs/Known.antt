@@ -9,6 +9,7 @@ pub record Published : Type 0 where
   pub board : TableId
   pub entries : List Entry
 
+-- a writer that published the totals of these entries last
 abbrev pub published : TableId → List Entry → Published
 published board entries = record { board = board; entries = entries }
 
