@@ -1,6 +1,8 @@
+pub mod AtLockLemmas
 pub mod AwardedRow
 pub mod BundleRow
 pub mod ComingLemmas
+pub mod DrawingLemmas
 pub mod DrawnLemmas
 pub mod DroppedRow
 pub mod EmptyRow
@@ -11,12 +13,15 @@ pub mod InsideLemmas
 pub mod InventedRow
 pub mod LineLemmas
 pub mod LookLemmas
+pub mod NextLemmas
+pub mod PlaceLemmas
 pub mod RowLemmas
 pub mod RunLemmas
 pub mod SayLemmas
 pub mod ScriptLemmas
 pub mod SpentRow
 pub mod StalledRow
+pub mod StarveLemmas
 pub mod StepLemmas
 pub mod TurnLemmas
 pub mod WorkLemmas

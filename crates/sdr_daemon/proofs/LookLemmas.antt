@@ -22,14 +22,17 @@ use Rattle.sdr_model.specs.declared.script.ScriptStep.{ScriptStep}
 use Rattle.sdr_words.specs.Bindings.{bound, event_of}
 use Rattle.sdr_daemon.proofs.ComingLemmas.{looks}
 use Rattle.sdr_daemon.proofs.DrawnLemmas.{drawn_more, fewer_lines, wait_added, waited_before}
+use Rattle.sdr_daemon.proofs.NextLemmas.{comes_with, with_line}
 use Rattle.sdr_daemon.proofs.ScriptLemmas.{kept_also}
 use Rattle.sdr_daemon.proofs.StepLemmas.{IsStep, grown, is_step, refused_grows, unused}
-use Rattle.sdr_daemon.proofs.TurnLemmas.{IsFree, below_next, draws_one, ends_turn, id_is, is_free, on_way, ticket_of, turned}
+use Rattle.sdr_daemon.proofs.TurnLemmas.{IsFree, below_next, ends_turn, id_is, is_free, on_way, ticket_of, turned}
 use Rattle.sdr_daemon.specs.Progressing.{IsOnWay, PhaseAgrees, WasLookRefused, steps_ahead}
 use Rattle.sdr_daemon.specs.Scripts.{HasKeptSoFar, IsLookRefused, DaemonKeepsToScript, LooksNext, is_wait}
-use Rattle.sdr_daemon.specs.TakingTurns.{AddsAtMostOne, DoesLine, EndsTurn, IsBeforeTurn}
+use Rattle.sdr_daemon.specs.Coming.{coming_of}
+use Rattle.sdr_daemon.specs.TakingTurns.{AddsAtMostOne, DoesComing, DoesLine, EndsTurn, IsBeforeTurn}
 use Rattle.sdr_daemon.specs.TurnEvents.{BeforeTurn, IsOver, LooksSo, before_of}
-use Rattle.sdr_daemon.specs.Turns.{DaemonTurn, IsLine, IsTurn, MayLook, Phase, Reached, after_turn, entries_by, steps_by}
+use Rattle.sdr_daemon.specs.Turns.{DaemonTurn, IsLine, IsTurn, MayLook, Phase, Reached, after_turn, entries_by, is_refused_outside, steps_by}
+use Rattle.sdr_daemon.specs.declared.coming.Coming.TheVariants as comings
 use Rattle.sdr_daemon.specs.declared.script_place.ScriptPlace.{ScriptPlace}
 
 module _ {T : Type 0} (g : Ghosts T) (b : RunStart) (script : List ScriptStep) (x : Daemon) (old : LoggedLock T) (s : ScriptPlace) (t : IsBeforeTurn g b script x old s) where
@@ -41,7 +44,7 @@ module _ {T : Type 0} (g : Ghosts T) (b : RunStart) (script : List ScriptStep) (
       → s.leaving ≡ None → event_of s.names step ≡ events.Look ticket → old.lock.roll.failed ≡ None → s.drawn + 1 < 2 ^ 40
       → MakesCoreStep g s.daemon step.line (events.Look ticket) a old.lock old.log new.lock new.log
       → ((a.answer ≡ answers.Waits) × (s' ≡ record s { drawn = s.drawn + 1 })) ⊎ ((a.answer ≡ answers.Waits → ⊥) × DoesLine step after a.answer (record s { drawn = s.drawn + 1 }) s')
-      → EndsTurn b script o new s s'
+      → EndsTurn b script old x new s s'
   looked new s' step after ticket a is within none event sound room makes moves = by (looks st.step t.found t.stays t.free t.unsaid sound ticket refl) free moves
     where
       st : IsStep g b s.daemon step.line (events.Look ticket) a old new
@@ -66,6 +69,9 @@ module _ {T : Type 0} (g : Ghosts T) (b : RunStart) (script : List ScriptStep) (
       few : s.drawn < 2 ^ 40
       few = t.way.few
 
+      comes : coming_of old.lock.roll script s ≡ comings.Comes s.daemon step.line
+      comes = comes_with old.lock.roll script s step (steps_ahead script s.daemon after) sound none room is ∙ ap (with_line s step) (ap is_refused_outside event)
+
       names : DoesLine step after a.answer (record s { drawn = s.drawn + 1 }) s' → ((s'.leaving ≡ None) × (s'.names ≡ bound t.way.at.names step a.answer)) ⊎ (s'.leaving ≡ Some leaves.Memory)
       names m = by_moves m.names
         where
@@ -78,7 +84,7 @@ module _ {T : Type 0} (g : Ghosts T) (b : RunStart) (script : List ScriptStep) (
       done : (entries : List Entry) (x' : Daemon) → IsOver o entries x' (old.lock.roll.drawn + 1) new.lock.roll new.log → AddsAtMostOne o entries
           → x'.left ≡ false
           → IsTurn R t.way.at (record { lines = step ∷ []; said = said ∷ []; entries = entries; number = old.lock.roll.drawn + 1; phase = Phase.ready })
-          → DoesLine step after a.answer (record s { drawn = s.drawn + 1 }) s' → EndsTurn b script o new s s'
+          → DoesLine step after a.answer (record s { drawn = s.drawn + 1 }) s' → EndsTurn b script old x new s s'
       done entries x' behind next stays turns m =
           let turn : DaemonTurn = record { lines = step ∷ []; said = said ∷ []; entries = entries; number = old.lock.roll.drawn + 1; phase = Phase.ready } in
           let kept =
@@ -86,7 +92,7 @@ module _ {T : Type 0} (g : Ghosts T) (b : RunStart) (script : List ScriptStep) (
           (is ∙ ap (λ p. step ∷ steps_ahead script s.daemon p) (sym m.place)) turns (line, tt) tt in
           let d = m.drawn in
           let below = t.drawn in
-          ends_turn g b script x old s t new s' entries x' (old.lock.roll.drawn + 1) behind next (omega arith) (omega arith) (draws_one g b script x old s t s') m.daemon
+          ends_turn g b script x old s t new s' entries x' (old.lock.roll.drawn + 1) behind next (omega arith) (omega arith) (DoesComing.draws step.line comes behind.drawn_is m.drawn) m.daemon
           (omega (arith, d)) (omega (arith, d, below)) (omega (arith, d, few)) (subst (λ p. p ≤ length script) (sym m.place) within)
           (subst (λ c. MatchBool c (DaemonKeepsToScript R new.log.journal (steps_by s'.daemon script) (entries_by s'.daemon new.log.journal)) (IsOnWay b script new.lock.roll new.log.journal x' s')) (sym stays)
           (on_way g b script x old s t new x' s' t.way.at turn (omega (arith, d, room)) m.daemon refl (subst (λ n. old.lock.roll.drawn + 1 ≤ n) (sym behind.drawn_is) (omega arith)) kept (names m)
@@ -112,12 +118,12 @@ module _ {T : Type 0} (g : Ghosts T) (b : RunStart) (script : List ScriptStep) (
       waiting : (entries : List Entry) (x' : Daemon) → IsOver o entries x' (old.lock.roll.drawn + 1) new.lock.roll new.log → AddsAtMostOne o entries
           → x'.left ≡ false → s' ≡ record s { drawn = s.drawn + 1 }
           → (at : Reached) → HasKeptSoFar R (steps_by s.daemon script) (steps_ahead script s.daemon s.place) (entries_by s.daemon new.log.journal) at → at.number ≤ new.lock.roll.drawn
-          → (s.leaving ≡ None → s.names ≡ at.names) → PhaseAgrees at.phase x' s.leaving → list_any is_wait (entries_by s.daemon new.log.journal) ≡ true → EndsTurn b script o new s s'
+          → (s.leaving ≡ None → s.names ≡ at.names) → PhaseAgrees at.phase x' s.leaving → list_any is_wait (entries_by s.daemon new.log.journal) ≡ true → EndsTurn b script old x new s s'
       waiting entries x' behind next stays same at kept below names agrees waited =
           let drawn = t.drawn in
-          subst (λ (z : ScriptPlace). EndsTurn b script o new s z) (sym same)
+          subst (λ (z : ScriptPlace). EndsTurn b script old x new s z) (sym same)
           (ends_turn g b script x old s t new (record s { drawn = s.drawn + 1 }) entries x' (old.lock.roll.drawn + 1) behind next (omega arith) (omega arith)
-          (draws_one g b script x old s t (record s { drawn = s.drawn + 1 })) refl (omega arith) (omega (arith, drawn)) (omega (arith, few)) t.within
+          (DoesComing.draws step.line comes behind.drawn_is refl) refl (omega arith) (omega (arith, drawn)) (omega (arith, few)) t.within
           (subst (λ c. MatchBool c (DaemonKeepsToScript R new.log.journal (steps_by s.daemon script) (entries_by s.daemon new.log.journal)) (IsOnWay b script new.lock.roll new.log.journal x' (record s { drawn = s.drawn + 1 }))) (sym stays)
           (record { at = at; kept = kept; below = below; few = room; names = names; agrees = agrees; means = t.way.means; may = inl waited })))
 
@@ -127,7 +133,7 @@ module _ {T : Type 0} (g : Ghosts T) (b : RunStart) (script : List ScriptStep) (
 
       by : LooksSo o st.v.before ticket said new.lock.roll new.log → IsFree x t.way.at.phase (Some ticket)
           → ((a.answer ≡ answers.Waits) × (s' ≡ record s { drawn = s.drawn + 1 })) ⊎ ((a.answer ≡ answers.Waits → ⊥) × DoesLine step after a.answer (record s { drawn = s.drawn + 1 }) s')
-          → EndsTurn b script o new s s'
+          → EndsTurn b script old x new s s'
       by (LooksSo.missing missing answer behind) fr (inl waits) = let no : answers.Waits ≡ refused (refusals.BadTicket ticket) = sym waits.0 ∙ answer in absurd cc
       by (LooksSo.missing missing answer behind) fr (inr m) =
           done [] (when_passed_over x) behind (AddsAtMostOne.none refl) t.stays

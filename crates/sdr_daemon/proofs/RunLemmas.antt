@@ -22,11 +22,13 @@ use Rattle.sdr_machine.specs.declared.daemon.Daemon.{Daemon}
 use Rattle.sdr_machine.specs.declared.has_ground.HasGround.{Ghosts}
 use Rattle.sdr_model.specs.declared.journal.Entry.{Entry}
 use Rattle.sdr_model.specs.declared.script.ScriptStep.{ScriptStep}
+use Rattle.sdr_daemon.proofs.NextLemmas.{coming_there}
 use Rattle.sdr_daemon.proofs.ScriptLemmas.{entries_other, kept_also, script_also, script_later}
 use Rattle.sdr_daemon.proofs.StepLemmas.{refused_grows}
 use Rattle.sdr_daemon.specs.Progressing.{IsOnWay, IsScriptedRun, ProgressHolds, WasLookRefused, have_left, steps_ahead}
 use Rattle.sdr_daemon.specs.Scripts.{HasKeptSoFar, IsLookRefused, KeepsToScripts, DaemonKeepsToScript, MayHaveDrawn}
-use Rattle.sdr_daemon.specs.TakingTurns.{AddsAtMostOne, EndsTurn, IsBeforeTurn, MayTakeTurn, TakesTurn, TurnsAt, is_gone}
+use Rattle.sdr_daemon.specs.Coming.{coming_at, coming_of}
+use Rattle.sdr_daemon.specs.TakingTurns.{AddsAtMostOne, DoesComing, EndsTurn, IsBeforeTurn, MayTakeTurn, TakesTurn, TurnsAt, is_gone}
 use Rattle.sdr_daemon.specs.TurnEvents.{BeforeTurn, before_of}
 use Rattle.sdr_daemon.specs.Turns.{entries_by, steps_by}
 use Rattle.sdr_daemon.specs.declared.script_place.ScriptPlace.{ScriptPlace}
@@ -53,7 +55,7 @@ others_script b o entries journal drawn steps own next grows more keeps = by nex
         subst (λ l. DaemonKeepsToScript (WasLookRefused b drawn journal) l steps own) (sym (grows ∙ ap (λ l. o.journal ++ l) one))
         (script_later (WasLookRefused b o.roll.drawn o.journal) (WasLookRefused b drawn journal) grow o.journal e steps own keeps)
 
-each_at : (P : ℕ → Type 0) (these : List ScriptPlace) → AllByRecursion P (map (λ (s : ScriptPlace). s.daemon) these) → (i : ℕ) (d : ScriptPlace) → i < length these
+pub each_at : (P : ℕ → Type 0) (these : List ScriptPlace) → AllByRecursion P (map (λ (s : ScriptPlace). s.daemon) these) → (i : ℕ) (d : ScriptPlace) → i < length these
     → P (slice_index_or these i d).daemon
 each_at P [] each i d within = absurd (omega (arith, within))
 each_at P (s ∷ these) each zero d within = each.0
@@ -71,7 +73,7 @@ distinct_at (s ∷ these) apart (suc i) zero d one two ne =
 distinct_at (s ∷ these) apart (suc i) (suc j) d one two ne =
     distinct_at these apart.1 i j d (omega (arith, one)) (omega (arith, two)) (λ same. ne (ap suc same))
 
-module _ {T : Type 0} (g : Ghosts T) (b : RunStart) (script : List ScriptStep) (k new : LoggedLock T) (x : Daemon) (s s' : ScriptPlace) (e : EndsTurn b script (before_of k x) new s s') (mine : x.id ≡ s.daemon) where
+module _ {T : Type 0} (g : Ghosts T) (b : RunStart) (script : List ScriptStep) (k new : LoggedLock T) (x : Daemon) (s s' : ScriptPlace) (e : EndsTurn b script k x new s s') (mine : x.id ≡ s.daemon) where
   more : k.lock.roll.drawn ≤ new.lock.roll.drawn
   more = subst (λ n. k.lock.roll.drawn ≤ n) (sym e.over.drawn_is) e.more
 
@@ -218,14 +220,17 @@ turn_at g b script k new these place s s' run failed l stays here turns lasts =
     let at = at_place (λ (z : ScriptPlace). has_left k.lock.roll z.daemon) these place s stays in
     let may = may_take_turn g b script k these place s run failed l at.0 at.1 in
     let ready : IsBeforeTurn g b script may.daemon k s = subst (λ (z : ScriptPlace). IsBeforeTurn g b script may.daemon k z) (sym here) may.at in
-    let ends : EndsTurn b script (before_of k may.daemon) new s s' = turns may.daemon ready in
+    let ends : EndsTurn b script k may.daemon new s s' = turns may.daemon ready in
     let same : s ≡ slice_index_or these place s' = here ∙ get_or_default these place s s' at.0 in (
       run_next g b script k new may.daemon s s' ends (same_number may.daemon.id s.daemon (found_number k.lock.roll.daemons s.daemon may.daemon ready.found)) these place l at.0 same lasts,
       record {
         daemon = may.daemon;
         own = s';
         found = subst (λ (z : ScriptPlace). daemon_of k.lock.roll z.daemon ≡ Some may.daemon) same ready.found;
-        ends = subst (λ (z : ScriptPlace). EndsTurn b script (before_of k may.daemon) new z s') same ends;
+        ends = subst (λ (z : ScriptPlace). EndsTurn b script k may.daemon new z s') same ends;
+        does =
+            subst (λ (z : ScriptPlace). DoesComing (coming_at script place (record { core = k; progress = these })) k new z s') same
+            (subst (λ c. DoesComing c k new s s') (sym (coming_there script place (record { core = k; progress = these }) s stays ∙ ap (coming_of k.lock.roll script) (sym here))) ends.does);
         others = refl;
       },
     )

@@ -20,13 +20,15 @@ use Rattle.sdr_daemon.proofs.DrawnLemmas.{drawn_more, drawn_on, fewer_lines}
 use Rattle.sdr_daemon.proofs.InsideLemmas.{cuts, says_on}
 use Rattle.sdr_daemon.proofs.ScriptLemmas.{lines_more, names_more}
 use Rattle.sdr_daemon.proofs.StepLemmas.{IsStep, grown, is_statement, is_step, step_states}
-use Rattle.sdr_daemon.proofs.TurnLemmas.{IsFree, draws_one, ends_turn, id_is, is_free, on_way, there, ticket_of, turned}
+use Rattle.sdr_daemon.proofs.TurnLemmas.{IsFree, ends_turn, id_is, is_free, on_way, there, ticket_of, turned}
 use Rattle.sdr_daemon.specs.Progressing.{IsOnWay, WasLookRefused, steps_ahead}
 use Rattle.sdr_daemon.specs.Scripts.{HasKeptSoFar, DaemonKeepsToScript, MayHaveDrawn, MeansToLeave}
-use Rattle.sdr_daemon.specs.TakingTurns.{AddsAtMostOne, EndsTurn, IsBeforeTurn}
+use Rattle.sdr_daemon.specs.Coming.{coming_of}
+use Rattle.sdr_daemon.specs.TakingTurns.{AddsAtMostOne, DoesComing, EndsTurn, IsBeforeTurn}
 use Rattle.sdr_daemon.specs.TurnEvents.{BeforeTurn, IsOverWith, SaysOn, before_of}
 use Rattle.sdr_daemon.specs.Turns.{DaemonTurn, IsTurn, Phase, SayLines, after_turn, entries_by, names_after, opens_work, steps_by}
 use Rattle.sdr_daemon.specs.Working.{IsInWork}
+use Rattle.sdr_daemon.specs.declared.coming.Coming.TheVariants as comings
 use Rattle.sdr_daemon.specs.declared.script_place.ScriptPlace.{ScriptPlace}
 
 module _ {T : Type 0} (g : Ghosts T) (b : RunStart) (script : List ScriptStep) (x : Daemon) (old : LoggedLock T) (s : ScriptPlace) (t : IsBeforeTurn g b script x old s) where
@@ -35,14 +37,16 @@ module _ {T : Type 0} (g : Ghosts T) (b : RunStart) (script : List ScriptStep) (
 
   -- it begins a transaction
   pub begun : (new : LoggedLock T) (s' : ScriptPlace) (step : ScriptStep) (after : ℕ) (a : Came) → steps_ahead script s.daemon s.place ≡ step ∷ steps_ahead script s.daemon after → after ≤ length script
-      → s.leaving ≡ None → event_of s.names step ≡ events.Begin → old.lock.roll.failed ≡ None
+      → s.leaving ≡ None → event_of s.names step ≡ events.Begin → old.lock.roll.failed ≡ None → coming_of old.lock.roll script s ≡ comings.Comes s.daemon step.line
       → MakesCoreStep g s.daemon step.line events.Begin a old.lock old.log new.lock new.log → s'.place ≡ after → s'.daemon ≡ s.daemon → s'.drawn ≡ s.drawn + 1
       → (s'.leaving ≡ None → s'.names ≡ bound s.names step a.answer) → IsInWork g b script o new s s'
-  begun new s' step after a is within none event sound makes place same drawn names =
+  begun new s' step after a is within none event sound comes makes place same drawn names =
       let st = is_step g b s.daemon step.line events.Begin a old new t.run makes in
       let said : Said = (made_by s.daemon events.Begin a (g.moment old.lock.base) (g.moment new.lock.base) step.line st.v').said in
       record {
         run = st.run;
+        line = step.line;
+        comes = comes;
         lines = step ∷ [];
         said = said ∷ [];
         within = (begins st.step t.found t.stays t.free t.unsaid sound refl).0;
@@ -117,6 +121,8 @@ module _ {T : Type 0} (g : Ghosts T) (b : RunStart) (script : List ScriptStep) (
           by (SaysOn.closed close closed h) = let no : None ≡ Some close = sym unclosed ∙ closed in absurd cc
           by (SaysOn.on unclosed_too within_it) = record {
             run = st.run;
+            line = w.line;
+            comes = w.comes;
             lines = w.lines ++ step ∷ [];
             said = w.said ++ said_by_it ∷ [];
             within = within_it;
@@ -134,10 +140,10 @@ module _ {T : Type 0} (g : Ghosts T) (b : RunStart) (script : List ScriptStep) (
           }
 
       -- or it closes
-      pub line_off : IsSome (closed_by a.answer) → (sb.leaving ≡ None) ⊎ (sb.leaving ≡ Some leaves.Memory) → EndsTurn b script o new s sb
+      pub line_off : IsSome (closed_by a.answer) → (sb.leaving ≡ None) ⊎ (sb.leaving ≡ Some leaves.Memory) → EndsTurn b script old x new s sb
       line_off closed leaving = by goes
         where
-          by : SaysOn o w.said said_by_it new.lock.roll new.log → EndsTurn b script o new s sb
+          by : SaysOn o w.said said_by_it new.lock.roll new.log → EndsTurn b script old x new s sb
           by (SaysOn.on unclosed_too within_it) = absurd (true≢false (sym (subst IsSome unclosed_too closed)))
           by (SaysOn.closed close closed_so h) =
               let turn : DaemonTurn = record { lines = w.lines ++ step ∷ []; said = w.said ++ said_by_it ∷ []; entries = h.entry ∷ []; number = old.lock.roll.drawn + 1; phase = Phase.ready } in
@@ -150,7 +156,7 @@ module _ {T : Type 0} (g : Ghosts T) (b : RunStart) (script : List ScriptStep) (
               let d = drawn ∙ w.drawn in
               let few = t.way.few in
               let low = t.drawn in
-              ends_turn g b script x old s t new sb (h.entry ∷ []) (when_done x) (old.lock.roll.drawn + 1) h.over next (omega arith) (omega arith) (draws_one g b script x old s t sb)
+              ends_turn g b script x old s t new sb (h.entry ∷ []) (when_done x) (old.lock.roll.drawn + 1) h.over next (omega arith) (omega arith) (DoesComing.draws w.line w.comes h.over.drawn_is d)
               (same ∙ w.daemon) (omega (arith, d)) (omega (arith, d, low)) (omega (arith, d, few)) (subst (λ p. p ≤ length script) (sym place) within)
               (subst (λ c. MatchBool c (DaemonKeepsToScript (WasLookRefused b new.lock.roll.drawn new.log.journal) new.log.journal (steps_by sb.daemon script) (entries_by sb.daemon new.log.journal))
               (IsOnWay b script new.lock.roll new.log.journal (when_done x) sb)) (sym t.stays)
@@ -165,7 +171,7 @@ module _ {T : Type 0} (g : Ghosts T) (b : RunStart) (script : List ScriptStep) (
 
     -- it leaves in its transaction
     pub cut_off : (new : LoggedLock T) (sb : ScriptPlace) (leave : Leave) (a : Came) → MakesCoreStep g sa.daemon 0 (events.Leaves leave) a k.lock k.log new.lock new.log
-        → sb ≡ record sa { leaving = Some leave } → MeansToLeave (steps_ahead script s.daemon sa.place) (Some leave) → EndsTurn b script o new s sb
+        → sb ≡ record sa { leaving = Some leave } → MeansToLeave (steps_ahead script s.daemon sa.place) (Some leave) → EndsTurn b script old x new s sb
     cut_off new sb leave a makes is means =
         let st = is_step g b sa.daemon 0 (events.Leaves leave) a k new w.run makes in
         let said : Said = (made_by sa.daemon (events.Leaves leave) a (g.moment k.lock.base) (g.moment new.lock.base) 0 st.v').said in
@@ -183,8 +189,8 @@ module _ {T : Type 0} (g : Ghosts T) (b : RunStart) (script : List ScriptStep) (
         let low = t.drawn in
         let R : ℕ → ℕ → Type 0 = WasLookRefused b new.lock.roll.drawn new.log.journal in
         let after : ScriptPlace = record sa { leaving = Some leave } in
-        subst (λ (z : ScriptPlace). EndsTurn b script o new s z) (sym is)
-        (ends_turn g b script x old s t new after (h.entry ∷ []) (when_done x) (old.lock.roll.drawn + 1) h.over next (omega arith) (omega arith) (draws_one g b script x old s t after)
+        subst (λ (z : ScriptPlace). EndsTurn b script old x new s z) (sym is)
+        (ends_turn g b script x old s t new after (h.entry ∷ []) (when_done x) (old.lock.roll.drawn + 1) h.over next (omega arith) (omega arith) (DoesComing.draws w.line w.comes h.over.drawn_is d)
         w.daemon (omega (arith, d)) (omega (arith, d, low)) (omega (arith, d, few)) w.place
         (subst (λ z. MatchBool z (DaemonKeepsToScript R new.log.journal (steps_by sa.daemon script) (entries_by sa.daemon new.log.journal)) (IsOnWay b script new.lock.roll new.log.journal (when_done x) after)) (sym t.stays)
         (record {

@@ -27,9 +27,11 @@ use Rattle.sdr_daemon.proofs.ScriptLemmas.{kept_also, kept_more}
 use Rattle.sdr_daemon.proofs.StepLemmas.{any_more, grown, is_step, put_same, refused_grows, unsound_below}
 use Rattle.sdr_daemon.specs.Progressing.{IsOnWay, PhaseAgrees, WasLookRefused, steps_ahead}
 use Rattle.sdr_daemon.specs.Scripts.{HasKeptSoFar, HasLeaveCause, DaemonKeepsToScript, IsLeaveDue, LooksNext, MayHaveDrawn, MeansToLeave, leave_due}
-use Rattle.sdr_daemon.specs.TakingTurns.{AddsAtMostOne, BringsOn, DoesLine, EndsTurn, IsBeforeTurn, MayDepart}
+use Rattle.sdr_daemon.specs.Coming.{coming_of}
+use Rattle.sdr_daemon.specs.TakingTurns.{AddsAtMostOne, DoesComing, DoesLine, EndsTurn, IsBeforeTurn, LeavesNext, MayDepart}
 use Rattle.sdr_daemon.specs.TurnEvents.{BeforeTurn, IsOver, before_of}
 use Rattle.sdr_daemon.specs.Turns.{DaemonTurn, IsTurn, Phase, Reached, SayLines, after_turn, entries_by, is_refused_outside, names_after, steps_by}
+use Rattle.sdr_daemon.specs.declared.coming.Coming.TheVariants as comings
 use Rattle.sdr_daemon.specs.declared.script_place.ScriptPlace.{ScriptPlace}
 
 -- a daemon does anything next, or looks at the ticket for which it waits
@@ -52,21 +54,14 @@ module _ {T : Type 0} (g : Ghosts T) (b : RunStart) (script : List ScriptStep) (
   pub there : among x.id old.lock.roll.daemons ≡ Some x
   there = ap (λ n. among n old.lock.roll.daemons) id_is ∙ t.found
 
-  up : old.lock.roll.drawn < old.lock.roll.drawn + 1
-  up = omega arith
-
-  -- a number that is drawn brings the daemon on
-  pub draws_one : (s' : ScriptPlace) → BringsOn o (old.lock.roll.drawn + 1) s s'
-  draws_one s' = BringsOn.draws up
-
   -- the turn is over, and the daemon's progress holds
   pub ends_turn : (new : LoggedLock T) (s' : ScriptPlace) (entries : List Entry) (after : Daemon) (drawn : ℕ) → IsOver o entries after drawn new.lock.roll new.log → AddsAtMostOne o entries
-      → old.lock.roll.drawn ≤ drawn → drawn ≤ old.lock.roll.drawn + 1 → BringsOn o drawn s s' → s'.daemon ≡ s.daemon → drawn + s.drawn ≤ old.lock.roll.drawn + s'.drawn
+      → old.lock.roll.drawn ≤ drawn → drawn ≤ old.lock.roll.drawn + 1 → DoesComing (coming_of old.lock.roll script s) old new s s' → s'.daemon ≡ s.daemon → drawn + s.drawn ≤ old.lock.roll.drawn + s'.drawn
       → s'.drawn ≤ drawn → s'.drawn ≤ 2 ^ 40 → s'.place ≤ length script
       → MatchBool after.left (DaemonKeepsToScript (WasLookRefused b new.lock.roll.drawn new.log.journal) new.log.journal (steps_by s'.daemon script) (entries_by s'.daemon new.log.journal))
       (IsOnWay b script new.lock.roll new.log.journal after s')
-      → EndsTurn b script o new s s'
-  ends_turn new s' entries after drawn over next more one on same counted below few within state = record {
+      → EndsTurn b script old x new s s'
+  ends_turn new s' entries after drawn over next more one does same counted below few within state = record {
     entries = entries;
     after = after;
     drawn = drawn;
@@ -74,7 +69,7 @@ module _ {T : Type 0} (g : Ghosts T) (b : RunStart) (script : List ScriptStep) (
     next = next;
     more = more;
     few = one;
-    goes_on = on;
+    does = does;
     holds = record {
       daemon = after;
       found =
@@ -110,9 +105,9 @@ module _ {T : Type 0} (g : Ghosts T) (b : RunStart) (script : List ScriptStep) (
   below_next = let below = t.way.below in omega (arith, below)
 
   -- it leaves
-  pub departs : (new : LoggedLock T) (s' : ScriptPlace) (leave : Leave) (a : Came) → MayDepart old.lock.roll script s leave → IsLeaveDue s.leaving leave → MakesCoreStep g s.daemon 0 (events.Leaves leave) a old.lock old.log new.lock new.log
-      → s' ≡ record s { drawn = s.drawn + 1 } → EndsTurn b script o new s s'
-  departs new s' leave a may due makes is =
+  pub departs : (new : LoggedLock T) (s' : ScriptPlace) (leave : Leave) (a : Came) → MayDepart old.lock.roll script s leave → IsLeaveDue s.leaving leave → LeavesNext old.lock.roll script s → MakesCoreStep g s.daemon 0 (events.Leaves leave) a old.lock old.log new.lock new.log
+      → s' ≡ record s { drawn = s.drawn + 1 } → EndsTurn b script old x new s s'
+  departs new s' leave a may due comes makes is =
       let st = is_step g b s.daemon 0 (events.Leaves leave) a old new t.run makes in
       let h = leaves st.step t.found t.stays t.free t.unsaid leave refl in
       let R : ℕ → ℕ → Type 0 = WasLookRefused b new.lock.roll.drawn new.log.journal in
@@ -124,8 +119,8 @@ module _ {T : Type 0} (g : Ghosts T) (b : RunStart) (script : List ScriptStep) (
       (steps_by s.daemon script) (steps_ahead script s.daemon s.place) (entries_by s.daemon old.log.journal) t.way.at t.way.kept in
       let few = t.way.few in
       let drawn = t.drawn in
-      subst (λ (z : ScriptPlace). EndsTurn b script o new s z) (sym is)
-      (ends_turn new (record s { drawn = s.drawn + 1 }) (h.entry ∷ []) (after_leave x) (old.lock.roll.drawn + 1) h.over next (omega arith) (omega arith) (draws_one (record s { drawn = s.drawn + 1 }))
+      subst (λ (z : ScriptPlace). EndsTurn b script old x new s z) (sym is)
+      (ends_turn new (record s { drawn = s.drawn + 1 }) (h.entry ∷ []) (after_leave x) (old.lock.roll.drawn + 1) h.over next (omega arith) (omega arith) (DoesComing.draws 0 comes h.over.drawn_is refl)
       refl (omega arith) (omega (arith, drawn)) (omega (arith, few)) t.within
       (record {
         rest = steps_ahead script s.daemon s.place;
@@ -211,8 +206,8 @@ module _ {T : Type 0} (g : Ghosts T) (b : RunStart) (script : List ScriptStep) (
 
   -- it passes over a line
   pub passes : (s' : ScriptPlace) (step : ScriptStep) (after : ℕ) → steps_ahead script s.daemon s.place ≡ step ∷ steps_ahead script s.daemon after → after ≤ length script → s.place < after → s.leaving ≡ None
-      → is_refused_outside (event_of s.names step) ≡ true → DoesLine step after (refused refusals.NotBegun) s s' → EndsTurn b script o old s s'
-  passes s' step after is within further none passed moves = by (is_free none step (steps_ahead script s.daemon after) is)
+      → is_refused_outside (event_of s.names step) ≡ true → coming_of old.lock.roll script s ≡ comings.Passes → DoesLine step after (refused refusals.NotBegun) s s' → EndsTurn b script old x old s s'
+  passes s' step after is within further none passed comes moves = by (is_free none step (steps_ahead script s.daemon after) is)
     where
       said : Said
       said = record { line = step.line; event = event_of s.names step; answer = refused refusals.NotBegun; bytes = []; moves = [] }
@@ -245,7 +240,7 @@ module _ {T : Type 0} (g : Ghosts T) (b : RunStart) (script : List ScriptStep) (
           by_event (events.Look other) passed look = true≢false (sym passed)
           by_event event passed look = absurd cc
 
-      by : IsFree x t.way.at.phase (ticket_of (event_of s.names step)) → EndsTurn b script o old s s'
+      by : IsFree x t.way.at.phase (ticket_of (event_of s.names step)) → EndsTurn b script old x old s s'
       by (IsFree.awaits ticket at look waits) = absurd (look_no ticket look)
       by (IsFree.any at) =
           let kept =
@@ -255,7 +250,7 @@ module _ {T : Type 0} (g : Ghosts T) (b : RunStart) (script : List ScriptStep) (
           (record { line = refl; event = ap (λ n. event_of n step) (t.way.names none) }, tt) tt in
           let few = t.way.few in
           ends_turn old s' [] x old.lock.roll.drawn behind (AddsAtMostOne.none refl) (omega arith) (omega arith)
-          (BringsOn.further (let p = moves.place in omega (arith, p, further))) moves.daemon
+          (DoesComing.passes comes refl (let p = moves.place in omega (arith, p, further)) moves.drawn) moves.daemon
           (let d = moves.drawn in omega (arith, d)) (let d = moves.drawn in let below = t.drawn in omega (arith, d, below)) (let d = moves.drawn in omega (arith, d, few))
           (subst (λ p. p ≤ length script) (sym moves.place) within)
           (subst (λ c. MatchBool c (DaemonKeepsToScript (WasLookRefused b old.lock.roll.drawn old.log.journal) old.log.journal (steps_by s'.daemon script) (entries_by s'.daemon old.log.journal))
@@ -264,9 +259,9 @@ module _ {T : Type 0} (g : Ghosts T) (b : RunStart) (script : List ScriptStep) (
           (drawn_on s.drawn s'.drawn (entries_by s.daemon old.log.journal) (steps_by s.daemon script) (steps_ahead script s.daemon s.place) (steps_ahead script s.daemon s'.place) t.way.may
           (fewer_lines script s.daemon s.place s'.place step after is moves.place s.drawn s'.drawn (let d = moves.drawn in omega (arith, d))))))
 
-  -- it finds no memory, and means to leave
-  pub starves : s.leaving ≡ None → EndsTurn b script o old s (record s { leaving = Some leaves.Memory })
-  starves none =
+  -- it finds no memory for its line, and means to leave
+  pub starves : (line : ℕ) → coming_of old.lock.roll script s ≡ comings.Comes s.daemon line → s.leaving ≡ None → EndsTurn b script old x old s (record s { leaving = Some leaves.Memory })
+  starves line comes none =
       let few = t.way.few in
       ends_turn old (record s { leaving = Some leaves.Memory }) [] x old.lock.roll.drawn (record {
         journal_is = sym (append-nil old.log.journal);
@@ -275,7 +270,7 @@ module _ {T : Type 0} (g : Ghosts T) (b : RunStart) (script : List ScriptStep) (
         drawn_is = refl;
         id = refl;
         unheld = found_none old.lock.roll.daemons s.daemon x t.free t.found;
-      }) (AddsAtMostOne.none refl) (omega arith) (omega arith) (BringsOn.starves none refl) refl (omega arith) t.drawn (omega (arith, few)) t.within
+      }) (AddsAtMostOne.none refl) (omega arith) (omega arith) (DoesComing.starves line comes refl none refl) refl (omega arith) t.drawn (omega (arith, few)) t.within
       (subst (λ c. MatchBool c (DaemonKeepsToScript (WasLookRefused b old.lock.roll.drawn old.log.journal) old.log.journal (steps_by s.daemon script) (entries_by s.daemon old.log.journal))
       (IsOnWay b script old.lock.roll old.log.journal x (record s { leaving = Some leaves.Memory }))) (sym t.stays)
       (record { at = t.way.at; kept = t.way.kept; below = t.way.below; few = few; names = λ none. absurd cc; agrees = agrees t.way.at.phase t.way.agrees; means = tt; may = t.way.may }))

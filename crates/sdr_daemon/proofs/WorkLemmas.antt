@@ -1,5 +1,5 @@
 -- What a begin, a line and a leave come to in the turn of a transaction.
-use Rattle.std.proofs.Common.{◌≡◌, ◌∙◌, ◌<◌, ◌≤◌, ◌⊎◌, ◌+◌, ◌^◌, ℕ, List, ◌∷◌, true≢false, None, Some, inl, inr, sym, ap, subst, length}
+use Rattle.std.proofs.Common.{◌≡◌, ◌∙◌, ◌<◌, ◌≤◌, ◌⊎◌, ◌+◌, ◌^◌, ℕ, List, ◌∷◌, true≢false, None, Some, inl, inr, refl, sym, ap, subst, length}
 use Rattle.std.specs.Prelude.{IsSome}
 use Rattle.sdr_core.specs.CoreKept.{RunStart, LoggedLock, MakesCoreStep}
 use Rattle.sdr_daemon.specs.declared.turn.LineOutcome.TheVariants as outcomes
@@ -15,12 +15,12 @@ use Rattle.sdr_model.specs.declared.event.Leave.TheVariants as leaves
 use Rattle.sdr_model.specs.declared.event.Leave.{Leave}
 use Rattle.sdr_model.specs.declared.script.ScriptStep.{ScriptStep}
 use Rattle.sdr_words.specs.Bindings.{bound, event_of}
+use Rattle.sdr_daemon.proofs.NextLemmas.{comes_by}
 use Rattle.sdr_daemon.proofs.SayLemmas.{begun, begun_open, cut_off, line_off, line_on}
 use Rattle.sdr_daemon.proofs.TurnLemmas.{starves}
 use Rattle.sdr_daemon.specs.Progressing.{steps_ahead}
 use Rattle.sdr_daemon.specs.Scripts.{MeansToLeave}
 use Rattle.sdr_daemon.specs.TakingTurns.{DoesLine, EndsTurn, GoesBy, IsBeforeTurn, MaySayNext, MayTakeTurn, SaysLine, TakesTurn}
-use Rattle.sdr_daemon.specs.TurnEvents.{before_of}
 use Rattle.sdr_daemon.specs.Working.{BeginComesTo, ComesToWork, LineComesTo}
 use Rattle.sdr_daemon.specs.declared.script_place.ScriptPlace.{ScriptPlace}
 use Rattle.sdr_daemon.specs.declared.turn.LineOutcome.{LineOutcome}
@@ -44,7 +44,7 @@ module _ {T : Type 0} (g : Ghosts T) (b : RunStart) (script : List ScriptStep) (
 
       comes : ComesToWork g b script old new s (record sa { drawn = sa.drawn + 1 })
       comes x t =
-          begun g b script x old s t new (record sa { drawn = sa.drawn + 1 }) step after came may.ahead may.within may.stays may.made may.sound makes_begin moves.place moves.daemon
+          begun g b script x old s t new (record sa { drawn = sa.drawn + 1 }) step after came may.ahead may.within may.stays may.made may.sound (comes_by old.lock.roll script s step after events.Begin may refl) makes_begin moves.place moves.daemon
           (ap (λ n. n + 1) moves.drawn) (names_held step after came.answer s sa moves)
 
       by : (w : LineOutcome) → GoesBy w came.answer s.leaving sa.leaving → BeginComesTo w g b script old new s (record sa { drawn = sa.drawn + 1 })
@@ -102,10 +102,11 @@ module _ {T : Type 0} (g : Ghosts T) (b : RunStart) (script : List ScriptStep) (
   work_place k sa work at = (work at.daemon at.at).place
 
   -- nothing was said
-  pub unsaid_so : (new : LoggedLock T) (sa : ScriptPlace) → s.leaving ≡ None → new ≡ old → sa ≡ s → TakesTurn g b script old new s (record sa { leaving = Some leaves.Memory })
-  unsaid_so new sa none core seat x t =
-      subst (λ (k : LoggedLock T). EndsTurn b script (before_of old x) k s (record sa { leaving = Some leaves.Memory })) (sym core)
-      (subst (λ (z : ScriptPlace). EndsTurn b script (before_of old x) old s (record z { leaving = Some leaves.Memory })) (sym seat) (starves g b script x old s t none))
+  pub unsaid_so : (new : LoggedLock T) (sa : ScriptPlace) (step : ScriptStep) (after : ℕ) → MaySayNext script old.lock.roll s step after events.Begin → new ≡ old → sa ≡ s
+      → TakesTurn g b script old new s (record sa { leaving = Some leaves.Memory })
+  unsaid_so new sa step after may core seat x t =
+      subst (λ (k : LoggedLock T). EndsTurn b script old x k s (record sa { leaving = Some leaves.Memory })) (sym core)
+      (subst (λ (z : ScriptPlace). EndsTurn b script old x old s (record z { leaving = Some leaves.Memory })) (sym seat) (starves g b script x old s t step.line (comes_by old.lock.roll script s step after events.Begin may refl) may.stays))
 
   -- there was no memory, for a line or for its name
   pub starved_so : (k new : LoggedLock T) (sa sb : ScriptPlace) (after : ℕ) (outcome : LineOutcome) → ComesToWork g b script old k s sa → LineComesTo outcome g b script after old k new s sa sb

@@ -1,5 +1,5 @@
 -- What a daemon does in its next turn.
-use Rattle.std.specs.Prelude.{◌+◌, ◌^◌, ◌||◌, ℕ, Bool, List, [], ◌∷◌, if◌then◌else◌, is_some, nat_le, slice_get}
+use Rattle.std.specs.Prelude.{◌+◌, ◌^◌, ◌||◌, ℕ, Bool, false, true, List, [], ◌∷◌, if◌then◌else◌, is_some, nat_le, slice_get}
 use Rattle.std.specs.Option.{option_map_or}
 use Rattle.sdr_machine.specs.Core.{has_left}
 use Rattle.sdr_machine.specs.Roll.{Roll}
@@ -31,3 +31,8 @@ coming_of r script s =
 abbrev pub coming_at : {T : Type 0} → List ScriptStep → ℕ → ScriptedCore T → Coming
 coming_at script place v =
     option_map_or (λ (s : ScriptPlace). if has_left v.core.lock.roll s.daemon then comings.Gone else coming_of v.core.lock.roll script s) (slice_get v.progress place) comings.Gone
+
+-- whether nothing comes
+abbrev pub is_over : Coming → Bool
+is_over comings.Gone = true
+is_over coming = false

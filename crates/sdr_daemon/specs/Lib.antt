@@ -1,4 +1,6 @@
+pub mod AtLock
 pub mod Coming
+pub mod Drawing
 pub mod Progressing
 pub mod Scripts
 pub mod TakingTurns

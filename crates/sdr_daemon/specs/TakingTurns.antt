@@ -17,8 +17,11 @@ use Rattle.sdr_model.specs.declared.event.Leave.{Leave}
 use Rattle.sdr_model.specs.declared.journal.Entry.{Entry}
 use Rattle.sdr_model.specs.declared.script.ScriptStep.{ScriptStep}
 use Rattle.sdr_words.specs.Bindings.{bound, event_of}
+use Rattle.sdr_daemon.specs.Coming.{coming_at, coming_of}
 use Rattle.sdr_daemon.specs.Progressing.{IsOnWay, ProgressHolds, ScriptedCore, steps_ahead}
 use Rattle.sdr_daemon.specs.TurnEvents.{BeforeTurn, IsOver, before_of}
+use Rattle.sdr_daemon.specs.declared.coming.Coming.TheVariants as comings
+use Rattle.sdr_daemon.specs.declared.coming.Coming.{Coming}
 use Rattle.sdr_daemon.specs.declared.script_place.ScriptPlace.{ScriptPlace}
 use Rattle.sdr_daemon.specs.declared.turn.LineOutcome.{LineOutcome}
 
@@ -39,42 +42,52 @@ pub data AddsAtMostOne (o : BeforeTurn) (entries : List Entry) : Type 0 where
   none : entries ≡ [] → AddsAtMostOne o entries
   one : (e : Entry) → entries ≡ e ∷ [] → e.number ≡ o.roll.drawn + 1 → e.daemon ≡ o.daemon.id → AddsAtMostOne o entries
 
--- The turn brings the daemon on: it draws a number, or the daemon comes further in the script, or it means from then on to leave.
-pub data BringsOn (o : BeforeTurn) (drawn : ℕ) (s s' : ScriptPlace) : Type 0 where
-  draws : o.roll.drawn < drawn → BringsOn o drawn s s'
-  further : s.place < s'.place → BringsOn o drawn s s'
-  starves : s.leaving ≡ None → s'.leaving ≡ Some leaves.Memory → BringsOn o drawn s s'
+-- The turn does what comes, where the core was `old` and the daemon at `s` before it, and they are `new` and `s'` behind it. Where the daemon
+-- passes over a line, it draws no number, and the core stays. Where it comes with a line, or to leave, it draws one; or memory was wanting
+-- for the line: then the core stays, and the daemon means to leave, so its leave is next.
+pub data DoesComing {T : Type 0} (coming : Coming) (old new : LoggedLock T) (s s' : ScriptPlace) : Type 0 where
+  passes : coming ≡ comings.Passes → new ≡ old → s.place < s'.place → s'.drawn ≡ s.drawn → DoesComing coming old new s s'
+  draws : (line : ℕ) → coming ≡ comings.Comes s.daemon line → new.lock.roll.drawn ≡ old.lock.roll.drawn + 1 → s'.drawn ≡ s.drawn + 1
+      → DoesComing coming old new s s'
+  starves : (line : ℕ) → coming ≡ comings.Comes s.daemon line → new ≡ old → s.leaving ≡ None → s' ≡ record s { leaving = Some leaves.Memory }
+      → DoesComing coming old new s s'
 
--- The turn was taken: it is over with at most one entry and one number more, it brought the daemon on, the daemon's progress holds again,
--- and each number that was drawn is counted there.
-pub record EndsTurn {T : Type 0} (b : RunStart) (script : List ScriptStep) (o : BeforeTurn) (k : LoggedLock T) (s s' : ScriptPlace) : Type 0 where
+-- The turn of the daemon that was this in the roll was taken: it is over with at most one entry and one number more, it did what came, the
+-- daemon's progress holds again, and each number that was drawn is counted there.
+pub record EndsTurn {T : Type 0} (b : RunStart) (script : List ScriptStep) (old : LoggedLock T) (x : Daemon) (new : LoggedLock T) (s s' : ScriptPlace) : Type 0 where
   pub entries : List Entry
   pub after : Daemon
   pub drawn : ℕ
-  pub over : IsOver o entries after drawn k.lock.roll k.log
-  pub next : AddsAtMostOne o entries
-  pub more : o.roll.drawn ≤ drawn
-  pub few : drawn ≤ o.roll.drawn + 1
-  pub goes_on : BringsOn o drawn s s'
-  pub holds : ProgressHolds b script k.lock.roll k.log.journal s'
+  pub over : IsOver (before_of old x) entries after drawn new.lock.roll new.log
+  pub next : AddsAtMostOne (before_of old x) entries
+  pub more : old.lock.roll.drawn ≤ drawn
+  pub few : drawn ≤ old.lock.roll.drawn + 1
+  pub does : DoesComing (coming_of old.lock.roll script s) old new s s'
+  pub holds : ProgressHolds b script new.lock.roll new.log.journal s'
   pub same : s'.daemon ≡ s.daemon
-  pub counted : drawn + s.drawn ≤ o.roll.drawn + s'.drawn
+  pub counted : drawn + s.drawn ≤ old.lock.roll.drawn + s'.drawn
 
 -- whatever the daemon was before, it has taken a turn
 abbrev pub TakesTurn : {T : Type 0} → Ghosts T → RunStart → List ScriptStep → LoggedLock T → LoggedLock T → ScriptPlace → ScriptPlace → Type 0
-TakesTurn g b script old new s s' = (x : Daemon) → IsBeforeTurn g b script x old s → EndsTurn b script (before_of old x) new s s'
+TakesTurn g b script old new s s' = (x : Daemon) → IsBeforeTurn g b script x old s → EndsTurn b script old x new s s'
 
 -- whether no daemon at a place takes turns: there is none, or it has left
 abbrev pub is_gone : {T : Type 0} → ℕ → ScriptedCore T → Bool
 is_gone place v = option_map_or (λ (s : ScriptPlace). has_left v.core.lock.roll s.daemon) (slice_get v.progress place) true
 
--- The daemon at a place has taken a turn, by which its progress has come to this. That of all others is as it was.
+-- The daemon at a place has taken a turn, which did what came there, and by which its progress has come to this. That of all others is as it
+-- was.
 pub record TurnsAt {T : Type 0} (b : RunStart) (script : List ScriptStep) (place : ℕ) (old new : ScriptedCore T) : Type 0 where
   pub daemon : Daemon
   pub own : ScriptPlace
   pub found : daemon_of old.core.lock.roll (slice_index_or old.progress place own).daemon ≡ Some daemon
-  pub ends : EndsTurn b script (before_of old.core daemon) new.core (slice_index_or old.progress place own) own
+  pub ends : EndsTurn b script old.core daemon new.core (slice_index_or old.progress place own) own
+  pub does : DoesComing (coming_at script place old) old.core new.core (slice_index_or old.progress place own) own
   pub others : new.progress ≡ slice_set old.progress place own
+
+-- the daemon leaves in its next turn
+abbrev pub LeavesNext : Roll → List ScriptStep → ScriptPlace → Type 0
+LeavesNext r script s = coming_of r script s ≡ comings.Comes s.daemon 0
 
 -- a daemon may leave so
 abbrev pub MayDepart : Roll → List ScriptStep → ScriptPlace → Leave → Type 0

@@ -7,16 +7,20 @@ use Rattle.sdr_machine.specs.declared.daemon.Daemon.{Daemon}
 use Rattle.sdr_machine.specs.declared.has_ground.HasGround.{Ghosts}
 use Rattle.sdr_model.specs.declared.journal.Said.{Said}
 use Rattle.sdr_model.specs.declared.script.ScriptStep.{ScriptStep}
+use Rattle.sdr_daemon.specs.Coming.{coming_of}
 use Rattle.sdr_daemon.specs.Progressing.{WasLookRefused, steps_ahead}
 use Rattle.sdr_daemon.specs.Scripts.{HasKeptSoFar, MayHaveDrawn}
 use Rattle.sdr_daemon.specs.TakingTurns.{IsBeforeTurn, TakesTurn}
 use Rattle.sdr_daemon.specs.TurnEvents.{BeforeTurn, HasSaid, before_of}
 use Rattle.sdr_daemon.specs.Turns.{Phase, Reached, SayLines, entries_by, names_after, opens_work, steps_by}
+use Rattle.sdr_daemon.specs.declared.coming.Coming.TheVariants as comings
 use Rattle.sdr_daemon.specs.declared.script_place.ScriptPlace.{ScriptPlace}
 
 -- A daemon is in the transaction of a turn, in which it has said these lines.
 pub record IsInWork {T : Type 0} (g : Ghosts T) (b : RunStart) (script : List ScriptStep) (o : BeforeTurn) (k : LoggedLock T) (first s : ScriptPlace) : Type 0 where
   pub run : KeepsRun g b k
+  pub line : ℕ
+  pub comes : coming_of o.roll script first ≡ comings.Comes first.daemon line  -- it has come with this line
   pub lines : List ScriptStep
   pub said : List Said
   pub within : HasSaid o said k.lock.roll k.log

@@ -1,7 +1,9 @@
-// Daemons in threads.
-ghost use Rattle.std.specs.Prelude.{◌≡◌, not};
+// A run of daemons.
+ghost use Rattle.std.specs.Prelude.{◌≡◌, ◌<◌, ◌≤◌, All, [], false, length, not, vec_capacity, vec_len};
 ghost use Rattle.std.specs.List.{list_any};
 ghost use Rattle.sdr_core.specs.CoreKept.{IsRunOf};
+ghost use Rattle.sdr_core.specs.Numbers.{numbers_done};
+ghost use Rattle.sdr_daemon.specs.Coming.{is_over};
 ghost use Rattle.sdr_daemon.specs.Progressing.{IsFresh};
 ghost use Rattle.sdr_daemon.specs.Scripts.{KeepsToScripts, is_memory_leave};
 ghost use Rattle.sdr_machine.specs.Crash.{is_sound};
@@ -10,14 +12,16 @@ ghost use Rattle.sdr_words.specs.Daemons.{daemons_of};
 use crate::coming::Coming;
 use crate::script_place::Scripted;
 use crate::scripted_run::ScriptedRun;
+use crate::threads::{NO_PLACE, Room, take_turns_in_threads};
 use sdr_base::Gate;
 use sdr_core::{Core, Origin};
 use sdr_machine::Tells;
 use sdr_model::{Entry, Journal, Leave, Script, What};
+use sdr_turn::Turn;
 use std::alloc::Global;
-use std::sync::{Mutex, Wait};
-use std::thread;
-use std::thread::{Threads, yield_now};
+use std::sync::Wait;
+use std::sync::atomic::AtomicU64;
+use std::thread::Threads;
 
 /// What a run of daemons has come to.
 #[derive(Drop)]
@@ -44,96 +48,65 @@ fn is_memory_leave(entry: &Entry) -> bool
     )
 }
 
-// The daemon at a place takes its next turn. The gate is called before that, and never under the lock. Tells whether the daemon was
-// still there.
-fn take_turn<R: Wait, T: Tells, J: Origin, S: Scripted, G: Gate>(
-    rt: &R,
-    run: &Mutex<ScriptedRun<T, J, S>>,
-    gate: &G,
-    place: usize,
-) -> bool {
-    let coming = run.lock(rt).coming(place);
-    match coming {
-        Coming::Gone => return false,
-        Coming::Passes => (),
-        Coming::Comes { daemon, line } => gate.before(daemon, line),
-    }
-    let mut held = run.lock(rt);
-    // Something else comes where the disk has failed meanwhile, or another thread took the turn.
-    if held.coming(place) == coming {
-        held.turn(place);
-    }
-    true
-}
-
-// The daemon at a place takes its turns until it has left.
-fn take_turns<R: Wait, T: Tells, J: Origin, S: Scripted, G: Gate>(
-    rt: &R,
-    run: &Mutex<ScriptedRun<T, J, S>>,
-    gate: &G,
-    place: usize,
-) {
-    for _ in rt.forever() {
-        if !take_turn(rt, run, gate, place) {
-            return;
-        }
-        // A look that waits is made again at once. Before that this yields, to let others have the lock.
-        yield_now();
+// Each daemon passes over its first lines that are refused outside a transaction. Tells what each does then.
+fn first_of_all<T: Tells, J: Origin, S: Scripted>(
+    run: &mut ScriptedRun<T, J, S>,
+    first: &mut Vec<Coming>,
+)
+    requires journal { run.old.core.log.journal ≡ [] }
+    requires empty { vec_len first.old ≡ 0 }
+    requires room { length J.begins.daemons ≤ vec_capacity first.old }
+    ensures core { run.new.core ≡ run.old.core }
+    ensures count { vec_len first.new ≡ length J.begins.daemons }
+    ensures stay { All (λ c. is_over c ≡ false) first.new.items }
+    ensures done { 0 < length J.begins.daemons →
+        numbers_done run.new.core.lock.roll ≡ run.new.core.lock.roll.drawn }
+{
+    for place in 0..run.places() {
+        first.push_reserved(run.pass_lines(place));
     }
 }
 
-// All daemons take turns, one after another, until they have left: a look may wait for a daemon that comes later.
-fn take_turns_of_all<R: Wait, T: Tells, J: Origin, S: Scripted, G: Gate>(
-    rt: &R,
-    run: &Mutex<ScriptedRun<T, J, S>>,
-    gate: &G,
-    places: usize,
-) {
-    for _ in rt.forever() {
-        let mut all_left = true;
-        for place in 0..places {
-            if take_turn(rt, run, gate, place) {
-                all_left = false;
-            }
-        }
-        if all_left {
-            return;
-        }
-        yield_now();
-    }
-}
-
-// Each daemon takes its turns in a thread of its own. Where a thread can't be started, all of them take turns in this one too.
-fn take_turns_in_threads<
-    'x,
+// Daemons take their turns in threads, at a lock. Where there is no memory for that, all mean to leave for want of it.
+fn run_at_lock<
     R: Threads + Wait + Sync,
     T: Tells + Send,
     J: Origin + Send + Sync,
     S: Scripted + Send + Sync,
     G: Gate + Sync,
->(rt: &'x R, run: &'x Mutex<ScriptedRun<T, J, S>>, gate: &'x G, places: usize) {
-    thread::scope(thread::scope_env(), rt, |scope| {
-        let mut refused = false;
-        for place in 0..places {
-            if scope
-                .spawn(move || take_turns(rt, run, gate, place))
-                .is_err()
-            {
-                refused = true;
-            }
+>(rt: &R, alloc: Global, mut run: ScriptedRun<T, J, S>, gate: &G) -> ScriptedRun<T, J, S>
+    requires fresh { IsFresh T.HasGround J.begins run.core }
+{
+    let places = run.places();
+    if places == 0 {
+        return run;
+    }
+    let (Ok(mut first), Some(room)) = (Vec::with_capacity(alloc, places), Room::new(alloc, places))
+    else {
+        run.starve();
+        return run;
+    };
+    first_of_all(&mut run, &mut first);
+    let (lock, seats) = match Turn::new(alloc, run, places as u64) {
+        Ok(made) => made,
+        Err(mut run) => {
+            run.starve();
+            return run;
         }
-        if refused {
-            take_turns_of_all(rt, run, gate, places);
-        }
-    });
+    };
+    let refused = AtomicU64::new(NO_PLACE);
+    let seats = take_turns_in_threads(rt, &lock, gate, &refused, seats, first, room);
+    lock.close(seats)
 }
 
-/// Runs the daemons that the script names, each in a thread of its own, at one lock. A thread holds the lock while its daemon takes
-/// one turn, and while it looks what comes next. The gate is called before each begin, look and leave, without the lock. Where a
-/// thread can't be started, the caller takes turns of all daemons until they have left. Once the threads are done, it runs what a
-/// script still has.
+/// Runs the daemons that the script names, each in a thread of its own, at one lock. For a turn a daemon draws a number, and is served in
+/// the order of the numbers; it holds the lock while it takes the turn, and while it looks what comes next. The gate is called before
+/// each begin, look and leave, before the number is drawn. Only where the disk fails, or memory is wanting, between the draw and the
+/// turn, does a daemon leave with the number that it drew for something else, and without another call of the gate. Where a thread
+/// can't be started, the caller takes turns of its daemon, until it has left. Once the threads are done, it runs what a script still has.
 ///
-/// It needs no memory of its own. No clause says that a thread runs, that each daemon comes to its turn, or that the call returns.
+/// Where there is no memory for the lock, each daemon leaves for want of it. No clause says that a thread runs, that each daemon comes to
+/// its turn, or that the call returns.
 pub fn run_all<
     R: Threads + Wait + Sync,
     T: Tells + Send,
@@ -150,11 +123,9 @@ pub fn run_all<
     ensures starved { result.starved ≡ list_any is_memory_leave result.journal }
 {
     let run = ScriptedRun::<T, J, S>::new(alloc, core, script);
-    let places = run.places();
-    let run = Mutex::new(run);
-    take_turns_in_threads(rt, &run, gate, places);
-    // All have left by now. That it is so is looked at here, and rests on no fact about a thread.
-    let mut run = run.into_inner();
+    let mut run = run_at_lock(rt, alloc, run, gate);
+    // Where there was memory for the lock, all that drew fewer than 2^40 numbers have left by now. That it is so is looked at here,
+    // and rests on no fact about a thread.
     run.take_turns(rt, gate);
     let failed = run.has_failed();
     let (journal, base) = run.finish();

@@ -1,8 +1,10 @@
 // A core, and the progress of its daemons in their scripts.
-ghost use Rattle.std.specs.Prelude.{◌≡◌, ◌≤◌, false, is_some, length, map, not, true};
+ghost use Rattle.std.specs.Prelude.{◌≡◌, ◌<◌, ◌≤◌, false, is_some, length, map, not, true};
 ghost use Rattle.sdr_core.specs.CoreKept.{IsRunOf, KeepsRun};
-ghost use Rattle.sdr_daemon.specs.Coming.{coming_at};
-ghost use Rattle.sdr_daemon.specs.Progressing.{IsFresh, first_progress, have_left};
+ghost use Rattle.sdr_core.specs.Numbers.{numbers_done};
+ghost use Rattle.sdr_daemon.specs.Coming.{coming_at, is_over};
+ghost use Rattle.sdr_daemon.specs.Drawing.{DrawsAt, GoesOnAt, entries_at, have_leave, starved};
+ghost use Rattle.sdr_daemon.specs.Progressing.{IsFresh, IsScriptedRun, first_progress, have_left};
 ghost use Rattle.sdr_daemon.specs.Scripts.{KeepsToScripts};
 ghost use Rattle.sdr_daemon.specs.TakingTurns.{TurnsAt, is_gone};
 ghost use Rattle.sdr_machine.specs.Crash.{is_sound};
@@ -15,7 +17,8 @@ use arrayvec::ArrayVec;
 use sdr_base::Gate;
 use sdr_core::{Core, Origin};
 use sdr_machine::{Roll, Tells};
-use sdr_model::{Journal, Script};
+use sdr_model::{Entry, Journal, Leave, Script};
+use sdr_turn::Kept;
 use std::alloc::Global;
 use std::marker::{Model, PhantomData};
 use std::sync::Wait;
@@ -45,6 +48,25 @@ impl<T: Tells, J: Origin, S: Scripted> Model for ScriptedRun<T, J, S> {
         × (s.script ≡ S.script) };
 }
 
+impl<T: Tells, J: Origin, S: Scripted> Kept for ScriptedRun<T, J, S> {
+    ghost use Rattle.std.specs.Prelude.{◌≡◌};
+    ghost use Rattle.sdr_core.specs.Numbers.{numbers_done};
+    ghost use Rattle.sdr_daemon.specs.Drawing.{place_of};
+
+    type Entry = Entry;
+
+    ghost entries = { λ v. v.core.log.journal };
+
+    ghost number = { λ e. e.number };
+
+    ghost maker = { λ e. place_of J.begins.daemons e.daemon };
+
+    ghost turns = { λ v. numbers_done v.core.lock.roll };
+
+    // Every number that was drawn is done.
+    ghost rests = { λ v. numbers_done v.core.lock.roll ≡ v.core.lock.roll.drawn };
+}
+
 // The daemons of a roll before their first lines. It takes no memory.
 fn progress_of(alloc: Global, roll: &Roll) -> ArrayVec<ScriptPlace, MOST_DAEMONS, Global>
     requires { length roll.now.daemons ≤ MOST_DAEMONS }
@@ -56,6 +78,15 @@ fn progress_of(alloc: Global, roll: &Roll) -> ArrayVec<ScriptPlace, MOST_DAEMONS
         progress.push(first_progress(alloc, daemon.id));
     }
     progress
+}
+
+// Each of these daemons means to leave from now on, for want of memory unless it meant to before.
+fn starve_all(these: &mut [ScriptPlace])
+    ensures { these.new ≡ map starved these.old }
+{
+    for own in these.iter_mut() {
+        own.leaving = Some(own.leaving.unwrap_or(Leave::Memory));
+    }
 }
 
 impl<T: Tells, J: Origin, S: Scripted> ScriptedRun<T, J, S> {
@@ -81,19 +112,23 @@ impl<T: Tells, J: Origin, S: Scripted> ScriptedRun<T, J, S> {
 
     /// How many daemons there are. Their places are those below.
     pub fn places(&self) -> usize
-        ensures { result ≡ length self.now.progress }
+        ensures places { result ≡ length self.now.progress }
+        ensures daemons { result ≡ length J.begins.daemons }
+        ensures few { result ≤ MOST_DAEMONS }
     {
         self.progress.len()
     }
 
     // Whether no daemon at a place takes turns: there is none, or it has left. The clauses from `run` on aren't about the answer:
-    // they hand on what `Core::roll` ensures, which `turn` needs.
+    // they hand on what `Core::roll` ensures and what the type keeps.
     fn is_gone(&self, place: usize) -> bool
         ensures gone { result ≡ is_gone place self.now }
         ensures run { KeepsRun T.HasGround J.begins self.now.core }
         ensures few { length self.now.core.lock.roll.daemons ≤ 256 }
         ensures failed { is_some self.now.core.lock.roll.failed
             ≡ not (is_sound self.now.core.log.journal) }
+        ensures holds { IsScriptedRun T.HasGround J.begins S.script self.now.core
+            self.now.progress }
     {
         let roll = self.core.roll();
         match self.progress.as_slice().get(place) {
@@ -102,16 +137,19 @@ impl<T: Tells, J: Origin, S: Scripted> ScriptedRun<T, J, S> {
         }
     }
 
-    /// What the daemon at a place does in its next turn, if memory isn't wanting there. The call takes no memory.
+    /// What the daemon at a place does in its next turn, if memory isn't wanting there. The call takes no memory. Where nothing comes, a
+    /// leave is among the entries of the daemon at that place (`left`). All numbers that were drawn are done (`done`).
     pub fn coming(&self, place: usize) -> Coming
-        ensures { result ≡ coming_at S.script place self.now }
+        ensures comes { result ≡ coming_at S.script place self.now }
+        ensures left { place < length J.begins.daemons → is_over result
+            ≡ have_leave (entries_at J.begins.daemons place self.now.core.log.journal) }
+        ensures done { numbers_done self.now.core.lock.roll ≡ self.now.core.lock.roll.drawn }
     {
-        let roll = self.core.roll();
-        match self.progress.as_slice().get(place) {
-            None => Coming::Gone,
-            Some(own) if roll.has_left(own.daemon) => Coming::Gone,
-            Some(own) => coming_of(roll, own, self.script.as_slice()),
+        if self.is_gone(place) {
+            return Coming::Gone;
         }
+        let own = &self.progress.as_slice()[place];
+        coming_of(self.core.roll(), own, self.script.as_slice())
     }
 
     /// The daemon at a place takes a turn, unless it has left.
@@ -125,6 +163,75 @@ impl<T: Tells, J: Origin, S: Scripted> ScriptedRun<T, J, S> {
         }
         let own = &mut self.progress.as_mut_slice()[place];
         turn::<T, J, S>(self.alloc, &mut self.core, own, self.script.as_slice());
+    }
+
+    /// The daemon at a place passes over its lines that are refused outside a transaction. Tells what it does then.
+    pub fn pass_lines(&mut self, place: usize) -> Coming
+        ensures core { self.new.core ≡ self.old.core }
+        ensures own { GoesOnAt 0 place self.old.progress self.new.progress }
+        ensures comes { result ≡ coming_at S.script place self.new }
+        ensures passed { result ≡ Coming.Passes → ⊥ }
+        ensures left { place < length J.begins.daemons → is_over result
+            ≡ have_leave (entries_at J.begins.daemons place self.new.core.log.journal) }
+        ensures done { numbers_done self.new.core.lock.roll ≡ self.new.core.lock.roll.drawn }
+    {
+        loop {
+            match self.coming(place) {
+                Coming::Passes => self.turn(place),
+                coming => return coming,
+            }
+        }
+    }
+
+    // How many numbers were drawn. The clause `holds` hands on what the type keeps.
+    fn drawn(&self) -> u64
+        ensures drawn { result ≡ self.now.core.lock.roll.drawn }
+        ensures holds { IsScriptedRun T.HasGround J.begins S.script self.now.core
+            self.now.progress }
+    {
+        self.core.roll().drawn()
+    }
+
+    // The daemon at a place, which passes over no line, takes a turn. Where memory was wanting in that, it takes the next, in which it
+    // leaves.
+    fn draw_once(&mut self, place: usize)
+        requires stays { is_gone place self.old ≡ false }
+        requires comes { coming_at S.script place self.old ≡ Coming.Passes → ⊥ }
+        ensures { DrawsAt J.begins.daemons place self.old self.new }
+    {
+        let before = self.drawn();
+        self.turn(place);
+        if self.drawn() > before {
+            return;
+        }
+        self.turn(place);
+    }
+
+    /// The daemon at a place draws a number: it begins a transaction, looks at a ticket, or leaves. Lines that are refused outside a
+    /// transaction are passed over before that and behind it. Tells what the daemon does then. Where memory is wanting for what it begins
+    /// or looks at, it leaves with that number. The daemon is one that has made no leave (`stays`).
+    pub fn draw_number(&mut self, place: usize) -> Coming
+        requires place { place < length J.begins.daemons }
+        requires stays { have_leave (entries_at J.begins.daemons place
+            self.old.core.log.journal) ≡ false }
+        ensures draws { DrawsAt J.begins.daemons place self.old self.new }
+        ensures comes { result ≡ coming_at S.script place self.new }
+        ensures passed { result ≡ Coming.Passes → ⊥ }
+        ensures left { is_over result
+            ≡ have_leave (entries_at J.begins.daemons place self.new.core.log.journal) }
+        ensures done { numbers_done self.new.core.lock.roll ≡ self.new.core.lock.roll.drawn }
+    {
+        self.pass_lines(place);
+        self.draw_once(place);
+        self.pass_lines(place)
+    }
+
+    /// All daemons mean to leave from now on, for want of memory unless they meant to before.
+    pub fn starve(&mut self)
+        ensures core { self.new.core ≡ self.old.core }
+        ensures starved { self.new.progress ≡ map starved self.old.progress }
+    {
+        starve_all(self.progress.as_mut_slice());
     }
 
     /// Whether all daemons have left.

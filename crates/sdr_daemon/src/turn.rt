@@ -1,10 +1,9 @@
 // One turn of a daemon at the lock.
-ghost use Rattle.std.specs.Prelude.{◌≡◌, ◌≤◌, ◌<◌, ◌^◌, ◌+◌, ◌∷◌, None, Some, false, length, is_some, true};
+ghost use Rattle.std.specs.Prelude.{◌≡◌, ◌<◌, ◌^◌, ◌+◌, Some, false, is_some, true};
 ghost use Rattle.sdr_core.specs.CoreKept.{MakesCoreStep};
 ghost use Rattle.sdr_core.specs.Leaving.{LastsOn};
-ghost use Rattle.sdr_daemon.specs.Progressing.{steps_ahead};
 ghost use Rattle.sdr_daemon.specs.Scripts.{IsLeaveDue};
-ghost use Rattle.sdr_daemon.specs.TakingTurns.{DoesLine, MayDepart, MaySayNext, MayTakeTurn, SaysLine, TakesTurn};
+ghost use Rattle.sdr_daemon.specs.TakingTurns.{DoesLine, LeavesNext, MayDepart, MaySayNext, MayTakeTurn, SaysLine, TakesTurn};
 ghost use Rattle.sdr_daemon.specs.Turns.{is_refused_outside};
 ghost use Rattle.sdr_daemon.specs.Working.{BeginComesTo};
 ghost use Rattle.sdr_machine.specs.Core.{closed_by};
@@ -15,6 +14,7 @@ use sdr_base::Refusal;
 use sdr_core::{Core, Origin};
 use sdr_machine::{Came, Tells};
 use sdr_model::{Answer, Event, Leave, Reply, ScriptStep};
+use sdr_words::begins_or_looks;
 use std::alloc::Global;
 
 /// What came of a line.
@@ -114,6 +114,7 @@ fn depart<T: Tells, J: Origin, S: Scripted>(
     requires lasts { LastsOn T.HasGround core.old.lock.base }
     requires may { MayDepart core.old.lock.roll S.script progress.old leave }
     requires due { IsLeaveDue progress.old.leaving leave }
+    requires comes { LeavesNext core.old.lock.roll S.script progress.old }
     ensures ends { TakesTurn T.HasGround J.begins S.script core.old core.new progress.old
         progress.new }
     ensures lasts { LastsOn T.HasGround core.new.lock.base }
@@ -130,11 +131,9 @@ fn pass<T: Tells, J: Origin, S: Scripted>(
     step: &ScriptStep,
     after: usize,
 )
-    requires ahead { steps_ahead S.script progress.old.daemon progress.old.place
-        ≡ step.now ∷ steps_ahead S.script progress.old.daemon after }
-    requires within { after ≤ length S.script }
+    requires next { MaySayNext S.script core.now.lock.roll progress.old step.now after
+        (event_of progress.old.names step.now) }
     requires further { progress.old.place < after }
-    requires stays { progress.old.leaving ≡ None }
     requires passed { is_refused_outside (event_of progress.old.names step.now) ≡ true }
     ensures ends { TakesTurn T.HasGround J.begins S.script core.now core.now progress.old
         progress.new }
@@ -303,6 +302,9 @@ pub fn turn<T: Tells, J: Origin, S: Scripted>(
     let Some((step, after)) = next_step(script, progress.daemon, progress.place) else {
         return depart::<T, J, S>(core, progress, Leave::Done);
     };
+    if !begins_or_looks(step) {
+        return pass::<T, J, S>(alloc, core, progress, step, after);
+    }
     let Ok(event) = progress.names.event(alloc, step) else {
         progress.leaving = Some(Leave::Memory);
         return;
@@ -312,6 +314,6 @@ pub fn turn<T: Tells, J: Origin, S: Scripted>(
         Event::Look(ticket) => {
             look::<T, J, S>(alloc, core, progress, step, after, &event, *ticket)
         }
-        _ => pass::<T, J, S>(alloc, core, progress, step, after),
+        _ => unreachable!(),
     }
 }

@@ -1,5 +1,6 @@
 pub mod ChangedLemmas
 pub mod ChangingLemmas
+pub mod FaultedLemmas
 pub mod FormatLemmas
 pub mod FormattedLemmas
 pub mod ImageLemmas

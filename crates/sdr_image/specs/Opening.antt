@@ -6,6 +6,7 @@ use Rattle.sdr_base.specs.declared.line.TheConstants.{LINE}
 use Rattle.sdr_disk.specs.Moments.{Only}
 use Rattle.sdr_disk.specs.Told.{Both, IfTold}
 use Rattle.sdr_log.specs.Calls.{KeepsDisk, PutsBack}
+use Rattle.sdr_log.specs.Faulted.{FailsAtGate}
 use Rattle.sdr_log.specs.Frame.{IsInLimits, frame_of, room_of}
 use Rattle.sdr_log.specs.Log.{put_back_of}
 use Rattle.sdr_log.specs.Logged.{IsLogged}
@@ -50,6 +51,12 @@ pub record IsStopped (x : List ℕ) (left : List ℕ → Type 0) : Type 0 where
 -- nothing is pending on a disk that is handed in, or in lines alone that its open batches name
 abbrev pub MayBeOpened : List ℕ → (List ℕ → Type 0) → Type 0
 MayBeOpened x left = Only x left ⊎ IsStopped x left
+
+-- a disk that might be opened may be opened again, or it failed as its recovery closed the first gate
+abbrev pub FailsOpening : {D : Type 0} → (D → Option (List ℕ)) → (D → ℕ) → (D → ℕ → List ℕ → Type 0) → D → D → Type 0
+FailsOpening told moment may_hold_after old new =
+    Both (told old) (told new) (λ x y. MayBeOpened x (may_hold_after old (moment old))
+    → MayBeOpened y (may_hold_after new (moment new)) ⊎ FailsAtGate moment may_hold_after old new x y)
 
 -- An image that was just opened. The bytes are those of the heap that the disk gives; the open batches are put back;
 -- nothing is touched, and no transaction is open. The disk rests, where it may be opened.

@@ -72,7 +72,7 @@ impl<D: Disk> Model for Image<D> {
 
 impl<D: Disk> Image<D> {
     ghost use Rattle.sdr_image.specs.Opened.{Opened};
-    ghost use Rattle.sdr_image.specs.Opening.{IsOpened, Returns, disk_in};
+    ghost use Rattle.sdr_image.specs.Opening.{FailsOpening, IsOpened, Returns, disk_in};
 
     /// Opens a disk that has a heap. Where batches are open, their lines are put back: by a write
     /// for each, a sync, a write and a sync; else it is only read. All memory is taken here, before the
@@ -87,6 +87,9 @@ impl<D: Disk> Image<D> {
         // Where it isn't opened and hasn't failed, the disk was only read.
         ensures same { IfErr result (λ shut. UnlessFault shut.why
             (Reads D.bytes D.moment D.may_hold_after disk shut.disk)) }
+        // After a fault it may be opened again, or it failed as the first gate was being closed.
+        ensures faulted { IfErr result (λ shut.
+            FailsOpening D.bytes D.moment D.may_hold_after disk shut.disk) }
         ensures quiet { IfTold (D.bytes disk) (λ x. first_gate x ≡ 0
             → Reads D.bytes D.moment D.may_hold_after disk (disk_in result)) }
         ensures forward { D.moment disk ≤ D.moment (disk_in result) }

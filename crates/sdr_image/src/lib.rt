@@ -24,7 +24,8 @@
 //! Proved: a commit is whole or nothing: a crash at any moment leaves the bytes at its begin or at its end, after
 //! `Ok` those at its end (`any_moment`, `saved`). `LogFull` comes exactly where the touched lines exceed the
 //! room, `NotFormatted` exactly where the disk gives no heap. However often recovery is stopped and begun again, the
-//! heap is the same (`recover_many`), and opening leaves just what a stopped one may leave (`left`). Opening and a
+//! heap is the same (`recover_many`), and opening leaves just what a stopped one may leave (`left`). After a fault in
+//! opening the disk may be opened again, unless it failed as the first gate was being closed (`faulted`). Opening and a
 //! commit change no byte outside the regions (`inside`), and a cancel none at all (`same`). `peek` gives the heap that
 //! the disk gives, put back in memory (`heap`), and only reads the disk (`reads`).
 //!

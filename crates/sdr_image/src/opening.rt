@@ -1,5 +1,5 @@
 // A disk, read for the first time.
-ghost use Rattle.std.specs.Prelude.{◌≡◌, ◌≤◌, ◌<◌, ◌+◌, ◌*◌, IfOk, IfErr, OnOk, None, length};
+ghost use Rattle.std.specs.Prelude.{◌≡◌, ◌≤◌, ◌+◌, ◌*◌, IfOk, IfErr, OnErr, OnOk, None, length};
 ghost use Rattle.sdr_base.specs.Causes.{HasCause};
 ghost use Rattle.sdr_disk.specs.Moments.{AtEach, Only, Reads};
 ghost use Rattle.sdr_disk.specs.Pending.{IsSynced};
@@ -10,7 +10,7 @@ ghost use Rattle.sdr_log.specs.Left.{IsLeftFrom};
 ghost use Rattle.sdr_log.specs.Log.{first_gate, heap_of, put_back_of};
 ghost use Rattle.sdr_log.specs.Logged.{GivesSame};
 ghost use Rattle.sdr_image.specs.Opened.{HasBytes};
-ghost use Rattle.sdr_image.specs.Opening.{HasImageCause, IsReserved, MayBeOpened};
+ghost use Rattle.sdr_image.specs.Opening.{FailsOpening, HasImageCause, IsReserved, MayBeOpened};
 ghost use Rattle.sdr_image.specs.Opening.{OnNotFormatted, UnlessFault};
 
 use crate::ImageError;
@@ -71,6 +71,8 @@ fn restore<D: Disk>(alloc: Global, disk: &mut D, frame: Frame) -> Result<u64, Im
     ensures synced { OnOk result (IfTold (D.bytes disk.old)
         (λ x. MayBeOpened x (D.may_hold_after disk.old (D.moment disk.old))
         → IsSynced D.bytes D.moment D.may_hold_after disk.new)) }
+    ensures faulted { OnErr result
+        (FailsOpening D.bytes D.moment D.may_hold_after disk.old disk.new) }
     ensures quiet { IfTold (D.bytes disk.old) (λ x. first_gate x ≡ 0
         → Reads D.bytes D.moment D.may_hold_after disk.old disk.new) }
     ensures forward { D.moment disk.old ≤ D.moment disk.new }
@@ -125,6 +127,9 @@ pub fn load<D: Disk>(alloc: Global, disk: &mut D) -> Result<Loaded, ImageError>
     ensures cause { HasImageCause (D.faults disk.old) (D.faults disk.new) result }
     ensures same { IfErr result (λ why. UnlessFault why
         (Reads D.bytes D.moment D.may_hold_after disk.old disk.new)) }
+    // After a fault it may be opened again, or it failed as the first gate was being closed.
+    ensures faulted { OnErr result
+        (FailsOpening D.bytes D.moment D.may_hold_after disk.old disk.new) }
 
     ensures disk { KeepsDisk D.size D.bytes disk.old disk.new }
     ensures inside { Both (D.bytes disk.old) (D.bytes disk.new) KeepsRest }

@@ -1,6 +1,7 @@
 pub mod BatchLemmas
 pub mod BehindLemmas
 pub mod ClosingLemmas
+pub mod FaultedLemmas
 pub mod FoundLemmas
 pub mod FrameLemmas
 pub mod GoodLemmas
@@ -9,6 +10,7 @@ pub mod LogLemmas
 pub mod LoggedLemmas
 pub mod OpeningLemmas
 pub mod OutsideLemmas
+pub mod PendingLemmas
 pub mod ProtocolLemmas
 pub mod PuttingLemmas
 pub mod ReadingLemmas

@@ -9,6 +9,7 @@ use Rattle.sdr_base.proofs.PartsLemmas.{overwrite-inside, overwrite-part, part-o
 use Rattle.sdr_disk.specs.Moments.{AtEach, IsTorn, Only, Writes}
 use Rattle.sdr_base.specs.Parts.{overwrite, part}
 use Rattle.sdr_disk.specs.Ranges.{Agrees, IsInNone, range}
+use Rattle.sdr_disk.specs.Told.{Both}
 use Rattle.sdr_disk.proofs.MomentsLemmas.{at_first, at_written}
 use Rattle.sdr_base.proofs.PartsLemmas.{length-overwrite}
 use Rattle.sdr_disk.proofs.RangesLemmas.{Agrees-more, Agrees-one_more, Agrees-overwrite, Agrees-refl, Agrees-sym}
@@ -23,6 +24,7 @@ use Rattle.sdr_log.specs.declared.record.Record.{Record}
 use Rattle.sdr_log.proofs.GoodLemmas.{names_line-below}
 use Rattle.sdr_log.proofs.LoggedLemmas.{HasRegions-limits, logged_same, pending_gate, pending_log, pending_logs}
 use Rattle.sdr_log.proofs.LoggedLemmas.{pending_same}
+use Rattle.sdr_log.proofs.PendingLemmas.{written_left}
 
 -- a line written to the disk, as a line of the heap
 heap_of-overwrite : (f : Frame) (line : ℕ) (bytes x : List ℕ) → HasRegions f x → length bytes ≡ 64 →
@@ -69,11 +71,13 @@ module _ (f : Frame) (x : List ℕ) (left : List ℕ → Type 0) (l : IsLogged f
   below : r.line < f.heap_lines
   below = names_line-below f.heap_lines l.records r.line l.logs.good named
 
+  put_line : Agrees (range (heap_place f + 64 * r.line) 64 ∷ []) x put
+  put_line =
+      subst (λ (n : ℕ). Agrees (range (heap_place f + 64 * r.line) n ∷ []) x put) long
+      (Agrees-overwrite (heap_place f + 64 * r.line) r.bytes x [] (omega (arith, below, long, l.logs.regions.inside)))
+
   put_agrees : Agrees (line_ranges f l.records) x put
-  put_agrees =
-      Agrees-named f l.records r.line x put named
-      (subst (λ (n : ℕ). Agrees (range (heap_place f + 64 * r.line) n ∷ []) x put) long
-      (Agrees-overwrite (heap_place f + 64 * r.line) r.bytes x [] (omega (arith, below, long, l.logs.regions.inside))))
+  put_agrees = Agrees-named f l.records r.line x put named put_line
 
   -- the open batches are the same
   pub put_logs : Logs f put l.records
@@ -100,18 +104,24 @@ module _ (f : Frame) (x : List ℕ) (left : List ℕ → Type 0) (l : IsLogged f
       (Agrees-trans (line_ranges f l.records) x whole image (l.pending whole of_left)
       (Agrees-named f l.records r.line whole image named g))
 
-  -- all that is pending then is logged, as before
+  -- where other bytes may stand in the line, all that is pending is logged, as before
+  pub still_logged : (y : List ℕ) (left' : List ℕ → Type 0) → Agrees (range (heap_place f + 64 * r.line) 64 ∷ []) x y →
+      ((image : List ℕ) → left' image → IsTorn left (heap_place f + 64 * r.line) 64 image) → IsLogged f y left'
+  still_logged y left' line torn =
+      let here = Agrees-named f l.records r.line x y named line in
+      record {
+        records = l.records;
+        logs = pending_logs f x y l.records l.logs here;
+        pending = λ image of_left.
+            let t = torn image of_left in
+            Agrees-trans (line_ranges f l.records) y x image (Agrees-sym (line_ranges f l.records) x y here)
+            (Agrees-trans (line_ranges f l.records) x t.whole image (l.pending t.whole t.left_before)
+            (Agrees-named f l.records r.line t.whole image named t.agrees));
+      }
+
   pub put_logged : (left' : List ℕ → Type 0) →
       ((image : List ℕ) → left' image → IsTorn left (heap_place f + 64 * r.line) 64 image) → IsLogged f put left'
-  put_logged left' torn = record {
-    records = l.records;
-    logs = put_logs;
-    pending = λ image of_left.
-        let t = torn image of_left in
-        Agrees-trans (line_ranges f l.records) put x image (Agrees-sym (line_ranges f l.records) x put put_agrees)
-        (Agrees-trans (line_ranges f l.records) x t.whole image (l.pending t.whole t.left_before)
-        (Agrees-named f l.records r.line t.whole image named t.agrees));
-  }
+  put_logged left' torn = still_logged put left' put_line torn
 
 -- what stands where so many lines are put and these are left
 pub record PutSoFar {D : Type 0} (moment : D → ℕ) (may_hold_after : D → ℕ → List ℕ → Type 0) (f : Frame)
@@ -165,10 +175,19 @@ module _ {D : Type 0} (moment : D → ℕ) (may_hold_after : D → ℕ → List 
         at_written moment may_hold_after old now new (GivesSame x) place 64 s.each w
         (λ whole image of_left g. torn_same f p.y _ s.may.logged r named long whole image of_left g ∙ s.back)
 
+    -- where it failed
+    pub putting_failed : (y : List ℕ) → bytes new ≡ Some y → Both (bytes now) (bytes new) (Agrees (range place 64 ∷ [])) →
+        MayPut f lines x (may_hold_after old (moment old)) → IsLogged f y (may_hold_after new (moment new))
+    putting_failed y is others m =
+        let s = p.so_far m in
+        let named = (subst (λ (l : List Record). AreNamed s.may.logged.records l) split s.may.named).0 in
+        still_logged f p.y _ s.may.logged r named long y (may_hold_after new (moment new)) (others p.y p.told y is)
+        (written_left moment may_hold_after now new place 64 w)
+
     -- and once it is done
     pub putting_more : bytes new ≡ Some (overwrite place r.bytes p.y) → moment new ≡ moment now + 2 →
         Putting moment may_hold_after bytes f lines rest old new x
-    unfolding put_logged
+    unfolding put_logged still_logged
     putting_more is rises = record {
       y = overwrite place r.bytes p.y;
       told = is;

@@ -1,8 +1,8 @@
 -- Why the records that are read are those of the open batches.
 use Rattle.std.proofs.Common.{◌≡◌, ◌≢◌, ◌≤◌, ◌<◌, inl, inr, ℕ, zero, suc, ◌+◌, ◌-◌, ◌*◌, Bool, true, false, cond}
 use Rattle.std.proofs.Common.{◌||◌, ◌==◌, List, [], ◌∷◌, ◌++◌, length, take, drop, refl, sym, ap, ◌∙◌}
-use Rattle.std.proofs.Common.{subst, arith, nat_le, append-nil, append_assoc, length-drop, Some, None}
-use Rattle.std.specs.Prelude.{Option, option_map, slice_set}
+use Rattle.std.proofs.Common.{true≢false, subst, arith, nat_le, append-nil, append_assoc, length-drop, Some, None}
+use Rattle.std.specs.Prelude.{Option, option_and_then, option_map, slice_set, if◌then◌else◌}
 use Rattle.std.proofs.lemmas.Option.{same_Some, none-some}
 use Rattle.std.proofs.lemmas.Bool.{cases_eq}
 use Rattle.std.proofs.lemmas.Bool.Decides.{nat_tests}
@@ -11,7 +11,7 @@ use Rattle.std.proofs.lemmas.List.{length-set}
 use Rattle.sdr_log.specs.BackErrors.{OnBadLog}
 use Rattle.sdr_log.specs.Frame.{first_number}
 use Rattle.sdr_log.specs.Log.{are_good, batches_of, names_line, records_of}
-use Rattle.sdr_log.specs.Reading.{IsBad, IsMarked, IsWrong, Noted, ReadsBatch, noted}
+use Rattle.sdr_log.specs.Reading.{IsBad, IsMarked, IsWrong, Noted, ReadsBatch, good_records, if_good, noted}
 use Rattle.sdr_log.specs.declared.error.BackError.{BackError}
 use Rattle.sdr_log.specs.declared.error.BackError.TheVariants as errors
 use Rattle.sdr_log.specs.declared.record.Record.{Record}
@@ -33,16 +33,21 @@ IsMarked-push records r marks m (lt, free) = record {
   ];
 }
 
+-- a test that isn't true is false
+is_false : (b : Bool) → (b ≡ true → ⊥) → b ≡ false
+is_false true never = absurd (never refl)
+is_false false never = refl
+
 -- a record that may be added is of the heap, and no other names its line
 pub IsBad-refused : (n : Noted) (r : Record) →
     ((r.line < n.lines) × (names_line n.records r.line ≡ false) → ⊥) → IsBad n (r ∷ [])
-IsBad-refused n r never good = never (are_good-last n.lines n.records r good)
+IsBad-refused n r never = is_false _ (λ good. never (are_good-last n.lines n.records r good))
 
 -- where the first of more records can't stand, all can't
 pub IsBad-more : (n : Noted) (first more : List Record) → IsBad n first → IsBad n (first ++ more)
-IsBad-more n first more bad good =
-    bad (are_good-before n.lines (n.records ++ first) more
-    (ap (are_good n.lines) (append_assoc n.records first more) ∙ good))
+IsBad-more n first more bad =
+    is_false _ (λ good. true≢false (sym (are_good-before n.lines (n.records ++ first) more
+    (ap (are_good n.lines) (append_assoc n.records first more) ∙ good)) ∙ bad))
 
 -- one record from the front, and the others
 pub noted_one_more : (n : Noted) (count : ℕ) (bytes : List ℕ) → (r : Record) →
@@ -74,10 +79,10 @@ pub IsWrong-batch : (n : Noted) (bytes : List ℕ) →
     (first_number (take 4 bytes) == 0 || nat_le (length bytes) (4 + 68 * first_number (take 4 bytes))) ≡ true →
     IsWrong n bytes
 unfolding batches_of
-IsWrong-batch n bytes why zero gate records is_open is good = none-some records is
-IsWrong-batch n bytes why (suc fuel) gate records is_open is good =
+IsWrong-batch n bytes why zero gate records is_open is = absurd (none-some records is)
+IsWrong-batch n bytes why (suc fuel) gate records is_open is =
     let g : (gate == 0) ≡ false = grind (arith, nat_tests, is_open) in
-    none-some records (rw (g, why) at is)
+    absurd (none-some records (rw (g, why) at is))
 
 -- what is found behind an open gate, as its records and those of the batches behind it
 record Opened (bytes : List ℕ) (fuel : ℕ) (records : List Record) : Type 0 where
@@ -113,11 +118,10 @@ opened bytes fuel gate records is_open is =
 pub IsWrong-records : (n : Noted) (bytes : List ℕ) → IsBad n (records_of (first_number (take 4 bytes)) (drop 4 bytes)) →
     IsWrong n bytes
 unfolding batches_of
-IsWrong-records n bytes bad zero gate records is_open is good = none-some records is
-IsWrong-records n bytes bad (suc fuel) gate records is_open is good =
+IsWrong-records n bytes bad zero gate records is_open is = absurd (none-some records is)
+IsWrong-records n bytes bad (suc fuel) gate records is_open is =
     let o = opened bytes fuel gate records is_open is in
-    IsBad-more n (records_of (first_number (take 4 bytes)) (drop 4 bytes)) o.more bad
-    (ap (λ (l : List Record). are_good n.lines (n.records ++ l)) (sym o.is) ∙ good)
+    subst (IsBad n) (sym o.is) (IsBad-more n (records_of (first_number (take 4 bytes)) (drop 4 bytes)) o.more bad)
 
 -- What was found up to here, and what is left to read.
 pub record ReadSoFar (lines : ℕ) (log : List ℕ) (n : Noted) (rest : List ℕ) : Type 0 where
@@ -126,22 +130,6 @@ pub record ReadSoFar (lines : ℕ) (log : List ℕ) (n : Noted) (rest : List ℕ
   pub some : 0 < length rest
   pub same_lines : n.lines ≡ lines
   pub so_far : batches_of (length log) log ≡ option_map (λ more. n.records ++ more) (batches_of fuel rest)
-
-pub read_none : (lines : ℕ) (log : List ℕ) (n : Noted) → 0 < length log → n ≡ record { lines = lines; records = [] } →
-    ReadSoFar lines log n log
-read_none lines log n some is = record {
-  fuel = length log;
-  enough = omega arith;
-  some = some;
-  same_lines = ap (λ (m : Noted). m.lines) is;
-  so_far = same (batches_of (length log) log)
-      ∙ ap (λ (l : List Record). option_map (λ more. l ++ more) (batches_of (length log) log))
-      (sym (ap (λ (m : Noted). m.records) is));
-}
-  where
-    same : (found : Option (List Record)) → found ≡ option_map (λ more. [] ++ more) found
-    same None = refl
-    same (Some records) = refl
 
 module _ (lines : ℕ) (log : List ℕ) (n : Noted) (gate : ℕ) (bytes : List ℕ)
     (s : ReadSoFar lines log n (gate ∷ bytes)) where
@@ -183,30 +171,20 @@ module _ (lines : ℕ) (log : List ℕ) (n : Noted) (gate : ℕ) (bytes : List �
       together own (Some more) = ap Some (sym (append_assoc n.records own more))
 
   -- all batches
-  pub read_all : gate ≡ 0 → batches_of (length log) log ≡ Some n.records
+  pub read_all : gate ≡ 0 → (records : List Record) → records ≡ n.records → are_good n.lines records ≡ true →
+      good_records lines log ≡ Some records
   unfolding less
-  read_all shut =
-      s.so_far
+  read_all shut records are good =
+      ap (option_and_then (if_good lines))
+      (s.so_far
       ∙ ap (λ (k : ℕ). option_map (λ more. n.records ++ more) (batches_of k (gate ∷ bytes))) fuel_is
       ∙ ap (option_map (λ more. n.records ++ more)) (batches_of-closed (s.fuel - 1) gate bytes shut)
-      ∙ ap Some (append-nil n.records)
-
-  -- a wrong one
-  pub read_wrong : gate ≢ 0 → IsWrong n bytes → (records : List Record) → batches_of (length log) log ≡ Some records →
-      are_good lines records ≢ true
-  read_wrong is_open wrong records is good = by (batches_of s.fuel (gate ∷ bytes)) refl (sym s.so_far ∙ is)
-    where
-      by : (found : Option (List Record)) → batches_of s.fuel (gate ∷ bytes) ≡ found →
-          option_map (λ more. n.records ++ more) found ≡ Some records → ⊥
-      by None e f = none-some records f
-      by (Some more) e f =
-          wrong s.fuel gate more is_open e
-          (subst (λ (k : ℕ). are_good k (n.records ++ more) ≡ true) (sym s.same_lines)
-          (ap (are_good lines) (same_Some _ _ f) ∙ good))
+      ∙ ap Some (append-nil n.records ∙ sym are))
+      ∙ ap (λ b. if b then Some records else None) (ap (λ k. are_good k records) (sym s.same_lines) ∙ good)
 
 -- what is said of the same records
 pub IsBad-same : (n m : Noted) (a b : List Record) → noted n a ≡ noted m b → IsBad n a → IsBad m b
-IsBad-same n m a b is bad = subst (λ (o : Noted). are_good o.lines o.records ≢ true) is bad
+IsBad-same n m a b is bad = subst (λ (o : Noted). are_good o.lines o.records ≡ false) is bad
 
 -- of a bad log less is said
 pub OnBadLog-then : {P Q : Type 0} (why : BackError) → (P → Q) → OnBadLog why P → OnBadLog why Q

@@ -1,6 +1,7 @@
 pub mod BackErrors
 pub mod Batch
 pub mod Calls
+pub mod Faulted
 pub mod Frame
 pub mod Left
 pub mod Log

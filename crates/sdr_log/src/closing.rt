@@ -1,16 +1,16 @@
 // The first gate, closed.
-ghost use Rattle.std.specs.Prelude.{◌≡◌, ◌≤◌, ◌<◌, ◌+◌, ◌⊎◌, ◌∷◌, [], OnOk, Some, is_some};
+ghost use Rattle.std.specs.Prelude.{◌≡◌, ◌≤◌, ◌<◌, ◌+◌, ◌⊎◌, ◌∷◌, [], OnErr, OnOk, Some, is_some};
 ghost use Rattle.sdr_base.specs.Causes.{HasCause};
-ghost use Rattle.sdr_disk.specs.Moments.{AtEach, IsTorn, Only, Syncs};
+ghost use Rattle.sdr_disk.specs.Moments.{AtEach, IsTorn, Only, Reads, Syncs};
 ghost use Rattle.sdr_disk.specs.Pending.{IsSynced};
 ghost use Rattle.sdr_disk.specs.Ranges.{Agrees, range};
 ghost use Rattle.sdr_base.specs.Parts.{overwrite};
-ghost use Rattle.sdr_disk.specs.Ranges.{Agrees, range};
 ghost use Rattle.sdr_disk.specs.Told.{Both, IfTold};
 ghost use Rattle.sdr_log.specs.Calls.{Closes, KeepsDisk, KeepsOutside};
+ghost use Rattle.sdr_log.specs.Faulted.{PendsAtGate};
 ghost use Rattle.sdr_log.specs.Frame.{LieInside};
 ghost use Rattle.sdr_log.specs.Log.{heap_of};
-ghost use Rattle.sdr_log.specs.Logged.{GivesHeap, GivesSame, IsOpen};
+ghost use Rattle.sdr_log.specs.Logged.{GivesHeap, GivesSame, IsLogged, IsOpen};
 
 use crate::Frame;
 use crate::saving::save_at;
@@ -19,6 +19,7 @@ use sdr_disk::{Disk, DiskFault};
 
 // Step 1: the lines are on the disk before the gate is closed.
 fn save_lines<D: Disk>(disk: &mut D) -> Result<(), DiskFault>
+    ensures rises { OnOk result (D.moment disk.new ≡ D.moment disk.old + 2) }
     ensures cause { HasCause (D.faults disk.old) (D.faults disk.new) result }
 
     ensures same { D.bytes disk.new ≡ D.bytes disk.old }
@@ -46,6 +47,8 @@ fn close_gate<D: Disk>(disk: &mut D) -> Result<(), DiskFault>
     ensures durable { OnOk result (IfTold (D.bytes disk.new)
         (λ x. Only x (D.may_hold_after disk.new (D.moment disk.new)))) }
     ensures calls { D.moment disk.new ≤ D.moment disk.old + 4 }
+    ensures made { (D.moment disk.old < D.moment disk.new)
+        ⊎ Reads D.bytes D.moment D.may_hold_after disk.old disk.new }
     ensures any_moment { AtEach D.moment D.may_hold_after disk.old disk.new
         (IsTorn (D.may_hold_after disk.old (D.moment disk.old)) LINE 1) }
 {
@@ -68,6 +71,13 @@ pub fn close<D: Disk>(disk: &mut D, frame: Frame) -> Result<(), DiskFault>
         (λ x y. IsOpen frame x (D.may_hold_after disk.old (D.moment disk.old))
         → Closes frame x y (D.may_hold_after disk.new (D.moment disk.new)))) }
     ensures synced { OnOk result (IsSynced D.bytes D.moment D.may_hold_after disk.new) }
+    // After a fault the open batches name all that is pending, as before; or the lines are synced, and
+    // bytes are pending at the first gate alone.
+    ensures faulted { OnErr result (Both (D.bytes disk.old) (D.bytes disk.new)
+        (λ x y. IsLogged frame x (D.may_hold_after disk.old (D.moment disk.old))
+        → IsLogged frame y (D.may_hold_after disk.new (D.moment disk.new))
+        ⊎ ((D.moment disk.old + 2 < D.moment disk.new)
+        × PendsAtGate x y (D.may_hold_after disk.new (D.moment disk.new))))) }
     ensures forward { D.moment disk.old ≤ D.moment disk.new }
     ensures calls { D.moment disk.new ≤ D.moment disk.old + 6 }
     // A crash leaves what it might have left before, or the bytes as read but for the gate.

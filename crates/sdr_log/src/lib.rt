@@ -21,7 +21,8 @@
 //! before, or, from `close` on, to the changed lines (`any_moment`). Recovery gives the heap that the disk gave
 //! (`back`), and `BadLog` exactly where it gives none. Where nothing was pending before it, a crash leaves at each
 //! moment other bytes in the lines that open batches name and at the first gate alone, and another gate only over
-//! old lines (`left`).
+//! old lines (`left`). After a fault in recovery the disk may be put back again, or bytes are pending at its first
+//! gate alone, over lines that are put back and synced (`faulted`).
 //! No call changes a byte outside the log region and the heap region (`inside`).
 //!
 //! Only tested: heads; recovery at each moment of a change of two lines, with each tear; a fault at each call of

@@ -1,14 +1,13 @@
 // Lines of the heap region, written to their places.
-ghost use Rattle.std.specs.Prelude.{◌≡◌, ◌≤◌, ◌<◌, ◌+◌, ◌*◌, ◌∷◌, [], length, OnOk, Some, is_some};
+ghost use Rattle.std.specs.Prelude.{◌≡◌, ◌≤◌, ◌<◌, ◌+◌, ◌*◌, ◌∷◌, [], length, OnErr, OnOk, Some, is_some};
 ghost use Rattle.sdr_base.specs.Causes.{HasCause};
 ghost use Rattle.sdr_disk.specs.Moments.{AtEach, Only, Writes};
-ghost use Rattle.sdr_disk.specs.Ranges.{Agrees};
 ghost use Rattle.sdr_base.specs.Parts.{overwrite};
 ghost use Rattle.sdr_disk.specs.Ranges.{Agrees, range};
 ghost use Rattle.sdr_disk.specs.Told.{Both, IfTold};
 ghost use Rattle.sdr_log.specs.Calls.{AreBelow, KeepsDisk, KeepsOutside, MayPut, Puts, with_records};
 ghost use Rattle.sdr_log.specs.Frame.{LieInside, heap_place};
-ghost use Rattle.sdr_log.specs.Logged.{GivesSame, line_ranges};
+ghost use Rattle.sdr_log.specs.Logged.{GivesSame, IsLogged, line_ranges};
 
 use crate::{Frame, Record};
 use sdr_base::LINE;
@@ -51,6 +50,11 @@ pub fn put_lines<D: Disk>(disk: &mut D, frame: Frame, lines: &[Record]) -> Resul
     ensures puts { OnOk result (Both (D.bytes disk.old) (D.bytes disk.new)
         (λ x y. MayPut frame lines.now x (D.may_hold_after disk.old (D.moment disk.old))
         → Puts frame lines.now x y (D.may_hold_after disk.new (D.moment disk.new)))) }
+    // After a fault too the open batches name all that is pending.
+    ensures faulted { OnErr result (Both (D.bytes disk.old) (D.bytes disk.new)
+        (λ x y. MayPut frame lines.now x (D.may_hold_after disk.old (D.moment disk.old))
+        → IsLogged frame y (D.may_hold_after disk.new (D.moment disk.new)))) }
+    ensures rises { OnOk result (D.moment disk.new ≡ D.moment disk.old + 2 * length lines.now) }
     ensures forward { D.moment disk.old ≤ D.moment disk.new }
     ensures calls { D.moment disk.new ≤ D.moment disk.old + 2 * length lines.now }
     // Where nothing was pending, a crash leaves other bytes in these lines alone.

@@ -1,12 +1,10 @@
 // The open batches of a log region, read and checked.
-ghost use Rattle.std.specs.Prelude.{◌≡◌, ◌≢◌, ◌≤◌, ◌<◌, ◌*◌, true, List, length, take};
-ghost use Rattle.std.specs.Prelude.{IfOk, IfErr, OnOk, Some};
+ghost use Rattle.std.specs.Prelude.{◌≡◌, ◌≤◌, ◌<◌, ◌*◌, length, take, IfOk, IfErr, OnOk, Some, None};
 ghost use Rattle.sdr_base.specs.Parts.{part};
 ghost use Rattle.sdr_log.specs.BackErrors.{OnBadLog, OnFault};
 ghost use Rattle.sdr_log.specs.Frame.{first_number};
-ghost use Rattle.sdr_log.specs.Log.{are_good, batches_of, records_of};
-ghost use Rattle.sdr_log.specs.Reading.{IsBad, IsWrong, ReadsBatch, noted};
-ghost use Rattle.sdr_log.specs.declared.record.Record.{Record};
+ghost use Rattle.sdr_log.specs.Log.{records_of};
+ghost use Rattle.sdr_log.specs.Reading.{IsBad, IsWrong, ReadsBatch, good_records, noted};
 
 use crate::noted::Noted;
 use crate::{BackError, Record};
@@ -62,13 +60,12 @@ fn read_batch<'b>(found: &mut Noted, bytes: &'b [u8]) -> Result<&'b [u8], BackEr
     Ok(&bytes[4 + 68 * count..])
 }
 
-/// The records of the open batches of a log region, of a heap of so many lines.
+/// The records of the open batches of a log region, of a heap of so many lines. Unless memory is
+/// wanting, the log is bad exactly where there are no good records.
 pub fn read_batches(alloc: Global, lines: usize, log: &[u8]) -> Result<Items<Record>, BackError>
     requires { 0 < length log.now }
-    ensures read { IfOk result (λ records. batches_of (length log.now) log.now ≡ Some records) }
-    ensures good { IfOk result (λ records. are_good lines records ≡ true) }
-    ensures bad_log { IfErr result (λ why. OnBadLog why ((records : List Record)
-        → batches_of (length log.now) log.now ≡ Some records → are_good lines records ≢ true)) }
+    ensures read { IfOk result (λ records. good_records lines log.now ≡ Some records) }
+    ensures bad_log { IfErr result (λ why. OnBadLog why (good_records lines log.now ≡ None)) }
     ensures no_fault { IfErr result (λ why. OnFault why ⊥) }
 {
     let mut found = Noted::new(alloc, lines)?;

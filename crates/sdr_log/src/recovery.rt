@@ -1,11 +1,12 @@
 // A disk, put back after a crash.
-ghost use Rattle.std.specs.Prelude.{◌≡◌, ◌≤◌, ◌<◌, ◌+◌, ◌*◌, ◌↔◌, true, length};
-ghost use Rattle.std.specs.Prelude.{IfOk, IfErr, OnOk, IsTrue, is_some};
+ghost use Rattle.std.specs.Prelude.{◌≡◌, ◌≤◌, ◌<◌, ◌+◌, ◌*◌, ◌⊎◌, true, length};
+ghost use Rattle.std.specs.Prelude.{IfOk, IfErr, OnErr, OnOk};
 ghost use Rattle.sdr_base.specs.Causes.{HasCause};
 ghost use Rattle.sdr_disk.specs.Moments.{AtEach, Only, Reads};
 ghost use Rattle.sdr_disk.specs.Told.{Both, IfTold};
 ghost use Rattle.sdr_log.specs.BackErrors.{HasBackCause, OnBadLog, UnlessFault};
 ghost use Rattle.sdr_log.specs.Calls.{GivesNone, IsFramed, KeepsDisk, KeepsOutside, MayPutBack, PutsBack};
+ghost use Rattle.sdr_log.specs.Faulted.{FailsAtGate, FailsBack};
 ghost use Rattle.sdr_log.specs.Frame.{LieInside};
 ghost use Rattle.sdr_log.specs.Left.{IsLeftFrom};
 ghost use Rattle.sdr_log.specs.Log.{are_good, first_gate, log_of};
@@ -74,6 +75,11 @@ fn restore<D: Disk>(disk: &mut D, frame: Frame, records: &[Record]) -> Result<()
         (λ x y. Logs frame x records.now
         → IsOpen frame x (D.may_hold_after disk.old (D.moment disk.old))
         → IsAtRest frame y (D.may_hold_after disk.new (D.moment disk.new)))) }
+    ensures faulted { OnErr result (Both (D.bytes disk.old) (D.bytes disk.new)
+        (λ x y. Logs frame x records.now
+        → IsOpen frame x (D.may_hold_after disk.old (D.moment disk.old))
+        → MayPutBack frame y (D.may_hold_after disk.new (D.moment disk.new))
+        ⊎ FailsAtGate D.moment D.may_hold_after disk.old disk.new x y)) }
     ensures left { IfTold (D.bytes disk.old) (λ x. Logs frame x records.now
         → Only x (D.may_hold_after disk.old (D.moment disk.old))
         → AtEach D.moment D.may_hold_after disk.old disk.new (IsLeftFrom x)) }
@@ -113,6 +119,9 @@ pub fn put_back_found<D: Disk>(alloc: Global, disk: &mut D, frame: Frame) -> Res
     ensures rest { OnOk result (Both (D.bytes disk.old) (D.bytes disk.new)
         (λ x y. MayPutBack frame x (D.may_hold_after disk.old (D.moment disk.old))
         → IsAtRest frame y (D.may_hold_after disk.new (D.moment disk.new)))) }
+    // After a fault it may be put back again, or it failed as the first gate was being closed.
+    ensures faulted { OnErr result
+        (FailsBack frame D.bytes D.moment D.may_hold_after disk.old disk.new) }
     // Where nothing was pending, a crash leaves what a recovery that was stopped may leave.
     ensures left { IfTold (D.bytes disk.old)
         (λ x. Only x (D.may_hold_after disk.old (D.moment disk.old))
@@ -151,6 +160,9 @@ pub fn put_back<D: Disk>(alloc: Global, disk: &mut D, frame: Frame) -> Result<u6
     ensures rest { OnOk result (Both (D.bytes disk.old) (D.bytes disk.new)
         (λ x y. MayPutBack frame x (D.may_hold_after disk.old (D.moment disk.old))
         → IsAtRest frame y (D.may_hold_after disk.new (D.moment disk.new)))) }
+    // After a fault it may be put back again, or it failed as the first gate was being closed.
+    ensures faulted { OnErr result
+        (FailsBack frame D.bytes D.moment D.may_hold_after disk.old disk.new) }
     // Where nothing was pending, a crash leaves what a recovery that was stopped may leave.
     ensures left { IfTold (D.bytes disk.old)
         (λ x. Only x (D.may_hold_after disk.old (D.moment disk.old))

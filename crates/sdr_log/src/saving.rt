@@ -1,7 +1,7 @@
 // A write that is synced at once.
-ghost use Rattle.std.specs.Prelude.{◌≡◌, ◌≤◌, ◌+◌, ◌∷◌, [], length, OnOk, Some, is_some};
+ghost use Rattle.std.specs.Prelude.{◌≡◌, ◌≤◌, ◌<◌, ◌+◌, ◌⊎◌, ◌∷◌, [], length, OnOk, Some, is_some};
 ghost use Rattle.sdr_base.specs.Causes.{HasCause};
-ghost use Rattle.sdr_disk.specs.Moments.{AtEach, IsTorn, Only};
+ghost use Rattle.sdr_disk.specs.Moments.{AtEach, IsTorn, Only, Reads};
 ghost use Rattle.sdr_base.specs.Parts.{overwrite};
 ghost use Rattle.sdr_disk.specs.Ranges.{Agrees, range};
 ghost use Rattle.sdr_disk.specs.Told.{Both, IfTold};
@@ -25,6 +25,9 @@ pub fn save_at<D: Disk>(disk: &mut D, place: u64, from: &[u8]) -> Result<(), Dis
     ensures durable { OnOk result (IfTold (D.bytes disk.new)
         (λ x. Only x (D.may_hold_after disk.new (D.moment disk.new)))) }
     ensures calls { D.moment disk.new ≤ D.moment disk.old + 4 }
+    // Where no call of the disk was made, nothing has changed.
+    ensures made { (D.moment disk.old < D.moment disk.new)
+        ⊎ Reads D.bytes D.moment D.may_hold_after disk.old disk.new }
     ensures any_moment { AtEach D.moment D.may_hold_after disk.old disk.new
         (IsTorn (D.may_hold_after disk.old (D.moment disk.old)) place (length from.now)) }
 {

@@ -111,7 +111,8 @@ pub record IsNotRun {D : Type 0} (d : DiskGhosts D) (disk disk' : D) (cause : Op
   pub bytes : LeavesBytes (d.bytes disk) (d.bytes disk') cause
   -- no byte outside the regions of which its head tells has changed, and none at all where it tells of none
   pub outside : Both (d.bytes disk) (d.bytes disk') KeepsRest
-  -- the disk may be handed in again, where it was settled and hasn't failed; and where the heap is damaged nothing is pending
+  -- where the disk was settled, it may be handed in again, unless it failed as the first gate was being closed; and where the heap is
+  -- damaged nothing is pending
   pub again : MayBeAgain d.bytes d.moment d.may_hold_after disk disk' cause
   -- where the disk was settled, at each moment of the call a crash leaves what gives the same heap, or none as before
   pub any_moment : IsSettled d disk → IfTold (d.bytes disk) (λ x. AtEach d.moment d.may_hold_after disk disk' (GivesSame x))

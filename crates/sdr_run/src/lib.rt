@@ -23,7 +23,8 @@
 //! journal keeps to the scripts, and the answers in it that blame media are caused (`RunsOn`). Of both (`RanOn`): the journal is legal. If the
 //! disk was settled (`IsSettled`), a crash at any moment of the call leaves a disk that opens to the state after some first entries, all done
 //! ones among them (`any_moment`, `LeavesJournal`). Each entry is begun and done between the begin of the call and its return (`in_time`).
-//! No byte outside the regions changes (`outside`). A settled disk that didn't fail is settled again (`settled`, `again`).
+//! No byte outside the regions changes (`outside`). A settled disk on whose heap no entry failed is settled again (`settled`), and so is one
+//! whose heap wasn't opened, unless it failed as its recovery closed the first gate (`again`).
 //!
 //! Only tested: each call's answers (`tests/cases`).
 #![tactic(auto)]

@@ -54,8 +54,9 @@ pub record IsRecovered {D : Type 0} (d : DiskGhosts D) (disk disk' : D) (count :
       → IsSynced d.bytes d.moment d.may_hold_after disk'
 
 -- The heap of the disk isn't opened, for this reason. The disk's bytes are the same, where it gives no heap; and the open batches are
--- put back and closed, where no world stands for it. No byte outside the regions of which its head tells has changed. Unless it failed
--- it may be handed in again, where it might be before; and nothing is pending, where no world stands for the heap.
+-- put back and closed, where no world stands for it. No byte outside the regions of which its head tells has changed. Where it might be
+-- handed in before, it may be again, unless it failed as the first gate was being closed; and nothing is pending, where no world stands
+-- for the heap.
 pub record IsNotOpened {D : Type 0} (d : DiskGhosts D) (disk disk' : D) (why : OpenError) : Type 0 where
   pub explained : ExplainsOpen (d.bytes disk) (d.faults disk) (d.faults disk') why
   pub bytes : LeavesBytes (d.bytes disk) (d.bytes disk') why

@@ -1,6 +1,7 @@
 -- A heap that was opened.
 use Rattle.std.proofs.Common.{◌≡◌, ◌∙◌, ◌≤◌, ℕ, List, [], false, true, true≢false, Err, Option, Some, inl, refl, sym, ap, subst, length}
 use Rattle.std.specs.Prelude.{replicate}
+use Rattle.std.proofs.lemmas.Option.{same_Some}
 use Rattle.sdr_stands.specs.Standing.{StandsForWhole}
 use Rattle.sdr_base.specs.Transaction.{Transaction}
 use Rattle.sdr_audit.specs.Checked.{HasAuditReason, IsNoWorld, TellsFirst}
@@ -11,7 +12,7 @@ use Rattle.sdr_disk.specs.Pending.{IsSynced}
 use Rattle.sdr_disk.specs.Told.{Both, IfTold}
 use Rattle.sdr_image.proofs.OpenedLemmas.{reads_may, rests_same}
 use Rattle.sdr_image.specs.Opened.{IsQuiet, Opened}
-use Rattle.sdr_image.specs.Opening.{IsOpened, MayBeOpened, UnlessFault}
+use Rattle.sdr_image.specs.Opening.{FailsOpening, IsOpened, MayBeOpened, UnlessFault}
 use Rattle.sdr_image.specs.declared.error.ImageError.{ImageError}
 use Rattle.sdr_image.specs.declared.error.ImageError.TheVariants as images
 use Rattle.sdr_machine.specs.Ground.{Ground, State, resting}
@@ -105,6 +106,12 @@ UnlessFault-holds (errors.Damaged place check) holds = holds
 UnlessFault-holds errors.DiskFault holds = tt
 UnlessFault-holds errors.NoMemory holds = holds
 
+OnFault-holds : {P : Type 0} (why : OpenError) → P → opening.OnFault why P
+OnFault-holds errors.NotFormatted holds = tt
+OnFault-holds (errors.Damaged place check) holds = tt
+OnFault-holds errors.DiskFault holds = holds
+OnFault-holds errors.NoMemory holds = tt
+
 OnDamaged-holds : {P : Type 0} (why : OpenError) → P → opening.OnDamaged why P
 OnDamaged-holds errors.NotFormatted holds = tt
 OnDamaged-holds (errors.Damaged place check) holds = holds
@@ -123,21 +130,30 @@ pub synced_again : {D : Type 0} (told : D → Option (List ℕ)) (moment : D →
     → MayBeAgain told moment may_hold_after old new why
 synced_again {D} told moment may_hold_after old new why synced = record {
   again = λ may. UnlessFault-holds why (λ y now. inl (synced may y now));
+  faulted = OnFault-holds why (λ x is y now may. inl (inl (synced
+      (λ z told_now. subst (λ (b : List ℕ). MayBeOpened b (may_hold_after old (moment old))) (same_Some x z (sym is ∙ told_now)) may) y now)));
   synced = λ may. OnDamaged-holds why (synced may);
 }
 
 -- and so may one whose image wasn't opened
 pub image_again : {D : Type 0} (told : D → Option (List ℕ)) (moment : D → ℕ) (may_hold_after : D → ℕ → List ℕ → Type 0) (old new : D)
     (error : ImageError) (why : OpenError) → IsOfImage error why → UnlessFault error (Reads told moment may_hold_after old new)
-    → MayBeAgain told moment may_hold_after old new why
-image_again told moment may_hold_after old new images.NotFormatted why is reads =
+    → FailsOpening told moment may_hold_after old new → MayBeAgain told moment may_hold_after old new why
+image_again told moment may_hold_after old new images.NotFormatted why is reads failed =
+    subst (λ (w : OpenError). MayBeAgain told moment may_hold_after old new w) (sym is) (record {
+      again = λ may y now. reads_may told moment may_hold_after old new reads y (may y (sym reads.same ∙ now));
+      faulted = tt;
+      synced = λ may. tt;
+    })
+image_again told moment may_hold_after old new images.DiskFault why is reads failed =
     subst (λ (w : OpenError). MayBeAgain told moment may_hold_after old new w) (sym is)
-    (record { again = λ may y now. reads_may told moment may_hold_after old new reads y (may y (sym reads.same ∙ now)); synced = λ may. tt })
-image_again told moment may_hold_after old new images.DiskFault why is reads =
-    subst (λ (w : OpenError). MayBeAgain told moment may_hold_after old new w) (sym is) (record { again = λ may. tt; synced = λ may. tt })
-image_again told moment may_hold_after old new images.NoMemory why is reads =
-    subst (λ (w : OpenError). MayBeAgain told moment may_hold_after old new w) (sym is)
-    (record { again = λ may y now. reads_may told moment may_hold_after old new reads y (may y (sym reads.same ∙ now)); synced = λ may. tt })
+    (record { again = λ may. tt; faulted = failed; synced = λ may. tt })
+image_again told moment may_hold_after old new images.NoMemory why is reads failed =
+    subst (λ (w : OpenError). MayBeAgain told moment may_hold_after old new w) (sym is) (record {
+      again = λ may y now. reads_may told moment may_hold_after old new reads y (may y (sym reads.same ∙ now));
+      faulted = tt;
+      synced = λ may. tt;
+    })
 
 -- where an image isn't opened, the disk's bytes are the same unless it failed
 pub image_leaves : (old new : Option (List ℕ)) (error : ImageError) (why : OpenError) → IsOfImage error why → UnlessFault error (new ≡ old)

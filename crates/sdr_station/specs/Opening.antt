@@ -11,7 +11,7 @@ use Rattle.sdr_audit.specs.declared.error.AuditError.TheVariants as audits
 use Rattle.audit_blocks.specs.declared.error.Check.{Check}
 use Rattle.sdr_disk.specs.Pending.{IsSynced}
 use Rattle.sdr_disk.specs.Told.{Both, IfTold}
-use Rattle.sdr_image.specs.Opening.{MayBeOpened}
+use Rattle.sdr_image.specs.Opening.{FailsOpening, MayBeOpened}
 use Rattle.sdr_image.specs.declared.error.ImageError.{ImageError}
 use Rattle.sdr_image.specs.declared.error.ImageError.TheVariants as images
 use Rattle.sdr_machine.specs.Ground.{Ground, State, resting}
@@ -92,17 +92,23 @@ abbrev pub UnlessFault : OpenError → Type 0 → Type 0
 UnlessFault errors.DiskFault P = ⊤
 UnlessFault why P = P
 
+-- what holds where the disk failed
+abbrev pub OnFault : OpenError → Type 0 → Type 0
+OnFault errors.DiskFault P = P
+OnFault why P = ⊤
+
 -- what holds where the heap is damaged
 abbrev pub OnDamaged : OpenError → Type 0 → Type 0
 OnDamaged (errors.Damaged place check) P = P
 OnDamaged why P = ⊤
 
--- A heap wasn't opened, for this reason, and its disk might be opened before: so it may again, unless it failed. Where the heap is
--- damaged nothing is pending: what was put back is synced.
+-- A heap wasn't opened, for this reason, and its disk might be opened before: so it may again, unless it failed as its recovery closed
+-- the first gate. Where the heap is damaged nothing is pending: what was put back is synced.
 pub record MayBeAgain {D : Type 0} (told : D → Option (List ℕ)) (moment : D → ℕ) (may_hold_after : D → ℕ → List ℕ → Type 0)
     (old new : D) (why : OpenError) : Type 0 where
   pub again : IfTold (told old) (λ x. MayBeOpened x (may_hold_after old (moment old)))
       → UnlessFault why (IfTold (told new) (λ y. MayBeOpened y (may_hold_after new (moment new))))
+  pub faulted : OnFault why (FailsOpening told moment may_hold_after old new)
   pub synced : IfTold (told old) (λ x. MayBeOpened x (may_hold_after old (moment old)))
       → OnDamaged why (IsSynced told moment may_hold_after new)
 

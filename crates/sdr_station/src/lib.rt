@@ -14,8 +14,8 @@
 //! A call makes no call of the disk, and a reading call touches no line (`quiet`, `lines`).
 //! On every outcome a call asks media at most once for each extent that lies with them and of which it needs bytes, in the world for
 //! which the heap stands (`asks`); ends, cancels, exits and looks leave them (`media`).
-//! No byte outside the disk's regions changes (`inside`), and unless it failed a disk that wasn't opened may be
-//! handed in again (`again`).
+//! No byte outside the disk's regions changes (`inside`), and a disk that wasn't opened may be handed in again,
+//! unless it failed as its recovery closed the first gate (`again`).
 #![tactic(auto)]
 
 mod closing;

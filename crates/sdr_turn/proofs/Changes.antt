@@ -8,8 +8,8 @@ use lib.ListN.{get_elem?}
 use Rattle.atomic_table.specs.Table.{State, Me, Act, Valid, homes_after, carried_after, Allows}
 use Rattle.atomic_table.proofs.Lists.{at_set, set_here, set_else}
 use Rattle.sdr_turn.specs.declared.view.View.{View}
-use Rattle.sdr_turn.specs.Entries.{Rise, AtMost}
-use Rattle.sdr_turn.specs.Views.{drew}
+use Rattle.sdr_turn.specs.Entries.{made_at, times, Rise, AtMost}
+use Rattle.sdr_turn.specs.Views.{no_place, drew}
 use Rattle.sdr_turn.specs.Serving.{Fits, IsHome, IsOut, IsHeld, IsServing}
 use Rattle.sdr_turn.proofs.Sums.{sum_by-at, sum_by-parts}
 use Rattle.sdr_turn.proofs.ViewLemmas.{drew-most}
@@ -19,9 +19,9 @@ within [] i a e = absurd (some-ne-none a (sym e))
 within (x ∷ l) zero a e = omega arith
 within (x ∷ l) (suc i) a e = omega (arith, within l i a e)
 
-module _ {V E : Type 0} (entries : V → List E) (number : E → ℕ) (turns : V → ℕ) (rests : V → Type 0) (seats : ℕ) where
+module _ {V E : Type 0} (entries : V → List E) (number maker : E → ℕ) (turns : V → ℕ) (rests : V → Type 0) (seats : ℕ) where
   abbrev pub Rule : State (Option V) (View E) → Type 0
-  Rule = IsServing entries number turns rests seats
+  Rule = IsServing entries number maker turns rests seats
 
   -- the seats draw few enough numbers for one word
   pub few_drawn : (s : State (Option V) (View E)) → (k : Rule s) → k.drawn ≤ 2 ^ 46
@@ -32,14 +32,16 @@ module _ {V E : Type 0} (entries : V → List E) (number : E → ℕ) (turns : V
   -- what has to hold when the view of the seat id goes from v to w, and the entries, the numbers drawn and done become these
   pub record Change (s : State (Option V) (View E)) (k : Rule s) (id : ℕ) (v w : View E) (homes : List (Home (Option V))) (all : List E) (drawn done : ℕ) : Type 0 where
     pub same_parts : w.parts ≡ v.parts
+    pub same_places : w.places ≡ v.places
     pub more_drawn : drawn + v.drawn ≡ k.drawn + w.drawn
     pub below : done ≤ drawn
     pub rise : Rise number all
     pub past : AtMost number done all
-    pub mine : Fits number all drawn done w
-    pub others : (j : ℕ) (u : View E) → j ≢ id → get_elem? s.views j ≡ some u → Fits number all drawn done u
+    pub mine : Fits number maker all drawn done w
+    pub others : (j : ℕ) (u : View E) → j ≢ id → get_elem? s.views j ≡ some u → Fits number maker all drawn done u
     pub numbers : (n : ℕ) → drew w n ≡ true → (drew v n ≡ true) ⊎ (k.drawn < n)
     pub waiting : (n : ℕ) → done < n → n ≤ drawn → (w.knows.number ≡ n) ⊎ ((v.knows.number ≢ n) × (k.done < n) × (n ≤ k.drawn))
+    pub nowhere : made_at maker no_place all ≡ []
     pub slot : IsHome entries turns rests all done homes ⊎ IsOut (set s.views id w)
 
   pub changed : (s : State (Option V) (View E)) (k : Rule s) (id : ℕ) (v w : View E) (homes : List (Home (Option V))) (all : List E) (drawn done : ℕ) → get_elem? s.views id ≡ some v
@@ -55,8 +57,10 @@ module _ {V E : Type 0} (entries : V → List E) (number : E → ℕ) (turns : V
     below = c.below;
     rise = c.rise;
     past = c.past;
-    fits = λ j u e. ⊎_elim (λ t. subst (Fits number all drawn done) t.1 c.mine) (λ t. c.others j u t.0 t.1) (at_set s.views id j w u e);
+    fits = λ j u e. ⊎_elim (λ t. subst (Fits number maker all drawn done) t.1 c.mine) (λ t. c.others j u t.0 t.1) (at_set s.views id j w u e);
     apart = λ i j n a b ea eb ha hb. apart_after i j n a b ha hb (at_set s.views id i w a ea) (at_set s.views id j w b eb);
+    places = λ place. let same = ap (times place) c.same_places in omega (arith, sum_by-at (λ (u : View E). times place u.places) s.views id v w at, same, k.places place);
+    nowhere = c.nowhere;
     waiting = λ n low high. ⊎_elim (λ is. record { seat = id; view = w; sits = set_here s.views id w (within s.views id v at); holds = is }) (λ t. still_held n t.0 (k.waiting n t.1 t.2)) (c.waiting n low high);
     slot = c.slot;
   }
@@ -65,7 +69,7 @@ module _ {V E : Type 0} (entries : V → List E) (number : E → ℕ) (turns : V
       shared : (j n : ℕ) (b : View E) → get_elem? s.views j ≡ some b → drew w n ≡ true → drew b n ≡ true → id ≡ j
       shared j n b e hw hb =
           ⊎_elim (λ hv. k.apart id j n v b at e hv hb)
-          (λ above. let low = drew-most number k.all k.drawn k.done b n (k.fits j b e).knows (k.fits j b e).told hb in absurd (omega (arith, low, above))) (c.numbers n hw)
+          (λ above. let low = drew-most number maker k.all k.drawn k.done b n (k.fits j b e).knows (k.fits j b e).told hb in absurd (omega (arith, low, above))) (c.numbers n hw)
 
       apart_after : (i j n : ℕ) (a b : View E) → drew a n ≡ true → drew b n ≡ true → ((i ≡ id) × (w ≡ a)) ⊎ ((i ≢ id) × (get_elem? s.views i ≡ some a))
           → ((j ≡ id) × (w ≡ b)) ⊎ ((j ≢ id) × (get_elem? s.views j ≡ some b)) → i ≡ j

@@ -1,13 +1,17 @@
 -- Numbers, entries of these numbers, and beginnings of a list.
-use Rattle.std.proofs.Common.{◌≡◌, ◌≢◌, ◌⊎◌, inl, inr, ⊎_elim, ℕ, ◌<◌, ◌≤◌, ◌==◌, Bool, true, false, List, [], ◌∷◌, ◌++◌, length, drop, refl, sym, ◌∙◌, ap, subst, arith, append-nil, append_assoc}
-use Rattle.std.specs.Prelude.{All, cond, ◌||◌}
+use Rattle.std.proofs.Common.{◌≡◌, ◌≢◌, ◌⊎◌, inl, inr, ⊎_elim, ℕ, zero, suc, ◌+◌, ◌-◌, ◌<◌, ◌≤◌, ◌==◌, Bool, true, false, List, [], ◌∷◌, ◌++◌, length, drop, refl, sym, ◌∙◌, ap, subst, arith, append-nil, append_assoc}
+use Rattle.std.specs.Prelude.{All, cond, filter, ◌||◌}
 use Rattle.std.proofs.Math.Seq.{drop-length, drop-append_seam}
 use Rattle.std.proofs.lemmas.Bool.Decides.{nat_tests}
 use Rattle.std.proofs.lemmas.List.Folds.{list_any-append}
 use Rattle.std.proofs.lemmas.List.Elements.{All-head, All-tail, All-push, All-weaker, All-get_or}
 use Rattle.std.proofs.lemmas.List.Quantifiers.{all_pairs_push}
+use Rattle.std.proofs.lemmas.List.Sums.{sum_by-cons, sum_by-append}
+use Rattle.std.specs.List.{range_with_len}
 use mathlib.Core.List.{IsPrefix}
-use Rattle.sdr_turn.specs.Entries.{has, own, Rise, AtMost, MayAdd}
+use mathlib.Core.Logic.{dite}
+use native.Mathlib.Decide.{ℕ_discrete}
+use Rattle.sdr_turn.specs.Entries.{has, own, made_at, times, Rise, AtMost, MayAdd}
 
 -- each list begins with itself
 pub prefix_self : {E : Type 0} (xs : List E) → IsPrefix xs xs
@@ -40,6 +44,65 @@ or-last false = refl
 or-false : (a b : Bool) → b ≡ false → (a || (b || false)) ≡ a
 or-false true b h = refl
 or-false false b h = rw h refl
+
+pub eq-on : (a b : ℕ) → a ≡ b → (a == b) ≡ true
+eq-on a b same = grind (arith, nat_tests)
+
+pub eq-off : (a b : ℕ) → a ≢ b → (a == b) ≡ false
+eq-off a b ne = grind (arith, nat_tests)
+
+-- where a number is among these, there is one
+pub has-some : (numbers : List ℕ) (n : ℕ) → has numbers n ≡ true → 0 < length numbers
+has-some [] n h = absurd cc
+has-some (m ∷ ms) n h = omega arith
+
+-- how often a number is in two lists together
+pub times-append : (n : ℕ) (ms ns : List ℕ) → times n (ms ++ ns) ≡ times n ms + times n ns
+times-append n ms ns = sum_by-append (λ (m : ℕ). cond (m == n) 1 0) ms ns
+
+pub times-one : (n : ℕ) → times n (n ∷ []) ≡ 1
+times-one n = rw (eq-on n n refl) refl
+
+-- of the numbers from a on, the first is one and the others come behind it
+pub range-first : (n a count : ℕ) → 0 < count → times n (range_with_len a count) ≡ times n (a ∷ []) + times n (range_with_len (a + 1) (count - 1))
+range-first n a zero lt = absurd (omega (arith, lt))
+range-first n a (suc count) lt =
+    let less : suc count - 1 ≡ count = omega arith in
+    let whole = sum_by-cons (λ (m : ℕ). cond (m == n) 1 0) a (range_with_len (a + 1) count) in
+    let one = sum_by-cons (λ (m : ℕ). cond (m == n) 1 0) a [] in
+    let tail = ap (λ k. times n (range_with_len (a + 1) k)) less in
+    omega (arith, whole, one, tail)
+
+pub range-has_first : (a count : ℕ) → 0 < count → 0 < times a (range_with_len a count)
+range-has_first a count lt = omega (arith, range-first a a count lt, times-one a)
+
+-- a number below all of them is not there
+range-below : (n a count : ℕ) → n < a → times n (range_with_len a count) ≡ 0
+range-below n a zero lt = refl
+range-below n a (suc count) lt =
+    let off : times n (a ∷ []) ≡ 0 = rw (eq-off a n (λ same. omega (arith, same, lt))) refl in
+    let rest = range-below n (a + 1) count (omega (arith, lt)) in
+    sum_by-cons (λ (m : ℕ). cond (m == n) 1 0) a (range_with_len (a + 1) count) ∙ omega (arith, off, rest)
+
+-- each of them is there once
+pub range-once : (n a count : ℕ) → times n (range_with_len a count) ≤ 1
+range-once n a zero = omega arith
+range-once n a (suc count) = dite (ℕ_discrete a n)
+    (λ same.
+    let rest = range-below n (a + 1) count (omega (arith, same)) in
+    let first : times n (a ∷ []) ≡ 1 = ap (λ k. times n (k ∷ [])) same ∙ times-one n in
+    omega (arith, sum_by-cons (λ (m : ℕ). cond (m == n) 1 0) a (range_with_len (a + 1) count), sum_by-cons (λ (m : ℕ). cond (m == n) 1 0) a [], rest, first))
+    (λ ne.
+    let off : times n (a ∷ []) ≡ 0 = rw (eq-off a n ne) refl in
+    let rest = range-once n (a + 1) count in
+    omega (arith, sum_by-cons (λ (m : ℕ). cond (m == n) 1 0) a (range_with_len (a + 1) count), sum_by-cons (λ (m : ℕ). cond (m == n) 1 0) a [], rest, off))
+
+-- the next number comes behind them
+pub range-push : (a count : ℕ) → range_with_len a (count + 1) ≡ range_with_len a count ++ (a + count) ∷ []
+range-push a zero = ap (λ n. n ∷ []) (omega arith)
+range-push a (suc count) =
+    let more : suc count + 1 ≡ suc (count + 1) = omega arith in
+    ap (range_with_len a) more ∙ ap (λ l. a ∷ l) (range-push (a + 1) count ∙ ap (λ n. range_with_len (a + 1) count ++ n ∷ []) (omega arith))
 
 -- a number among these is at most what they are at most
 pub has-most : (most n : ℕ) (numbers : List ℕ) → All (λ m. (0 < m) × (m ≤ most)) numbers → has numbers n ≡ true → n ≤ most
@@ -77,30 +140,30 @@ module _ {E : Type 0} (number : E → ℕ) where
       let rest = own-new numbers n most es lt (All-tail (λ (x : E). number x ≤ most) e es past) in
       λ i. cond (same i) (e ∷ rest i) (rest i)
 
-  -- another's entry isn't one's own
-  own-other : (numbers : List ℕ) (entries : List E) (e : E) → has numbers (number e) ≡ false → own number numbers (entries ++ e ∷ []) ≡ own number numbers entries
-  own-other numbers [] e off = rw off refl
-  own-other numbers (x ∷ xs) e off = ap (λ l. cond (has numbers (number x)) (x ∷ l) l) (own-other numbers xs e off)
+  -- an entry at which a test fails isn't among those that it keeps
+  kept-off : (test : E → Bool) (entries : List E) (e : E) → test e ≡ false → filter test (entries ++ e ∷ []) ≡ filter test entries
+  kept-off test [] e off = rw off refl
+  kept-off test (x ∷ xs) e off = ap (λ l. cond (test x) (x ∷ l) l) (kept-off test xs e off)
 
-  -- one's own entry is the last of one's own
-  own-push : (numbers : List ℕ) (entries : List E) (e : E) → has numbers (number e) ≡ true → own number numbers (entries ++ e ∷ []) ≡ own number numbers entries ++ e ∷ []
-  own-push numbers [] e on = rw on refl
-  own-push numbers (x ∷ xs) e on = by_case (has numbers (number x)) (own-push numbers xs e on)
+  -- an entry at which it holds is the last of them
+  kept-on : (test : E → Bool) (entries : List E) (e : E) → test e ≡ true → filter test (entries ++ e ∷ []) ≡ filter test entries ++ e ∷ []
+  kept-on test [] e on = rw on refl
+  kept-on test (x ∷ xs) e on = by_case (test x) (kept-on test xs e on)
     where
-      by_case : (b : Bool) → own number numbers (xs ++ e ∷ []) ≡ own number numbers xs ++ e ∷ []
-          → cond b (x ∷ own number numbers (xs ++ e ∷ [])) (own number numbers (xs ++ e ∷ [])) ≡ cond b (x ∷ own number numbers xs) (own number numbers xs) ++ e ∷ []
+      by_case : (b : Bool) → filter test (xs ++ e ∷ []) ≡ filter test xs ++ e ∷ []
+          → cond b (x ∷ filter test (xs ++ e ∷ [])) (filter test (xs ++ e ∷ [])) ≡ cond b (x ∷ filter test xs) (filter test xs) ++ e ∷ []
       by_case true same = ap (λ l. x ∷ l) same
       by_case false same = same
 
-  module _ (n : ℕ) (before after : List E) (may : MayAdd number n before after) where
+  module _ (maker : E → ℕ) (n place : ℕ) (before after : List E) (may : MayAdd number maker n place before after) where
     pub add-prefix : IsPrefix before after
-    add-prefix = ⊎_elim (λ same. subst (IsPrefix before) (sym same) (prefix_self before)) (λ t. (t.0 ∷ [], sym t.2)) may
+    add-prefix = ⊎_elim (λ same. subst (IsPrefix before) (sym same) (prefix_self before)) (λ t. (t.0 ∷ [], sym t.3)) may
 
     pub add-rise : (most : ℕ) → most < n → AtMost number most before → Rise number before → Rise number after
     add-rise most lt past rise =
         ⊎_elim (λ same. subst (Rise number) (sym same) rise)
         (λ t.
-        subst (Rise number) (sym t.2)
+        subst (Rise number) (sym t.3)
         (all_pairs_push (λ x y. number x < number y) before t.0 rise
         (λ k d inside. let low = All-get_or (λ (x : E). number x ≤ most) before k d inside past in omega (arith, low, t.1, lt))))
         may
@@ -109,20 +172,33 @@ module _ {E : Type 0} (number : E → ℕ) where
     add-past most le past =
         let before_is : AtMost number n before = All-weaker (λ (x : E). number x ≤ most) (λ (x : E). number x ≤ n) (λ x low. omega (arith, low, le)) before past in
         ⊎_elim (λ same. subst (AtMost number n) (sym same) before_is)
-        (λ t. subst (AtMost number n) (sym t.2) (All-push (λ (x : E). number x ≤ n) before t.0 before_is (omega (arith, t.1)))) may
+        (λ t. subst (AtMost number n) (sym t.3) (All-push (λ (x : E). number x ≤ n) before t.0 before_is (omega (arith, t.1)))) may
 
-    -- who doesn't have the number has no entry more
-    pub add-other : (numbers : List ℕ) → has numbers n ≡ false → own number numbers after ≡ own number numbers before
-    add-other numbers off =
-        ⊎_elim (λ same. ap (own number numbers) same)
-        (λ t. ap (own number numbers) t.2 ∙ own-other numbers before t.0 (ap (has numbers) t.1 ∙ off)) may
+    -- a test that fails at what is added keeps what it kept
+    add-other : (test : E → Bool) → ((e : E) → number e ≡ n → maker e ≡ place → test e ≡ false) → filter test after ≡ filter test before
+    add-other test off =
+        ⊎_elim (λ same. ap (filter test) same) (λ t. ap (filter test) t.3 ∙ kept-off test before t.0 (off t.0 t.1 t.2)) may
 
-    -- who has it has just what is new
-    pub add-own : (numbers : List ℕ) → has numbers n ≡ true → own number numbers after ≡ own number numbers before ++ drop (length before) after
-    add-own numbers on =
+    -- one that holds there keeps that and no more
+    add-own : (test : E → Bool) → ((e : E) → number e ≡ n → maker e ≡ place → test e ≡ true) → filter test after ≡ filter test before ++ drop (length before) after
+    add-own test on =
         ⊎_elim
-        (λ same. ap (own number numbers) same ∙ sym (ap (λ l. own number numbers before ++ l) (ap (drop (length before)) same ∙ drop-length before) ∙ append-nil (own number numbers before)))
+        (λ same. ap (filter test) same ∙ sym (ap (λ l. filter test before ++ l) (ap (drop (length before)) same ∙ drop-length before) ∙ append-nil (filter test before)))
         (λ t.
-        ap (own number numbers) t.2 ∙ own-push numbers before t.0 (ap (has numbers) t.1 ∙ on)
-        ∙ sym (ap (λ l. own number numbers before ++ l) (ap (drop (length before)) t.2 ∙ drop-append_seam before (t.0 ∷ []))))
+        ap (filter test) t.3 ∙ kept-on test before t.0 (on t.0 t.1 t.2)
+        ∙ sym (ap (λ l. filter test before ++ l) (ap (drop (length before)) t.3 ∙ drop-append_seam before (t.0 ∷ []))))
         may
+
+    -- who doesn't have the number has no entry more, and who has it has just what is new
+    pub own-others : (numbers : List ℕ) → has numbers n ≡ false → own number numbers after ≡ own number numbers before
+    own-others numbers off = add-other (λ e. has numbers (number e)) (λ e is by. ap (has numbers) is ∙ off)
+
+    pub own-added : (numbers : List ℕ) → has numbers n ≡ true → own number numbers after ≡ own number numbers before ++ drop (length before) after
+    own-added numbers on = add-own (λ e. has numbers (number e)) (λ e is by. ap (has numbers) is ∙ on)
+
+    -- at another place no entry more was made, and at this one just what is new
+    pub made-others : (other : ℕ) → other ≢ place → made_at maker other after ≡ made_at maker other before
+    made-others other ne = add-other (λ e. maker e == other) (λ e is by. eq-off (maker e) other (λ same. ne (sym same ∙ by)))
+
+    pub made-added : made_at maker place after ≡ made_at maker place before ++ drop (length before) after
+    made-added = add-own (λ e. maker e == place) (λ e is by. eq-on (maker e) place by)

@@ -8,20 +8,20 @@ use Rattle.sdr_turn.specs.Seats.{IsSeat, carried}
 use Rattle.sdr_turn.specs.Views.{seat_view}
 
 -- a seat with no number has no value
-pub idle_free : {V E : Type 0} (drawn : ℕ) (v : View E) (slots : List (ℕ × Option V)) → IsSeat drawn v slots → v.knows.number ≡ 0 → v.knows.took ≡ false
-idle_free drawn v slots is idle = by_case v.knows.took refl
+pub idle_free : {V E : Type 0} (drawn place : ℕ) (v : View E) (slots : List (ℕ × Option V)) → IsSeat drawn place v slots → v.knows.number ≡ 0 → v.knows.took ≡ false
+idle_free drawn place v slots is idle = by_case v.knows.took refl
   where
     by_case : (b : Bool) → v.knows.took ≡ b → v.knows.took ≡ false
     by_case false e = e
     by_case true e = let some = is.holds e in absurd (omega (arith, some, idle))
 
 -- a seat is what it knows, and where it holds no number it carries nothing
-pub idle_seat : {V E : Type 0} (drawn : ℕ) (v : View E) (slots : List (ℕ × Option V)) → IsSeat drawn v slots → v.knows.number ≡ 0
+pub idle_seat : {V E : Type 0} (drawn place : ℕ) (v : View E) (slots : List (ℕ × Option V)) → IsSeat drawn place v slots → v.knows.number ≡ 0
     → ◌≡◌ {A = View E × List (ℕ × Option V)} (v, slots) (seat_view v.knows, [])
-idle_seat drawn v slots is idle =
-    let empty : slots ≡ [] = is.carries ∙ (λ i. carried (idle_free drawn v slots is idle i)) in
+idle_seat drawn place v slots is idle =
+    let empty : slots ≡ [] = is.carries ∙ (λ i. carried (idle_free drawn place v slots is idle i)) in
     let count : v.drawn ≡ length v.knows.numbers = is.drawn_is ∙ sym is.numbers in
-    λ i. (record { parts = is.one i; drawn = count i; knows = v.knows; told = is.alone i }, empty i)
+    λ i. (record { parts = is.one i; drawn = count i; places = is.placed i; knows = v.knows; told = is.alone i }, empty i)
 
 pub length-zero : {A : Type 0} (xs : List A) → length xs ≡ 0 → xs ≡ []
 length-zero [] e = refl

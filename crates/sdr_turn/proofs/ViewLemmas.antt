@@ -1,5 +1,5 @@
 -- What a seat of the table was told, and which numbers its seats drew.
-use Rattle.std.proofs.Common.{◌≡◌, ⊎_elim, ℕ, ◌+◌, ◌<◌, ◌≤◌, Bool, true, false, List, [], ◌∷◌, ◌++◌, sym, ◌∙◌, ap, arith}
+use Rattle.std.proofs.Common.{◌≡◌, ◌≢◌, ⊎_elim, ℕ, ◌+◌, ◌<◌, ◌≤◌, Bool, true, false, List, [], ◌∷◌, ◌++◌, sym, ◌∙◌, ap, arith}
 use Rattle.std.specs.Prelude.{All, AllPairs, map, ◌||◌}
 use Rattle.std.specs.List.{list_any}
 use Rattle.std.proofs.lemmas.List.Folds.{list_any-append}
@@ -10,7 +10,7 @@ use Rattle.sdr_turn.specs.declared.view.View.{View}
 use Rattle.sdr_turn.specs.Entries.{has, Apart, MayAdd}
 use Rattle.sdr_turn.specs.Knowing.{Agrees}
 use Rattle.sdr_turn.specs.Views.{drew}
-use Rattle.sdr_turn.proofs.EntryLemmas.{or-cases, or-left, or-right, or-neither, or-last, has-most, prefix_trans, add-prefix, add-other}
+use Rattle.sdr_turn.proofs.EntryLemmas.{or-cases, or-left, or-right, or-neither, or-last, has-most, prefix_trans, add-prefix, own-others, made-others}
 
 -- whether the number is in one of these lists
 abbrev pub in_any : List (List ℕ) → ℕ → Bool
@@ -38,50 +38,54 @@ module _ {E : Type 0} where
   pub drew-alone : (v : View E) (n : ℕ) → v.told ≡ [] → drew v n ≡ has v.knows.numbers n
   drew-alone v n alone = ap (λ (ts : List (Known E)). in_any (map (λ k. k.numbers) ts ++ v.knows.numbers ∷ []) n) alone ∙ or-last (has v.knows.numbers n)
 
-  module _ (number : E → ℕ) (all : List E) (drawn done : ℕ) where
-    drew_most : (told : List (Known E)) (numbers : List ℕ) (n : ℕ) → All (Agrees number all drawn done) told → All (λ m. (0 < m) × (m ≤ drawn)) numbers
+  module _ (number maker : E → ℕ) (all : List E) (drawn done : ℕ) where
+    drew_most : (told : List (Known E)) (numbers : List ℕ) (n : ℕ) → All (Agrees number maker all drawn done) told → All (λ m. (0 < m) × (m ≤ drawn)) numbers
         → in_any (map (λ k. k.numbers) told ++ numbers ∷ []) n ≡ true → n ≤ drawn
     drew_most [] numbers n told low h = has-most drawn n numbers low (sym (or-last (has numbers n)) ∙ h)
     drew_most (k ∷ ks) numbers n told low h =
-        ⊎_elim (λ t. has-most drawn n k.numbers (All-head (Agrees number all drawn done) k ks told).numbers t)
-        (λ t. drew_most ks numbers n (All-tail (Agrees number all drawn done) k ks told) low t)
+        ⊎_elim (λ t. has-most drawn n k.numbers (All-head (Agrees number maker all drawn done) k ks told).numbers t)
+        (λ t. drew_most ks numbers n (All-tail (Agrees number maker all drawn done) k ks told) low t)
         (or-cases (has k.numbers n) (in_any (map (λ x. x.numbers) ks ++ numbers ∷ []) n) h)
 
     -- no seat drew a number that wasn't drawn
-    pub drew-most : (v : View E) (n : ℕ) → Agrees number all drawn done v.knows → All (Agrees number all drawn done) v.told → drew v n ≡ true → n ≤ drawn
+    pub drew-most : (v : View E) (n : ℕ) → Agrees number maker all drawn done v.knows → All (Agrees number maker all drawn done) v.told → drew v n ≡ true → n ≤ drawn
     drew-most v n knows told h = drew_most v.told v.knows.numbers n told knows.numbers h
 
     -- what is known stays so when a number is drawn
-    pub agrees-draw : (k : Known E) → Agrees number all drawn done k → Agrees number all (drawn + 1) done k
+    pub agrees-draw : (k : Known E) → Agrees number maker all drawn done k → Agrees number maker all (drawn + 1) done k
     agrees-draw k a = record {
       numbers = All-weaker (λ n. (0 < n) × (n ≤ drawn)) (λ n. (0 < n) × (n ≤ drawn + 1)) (λ n low. (low.0, omega (arith, low.1))) k.numbers a.numbers;
       rise = a.rise;
       front = a.front;
       begins = a.begins;
       mine = a.mine;
+      made = a.made;
     }
 
-    -- and when a number is done that isn't the seat's
-    pub agrees-give : (n : ℕ) (after : List E) → MayAdd number n all after → (k : Known E) → has k.numbers n ≡ false → Agrees number all drawn done k → Agrees number after drawn (done + 1) k
-    agrees-give n after adds k strange a = record {
-      numbers = a.numbers;
-      rise = a.rise;
-      front = omega (arith, a.front);
-      begins = prefix_trans k.seen all after a.begins (add-prefix number n all after adds);
-      mine = add-other number n all after adds k.numbers strange ∙ a.mine;
-    }
+    -- and when a number is done that isn't the seat's, and an entry added at another place
+    module _ (n place : ℕ) (after : List E) (adds : MayAdd number maker n place all after) where
+      pub agrees-give : (k : Known E) → has k.numbers n ≡ false → k.place ≢ place → Agrees number maker all drawn done k → Agrees number maker after drawn (done + 1) k
+      agrees-give k strange elsewhere a = record {
+        numbers = a.numbers;
+        rise = a.rise;
+        front = omega (arith, a.front);
+        begins = prefix_trans k.seen all after a.begins (add-prefix number maker n place all after adds);
+        mine = own-others number maker n place all after adds k.numbers strange ∙ a.mine;
+        made = made-others number maker n place all after adds k.place elsewhere ∙ a.made;
+      }
 
-    told_give : (n : ℕ) (after : List E) → MayAdd number n all after → (told : List (Known E)) (numbers : List ℕ) → in_any (map (λ k. k.numbers) told ++ numbers ∷ []) n ≡ false
-        → All (Agrees number all drawn done) told → All (Agrees number after drawn (done + 1)) told × (has numbers n ≡ false)
-    told_give n after adds [] numbers off told = (All-nil (Agrees number after drawn (done + 1)), sym (or-last (has numbers n)) ∙ off)
-    told_give n after adds (k ∷ ks) numbers off told =
-        let both = or-neither (has k.numbers n) (in_any (map (λ x. x.numbers) ks ++ numbers ∷ []) n) off in
-        let rest = told_give n after adds ks numbers both.1 (All-tail (Agrees number all drawn done) k ks told) in
-        (All-cons (Agrees number after drawn (done + 1)) k ks (agrees-give n after adds k both.0 (All-head (Agrees number all drawn done) k ks told)) rest.0, rest.1)
+      told_give : (told : List (Known E)) (numbers : List ℕ) → in_any (map (λ k. k.numbers) told ++ numbers ∷ []) n ≡ false → All (λ k. k.place ≢ place) told
+          → All (Agrees number maker all drawn done) told → All (Agrees number maker after drawn (done + 1)) told × (has numbers n ≡ false)
+      told_give [] numbers off elsewhere told = (All-nil (Agrees number maker after drawn (done + 1)), sym (or-last (has numbers n)) ∙ off)
+      told_give (k ∷ ks) numbers off elsewhere told =
+          let both = or-neither (has k.numbers n) (in_any (map (λ x. x.numbers) ks ++ numbers ∷ []) n) off in
+          let rest = told_give ks numbers both.1 (All-tail (λ (x : Known E). x.place ≢ place) k ks elsewhere) (All-tail (Agrees number maker all drawn done) k ks told) in
+          let first = agrees-give k both.0 (All-head (λ (x : Known E). x.place ≢ place) k ks elsewhere) (All-head (Agrees number maker all drawn done) k ks told) in
+          (All-cons (Agrees number maker after drawn (done + 1)) k ks first rest.0, rest.1)
 
-    -- the same of all that a seat was told, and of itself
-    pub agree-give : (n : ℕ) (after : List E) → MayAdd number n all after → (v : View E) → drew v n ≡ false → Agrees number all drawn done v.knows → All (Agrees number all drawn done) v.told
-        → Agrees number after drawn (done + 1) v.knows × All (Agrees number after drawn (done + 1)) v.told
-    agree-give n after adds v off knows told =
-        let given = told_give n after adds v.told v.knows.numbers off told in
-        (agrees-give n after adds v.knows given.1 knows, given.0)
+      -- the same of all that a seat was told, and of itself
+      pub agree-give : (v : View E) → drew v n ≡ false → v.knows.place ≢ place → All (λ k. k.place ≢ place) v.told → Agrees number maker all drawn done v.knows → All (Agrees number maker all drawn done) v.told
+          → Agrees number maker after drawn (done + 1) v.knows × All (Agrees number maker after drawn (done + 1)) v.told
+      agree-give v off elsewhere told_elsewhere knows told =
+          let given = told_give v.told v.knows.numbers off told_elsewhere told in
+          (agrees-give v.knows given.1 elsewhere knows, given.0)

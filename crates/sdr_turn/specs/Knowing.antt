@@ -2,11 +2,11 @@
 use Rattle.std.specs.Prelude.{◌≡◌, ℕ, ◌-◌, ◌<◌, ◌≤◌, true, false, List, [], ◌∷◌, ◌++◌, length, drop, All}
 use mathlib.Core.List.{IsPrefix}
 use Rattle.sdr_turn.specs.declared.known.Known.{Known}
-use Rattle.sdr_turn.specs.Entries.{own, Rise}
+use Rattle.sdr_turn.specs.Entries.{own, made_at, Rise}
 
--- what a seat knows that has done nothing yet
-abbrev pub nothing : {E : Type 0} → Known E
-nothing = record { numbers = []; number = 0; took = false; front = 0; seen = []; mine = [] }
+-- what the seat at this place knows that has done nothing yet
+abbrev pub nothing : {E : Type 0} → ℕ → Known E
+nothing place = record { place = place; numbers = []; number = 0; took = false; front = 0; seen = []; mine = [] }
 
 -- what it knows after it drew this number: it holds it, and doesn't have the value
 abbrev pub after_draw : {E : Type 0} → Known E → ℕ → Known E
@@ -25,9 +25,10 @@ abbrev pub after_give : {E : Type 0} → Known E → List E → Known E
 after_give k entries = record k { number = 0; took = false; front = k.number; seen = entries; mine = k.mine ++ drop (length k.seen) entries }
 
 -- what a seat knows agrees with a value that has these entries, where so many numbers are drawn and done
-pub record Agrees {E : Type 0} (number : E → ℕ) (entries : List E) (drawn done : ℕ) (k : Known E) : Type 0 where
+pub record Agrees {E : Type 0} (number maker : E → ℕ) (entries : List E) (drawn done : ℕ) (k : Known E) : Type 0 where
   pub numbers : All (λ n. (0 < n) × (n ≤ drawn)) k.numbers
   pub rise : Rise (λ n. n) k.numbers
   pub front : k.front ≤ done
   pub begins : IsPrefix k.seen entries  -- the entries begin with what it has seen
   pub mine : own number k.numbers entries ≡ k.mine  -- those of its numbers are just what it added, each once and in order
+  pub made : made_at maker k.place entries ≡ k.mine  -- and so are those that were made at its place

@@ -17,7 +17,7 @@ pub record Seated (E : Type 0) : Type 0 where
 
 -- a seat of this lock that has done nothing yet
 abbrev pub IsNewSeat : {E : Type 0} → TableId → Seated E → Type 0
-IsNewSeat id s = (s.lock ≡ id) × (s.knows ≡ nothing)
+IsNewSeat id s = (s.lock ≡ id) × (s.knows ≡ nothing s.knows.place)
 
 -- a seat of this lock that holds no number
 abbrev pub IsIdleSeat : {E : Type 0} → TableId → Seated E → Type 0
@@ -32,10 +32,13 @@ abbrev pub carried : {V : Type 0} → Bool → List (ℕ × Option V)
 carried true = (0, None) ∷ []
 carried false = []
 
--- one seat, which drew so many numbers, with the slots that it carries
-pub record IsSeat {V E : Type 0} (drawn : ℕ) (v : View E) (slots : List (ℕ × Option V)) : Type 0 where
+-- one seat, which drew so many numbers and has this place, with the slots that it carries
+pub record IsSeat {V E : Type 0} (drawn place : ℕ) (v : View E) (slots : List (ℕ × Option V)) : Type 0 where
   pub one : v.parts ≡ 1
   pub alone : v.told ≡ []
+  pub place_is : v.knows.place ≡ place
+  pub placed : v.places ≡ v.knows.place ∷ []
+  pub few : place < 64
   pub most : drawn ≤ 2 ^ 40
   pub drawn_is : v.drawn ≡ drawn
   pub numbers : length v.knows.numbers ≡ drawn

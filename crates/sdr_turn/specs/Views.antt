@@ -1,18 +1,22 @@
 -- What the rule keeps of a seat of the table, and how it is cut and joined.
 use Rattle.std.specs.Prelude.{ℕ, ◌+◌, ◌-◌, Bool, List, [], ◌∷◌, ◌++◌, length, map}
-use Rattle.std.specs.List.{list_any}
+use Rattle.std.specs.List.{list_any, range_with_len}
 use Rattle.sdr_turn.specs.declared.known.Known.{Known}
 use Rattle.sdr_turn.specs.declared.view.View.{View}
 use Rattle.sdr_turn.specs.Entries.{has}
 use Rattle.sdr_turn.specs.Knowing.{nothing}
 
--- so many seats in one that have done nothing yet
-abbrev pub new_view : {E : Type 0} → ℕ → View E
-new_view parts = record { parts = parts; drawn = 0; knows = nothing; told = [] }
+-- the place of what has no part of a lock, whose seats have places below this
+abbrev pub no_place : ℕ
+no_place = 64
+
+-- so many seats in one that have done nothing yet, which have places from this one on
+abbrev pub new_view : {E : Type 0} → ℕ → ℕ → View E
+new_view place parts = record { parts = parts; drawn = 0; places = range_with_len place parts; knows = nothing place; told = [] }
 
 -- one seat that knows this
 abbrev pub seat_view : {E : Type 0} → Known E → View E
-seat_view k = record { parts = 1; drawn = length k.numbers; knows = k; told = [] }
+seat_view k = record { parts = 1; drawn = length k.numbers; places = k.place ∷ []; knows = k; told = [] }
 
 -- the seat, which drew one number more and knows this now
 abbrev pub with_draw : {E : Type 0} → View E → Known E → View E
@@ -22,13 +26,13 @@ with_draw v k = record v { drawn = v.drawn + 1; knows = k }
 abbrev pub with_known : {E : Type 0} → View E → Known E → View E
 with_known v k = record v { knows = k }
 
--- the seat without one of its parts
-abbrev pub without_part : {E : Type 0} → View E → View E
-without_part v = record v { parts = v.parts - 1 }
+-- a seat of several parts that has done nothing yet, without the first of them
+abbrev pub without_first : {E : Type 0} → View E → View E
+without_first v = new_view (v.knows.place + 1) (v.parts - 1)
 
 -- the seat with another joined into it
 abbrev pub with_view : {E : Type 0} → View E → View E → View E
-with_view v w = record v { parts = v.parts + w.parts; drawn = v.drawn + w.drawn; told = w.knows ∷ v.told }
+with_view v w = record v { parts = v.parts + w.parts; drawn = v.drawn + w.drawn; places = v.places ++ w.places; told = w.knows ∷ v.told }
 
 -- what a seat was told, and then what it knows itself
 abbrev pub told_of : {E : Type 0} → View E → List (Known E)

@@ -1,14 +1,15 @@
 // How a lock begins and ends.
-ghost use Rattle.std.specs.Prelude.{◌≡◌, ℕ, ◌-◌, ◌<◌, ◌≤◌, [], ◌∷◌, Some, map, length, sum_by, All, AllPairs, IfOk, IfErr, vec_len, vec_capacity};
+ghost use Rattle.std.specs.Prelude.{◌≡◌, ℕ, ◌+◌, ◌-◌, ◌<◌, ◌≤◌, [], ◌∷◌, Some, map, length, sum_by, All, AllPairs, IfOk, IfErr, vec_len, vec_capacity};
+ghost use Rattle.std.specs.List.{range_with_len};
 ghost use Rattle.sdr_turn.specs.Entries.{Rise, AtMost, Apart};
 ghost use Rattle.sdr_turn.specs.Knowing.{Agrees};
 ghost use Rattle.sdr_turn.specs.Seats.{IsNewSeat, IsIdleSeat};
 ghost use Rattle.sdr_turn.specs.Views.{seat_view, with_view, told_of};
-ghost use Rattle.sdr_turn.specs.Ends.{IsNewPlace, IsIdlePlace, IsEnd};
+ghost use Rattle.sdr_turn.specs.Ends.{IsNewTableSeat, IsIdleTableSeat, IsEnd};
 
 use crate::kept::Kept;
 use crate::rule::{Parts, VALUE};
-use crate::seat::{Place, Seat, place_of, seat_at};
+use crate::seat::{Seat, TableSeat, seat_at, table_seat_of};
 use crate::turn::Turn;
 use atomic_table::{Refused, Table};
 use std::alloc::Global;
@@ -24,6 +25,7 @@ impl<V: Kept> Turn<V> {
         ensures lock { IfOk result (λ t. t.0.seats ≡ seats) }
         ensures count { IfOk result (λ t. vec_len t.1 ≡ seats) }
         ensures seats { IfOk result (λ t. All (IsNewSeat t.0.id) t.1.items) }
+        ensures places { IfOk result (λ t. map (λ s. s.knows.place) t.1.items ≡ range_with_len 0 seats) }
         ensures err { IfErr result (λ v. v ≡ value) }
     {
         let Ok(mut row) = Vec::with_capacity(alloc, seats as usize) else {
@@ -46,88 +48,93 @@ impl<V: Kept> Turn<V> {
         // It had as many turns as numbers were drawn. What each seat knows agrees with it, and no two drew the same
         // number.
         ensures turns { V.turns result ≡ sum_by (λ s. length s.knows.numbers) seats.items }
-        ensures agree { All (λ s. Agrees V.number (V.entries result) (V.turns result) (V.turns result) s.knows)
+        ensures agree { All (λ s. Agrees V.number V.maker (V.entries result) (V.turns result) (V.turns result) s.knows)
             seats.items }
         ensures apart { AllPairs Apart (map (λ s. s.knows.numbers) seats.items) }
     {
-        let place = self.gather(seats);
-        self.value_at_end(place)
+        let whole = self.gather(seats);
+        self.value_at_end(whole)
     }
 
-    // Takes the value out, where all seats are in one place.
-    fn value_at_end(self, place: Place<V>) -> V
-        requires { IsIdlePlace self.id self.seats place }
-        ensures { IsEnd V.entries V.number V.turns V.rests place.me.0 result }
+    // Takes the value out, where all seats are in one.
+    fn value_at_end(self, whole: TableSeat<V>) -> V
+        requires { IsIdleTableSeat self.id self.seats whole }
+        ensures { IsEnd V.entries V.number V.maker V.turns V.rests whole.me.0 result }
     {
         let Turn { table } = self;
-        let mut closed = table.close_with(place);
+        let mut closed = table.close_with(whole);
         let slot = closed.take(VALUE);
         closed.free();
         let Some(value) = slot else { unreachable!() };
         value
     }
 
-    // Joins the seats into one place, which is told what each of them knows.
-    fn gather(&self, mut seats: Vec<Seat<V>>) -> Place<V>
+    // Joins the seats into one, which is told what each of them knows.
+    fn gather(&self, mut seats: Vec<Seat<V>>) -> TableSeat<V>
         requires all { 0 < vec_len seats }
         requires idle { All (IsIdleSeat self.now.id) seats.items }
-        ensures place { IsIdlePlace self.now.id (vec_len seats) result }
+        ensures whole { IsIdleTableSeat self.now.id (vec_len seats) result }
         ensures told { told_of result.me.0 ≡ map (λ s. s.knows) seats.items }
         ensures drawn { result.me.0.drawn ≡ sum_by (λ s. length s.knows.numbers) seats.items }
     {
         let Some(last) = seats.pop() else {
             unreachable!()
         };
-        let mut place = place_of(last);
+        let mut whole = table_seat_of(last);
         while let Some(seat) = seats.pop() {
-            self.join(&mut place, seat);
+            self.join(&mut whole, seat);
         }
-        place
+        whole
     }
 
-    // Joins a seat into a place.
-    fn join(&self, place: &mut Place<V>, seat: Seat<V>)
-        requires place { IsIdlePlace self.now.id place.old.me.0.parts place.old }
+    // Joins a seat into others.
+    fn join(&self, whole: &mut TableSeat<V>, seat: Seat<V>)
+        requires whole { IsIdleTableSeat self.now.id whole.old.me.0.parts whole.old }
         requires seat { IsIdleSeat self.now.id seat }
-        ensures place { place.new.table_id ≡ self.now.id }
-        ensures joined { place.new.me ≡ (with_view place.old.me.0 (seat_view seat.knows), place.old.me.1) }
+        ensures lock { whole.new.table_id ≡ self.now.id }
+        ensures joined { whole.new.me ≡ (with_view whole.old.me.0 (seat_view seat.knows), whole.old.me.1) }
     {
-        self.table.shared.join_seat::<Parts>(place, place_of(seat));
+        self.table
+            .shared
+            .join_seat::<Parts>(whole, table_seat_of(seat));
     }
 
-    // Cuts the first place, which has all parts, into seats of one part.
-    fn deal(&self, mut first: Place<V>, row: &mut Vec<Seat<V>>, seats: u64)
-        requires first { IsNewPlace self.now.id seats first }
-        requires some { 1 ≤ seats }
+    // Cuts the first seat of the table, which has all parts, into seats of one part, in the order of their places.
+    fn deal(&self, mut first: TableSeat<V>, row: &mut Vec<Seat<V>>, seats: u64)
+        requires first { IsNewTableSeat self.now.id 0 seats first }
+        requires some { (1 ≤ seats) × (seats ≤ 64) }
         requires room { (row.old.items ≡ []) × (seats ≤ vec_capacity row.old) }
         ensures count { vec_len row.new ≡ seats }
         ensures seats { All (IsNewSeat self.now.id) row.new.items }
+        ensures places { map (λ s. s.knows.place) row.new.items ≡ range_with_len 0 seats }
     {
-        let mut left = seats;
-        while left > 1 {
-            row.push_reserved(self.cut(&mut first, left));
-            left -= 1;
+        let mut place = 0;
+        while place < seats - 1 {
+            row.push_reserved(self.cut(&mut first, place, seats - place));
+            place += 1;
         }
-        row.push_reserved(seat_at(first));
+        row.push_reserved(seat_at(first, place));
     }
 
-    // Cuts one seat off, and leaves one part less.
-    fn cut(&self, first: &mut Place<V>, parts: u64) -> Seat<V>
-        requires first { IsNewPlace self.now.id parts first.old }
-        requires some { 1 ≤ parts }
-        ensures first { IsNewPlace self.now.id (parts - 1) first.new }
+    // Cuts the seat at this place off, and leaves one part less.
+    fn cut(&self, first: &mut TableSeat<V>, place: u64, parts: u64) -> Seat<V>
+        requires first { IsNewTableSeat self.now.id place parts first.old }
+        requires some { (1 < parts) × (place < 64) }
+        ensures first { IsNewTableSeat self.now.id (place + 1) (parts - 1) first.new }
         ensures seat { IsNewSeat self.now.id result }
+        ensures place { result.knows.place ≡ place }
     {
-        seat_at(self.table.shared.split_seat::<Parts>(first))
+        let one = self.table.shared.split_seat::<Parts>(first);
+        seat_at(one, place)
     }
 }
 
-// A lock over the value, and a place with all its parts.
-fn open<V: Kept>(alloc: Global, value: V, seats: u64) -> Result<(Turn<V>, Place<V>), V>
+// A lock over the value, and a seat of its table with all parts.
+fn open<V: Kept>(alloc: Global, value: V, seats: u64) -> Result<(Turn<V>, TableSeat<V>), V>
     requires seats { (1 ≤ seats) × (seats ≤ 64) }
     requires rests { V.rests value }
     requires empty { (V.entries value ≡ []) × (V.turns value ≡ 0) }
-    ensures ok { IfOk result (λ t. (t.0.seats ≡ seats) × IsNewPlace t.0.id seats t.1) }
+    ensures ok { IfOk result (λ t. (t.0.seats ≡ seats) × IsNewTableSeat t.0.id 0 seats t.1) }
     ensures err { IfErr result (λ v. v ≡ value) }
 {
     let Ok(mut slots) = Vec::with_capacity(alloc, 1) else {

@@ -2,6 +2,8 @@ use std::collections::LinkedList;
 
 /// What a seat knows. No value of it is made: contracts and proofs alone speak of it.
 pub struct Known<E> {
+    /// Its place among the lock's seats, from 0.
+    pub place: u64,
     /// The numbers that it drew, rising.
     pub numbers: LinkedList<u64>,
     /// The number that it holds, or 0.

@@ -21,9 +21,9 @@ impl<V: Kept> TableRule<Option<V>, View<V::Entry>, u64> for Serves<V> {
     ghost use Rattle.sdr_turn.specs.Serving.{IsServing};
     ghost use Rattle.sdr_turn.specs.Views.{new_view};
 
-    ghost holds = { λ seats s. IsServing V.entries V.number V.turns V.rests seats s };
+    ghost holds = { λ seats s. IsServing V.entries V.number V.maker V.turns V.rests seats s };
 
-    ghost first = { λ seats. new_view seats };
+    ghost first = { λ seats. new_view 0 seats };
 }
 
 /// A seat draws a number.
@@ -50,7 +50,7 @@ pub struct Takes;
 impl<V: Kept> Play<Option<V>, View<V::Entry>> for Takes {
     ghost use Rattle.sdr_turn.specs.Plays.{TakesValue};
 
-    ghost then = { λ step. TakesValue V.entries V.number V.turns V.rests };
+    ghost then = { λ step. TakesValue V.entries V.number V.maker V.turns V.rests };
 }
 
 /// A seat gives the value back, and its number is done.
@@ -59,25 +59,25 @@ pub struct Gives;
 impl<V: Kept> Play<Option<V>, View<V::Entry>> for Gives {
     ghost use Rattle.sdr_turn.specs.Plays.{GivesValue};
 
-    ghost then = { λ step. GivesValue V.entries };
+    ghost then = { λ step. GivesValue V.entries V.maker };
 }
 
-/// One of a seat's parts becomes a seat of its own, and a seat becomes a part of another.
+/// The first of a seat's parts becomes a seat of its own, and a seat becomes a part of another.
 pub struct Parts;
 
 impl<E> Split<View<E>> for Parts {
     ghost use Rattle.sdr_turn.specs.Knowing.{nothing};
-    ghost use Rattle.sdr_turn.specs.Views.{seat_view, without_part};
+    ghost use Rattle.sdr_turn.specs.Views.{seat_view, without_first};
 
-    ghost left = { without_part };
+    ghost left = { without_first };
 
-    ghost right = { λ v. seat_view nothing };
+    ghost right = { λ v. seat_view (nothing v.knows.place) };
 }
 
 impl<E> Join<View<E>> for Parts {
-    ghost use Rattle.sdr_turn.specs.Views.{new_view, with_view};
+    ghost use Rattle.sdr_turn.specs.Views.{new_view, no_place, with_view};
 
     ghost both = { with_view };
 
-    ghost spent = { new_view 0 };
+    ghost spent = { new_view no_place 0 };
 }

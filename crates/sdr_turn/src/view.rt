@@ -7,6 +7,8 @@ pub struct View<E> {
     pub parts: u64,
     /// How many numbers these drew.
     pub drawn: u64,
+    /// The places of these.
+    pub places: LinkedList<u64>,
     pub knows: Known<E>,
     /// What those knew that were joined into it.
     pub told: LinkedList<Known<E>>,

@@ -11,7 +11,7 @@ use std::thread::yield_now;
 #[derive(Clone, Copy)]
 pub struct Line {
     pub number: u64,
-    /// Whose turn it was.
+    /// The place of the seat whose turn it was.
     pub by: u64,
 }
 
@@ -28,6 +28,8 @@ impl Kept for Tally {
     ghost entries = { λ t. t.lines.items };
 
     ghost number = { λ line. line.number };
+
+    ghost maker = { λ line. line.by };
 
     ghost turns = { λ t. t.turns };
 
@@ -46,10 +48,11 @@ impl Tally {
         }
     }
 
-    /// Notes the turn of this number.
+    /// Notes the turn of this number, which the seat at this place took.
     pub fn note(&mut self, number: u64, by: u64)
         ensures turns { self.new.turns ≡ number }
-        ensures adds { MayAdd (λ line. line.number) number self.old.lines.items self.new.lines.items }
+        ensures adds { MayAdd (λ line. line.number) (λ line. line.by) number by
+            self.old.lines.items self.new.lines.items }
     {
         self.turns = number;
         let _ = self.lines.push(Line { number, by });
@@ -80,14 +83,14 @@ pub fn take_turns<R: Wait>(
 {
     let first = turn.draw(one)?;
     let Some(second) = turn.draw(other) else {
-        turn_of(rt, turn, one, first, 0);
+        turn_of(rt, turn, one, first);
         return None;
     };
     let numbers = [first.get(), second.get()];
     let front_before = turn.front(one);
-    turn_of(rt, turn, one, first, 0);
+    turn_of(rt, turn, one, first);
     let fronts_between = [turn.front(one), turn.front(other)];
-    let found = turn_of(rt, turn, other, second, 1);
+    let found = turn_of(rt, turn, other, second);
     Some(Rows {
         numbers,
         front_before,
@@ -97,18 +100,13 @@ pub fn take_turns<R: Wait>(
 }
 
 /// Waits for the number's turn, notes it, and says how many lines there were before.
-pub fn turn_of<R: Wait>(
-    rt: &R,
-    turn: &Turn<Tally>,
-    seat: &mut Seat<Tally>,
-    number: Number,
-    by: u64,
-) -> usize
+pub fn turn_of<R: Wait>(rt: &R, turn: &Turn<Tally>, seat: &mut Seat<Tally>, number: Number) -> usize
     requires seat { seat.old.lock ≡ turn.now.id }
     requires number { (seat.old.knows.number ≡ number) × (seat.old.knows.took ≡ false) }
     ensures seat { IsIdleSeat turn.now.id seat.new }
 {
     let n = number.get();
+    let by = seat.place();
     let mut held = turn.take(rt, seat, number);
     let found = held.value().lines.len();
     held.value().note(n, by);

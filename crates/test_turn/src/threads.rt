@@ -29,12 +29,12 @@ impl Bounds {
 }
 
 /// Draws a number and takes its turn.
-pub fn serve<R: Wait>(rt: &R, turn: &Turn<Tally>, seat: &mut Seat<Tally>, by: u64)
+pub fn serve<R: Wait>(rt: &R, turn: &Turn<Tally>, seat: &mut Seat<Tally>)
     requires { IsIdleSeat turn.now.id seat.old }
     ensures { IsIdleSeat turn.now.id seat.new }
 {
     if let Some(number) = turn.draw(seat) {
-        turn_of(rt, turn, seat, number, by);
+        turn_of(rt, turn, seat, number);
     }
 }
 
@@ -43,14 +43,13 @@ pub fn serve_often<R: Wait + Clock>(
     rt: &R,
     turn: &Turn<Tally>,
     mut seat: Seat<Tally>,
-    by: u64,
     bounds: &Bounds,
 ) -> Seat<Tally>
     requires { IsIdleSeat turn.now.id seat }
     ensures { IsIdleSeat turn.now.id result }
 {
     for _ in 0..bounds.turns {
-        serve(rt, turn, &mut seat, by);
+        serve(rt, turn, &mut seat);
         if bounds.is_over(rt) {
             break;
         }
@@ -73,13 +72,12 @@ pub fn serve_all<R: Threads + Wait + Clock + Sync>(
     let Some(seat) = seats.pop() else {
         return seats;
     };
-    let by = seats.len() as u64;
     let (seat, mut seats) = join(
         rt,
         || -> Seat<Tally>
             requires { IsSync R.row × IsIdleSeat turn.now.id seat }
             ensures { IsIdleSeat turn.entry.now.id result }
-        { serve_often(rt, turn, seat, by, bounds) },
+        { serve_often(rt, turn, seat, bounds) },
         || -> Vec<Seat<Tally>>
             requires { IsSync R.row × All (IsIdleSeat turn.now.id) seats.items }
             ensures count { vec_len result ≡ vec_len seats }

@@ -8,14 +8,16 @@ fn two_seats_are_served_as_they_drew(rt: HostRuntime) -> Result<(), Fail> {
     let Ok((turn, mut seats)) = Turn::new(rt.alloc(), Tally::new(rt.alloc()), 2) else {
         panic!(rt; "no memory")
     };
-    let (Some(mut one), Some(mut other)) = (seats.pop(), seats.pop()) else {
+    let (Some(mut other), Some(mut one)) = (seats.pop(), seats.pop()) else {
         unreachable!()
     };
+    assert_eq!(rt; [one.place(), other.place()], [0, 1]);
     let Some(rows) = take_turns(&rt, &turn, &mut one, &mut other) else {
         panic!(rt; "a seat drew 2^40 numbers")
     };
-    seats.push_reserved(one);
+    // They are closed in any order.
     seats.push_reserved(other);
+    seats.push_reserved(one);
     let tally = turn.close(seats);
     assert_eq!(rt; rows.numbers, [1, 2]);
     assert_eq!(rt; rows.front_before, 0);

@@ -26,7 +26,7 @@ returns-in-Starved-clause-ends g c =
 pub returns-in-Unsaid-clause-ends : goal.returns-in-Unsaid-clause-ends
 returns-in-Unsaid-clause-ends g c =
     let same = subst (λ (w : LineOutcome). BeginComesTo w g.T.HasGround g.J.Origin.begins g.S.Scripted.script c.args.core.now c.begin.new.core c.args.progress.now c.begin.new.progress) c.in-Unsaid.is c.begin.ensures.begins in
-    unsaid_so g.T.HasGround g.J.Origin.begins g.S.Scripted.script c.args.core.now c.args.progress.now c.begin.new.core c.begin.new.progress c.requires.next.stays same.0 same.1
+    unsaid_so g.T.HasGround g.J.Origin.begins g.S.Scripted.script c.args.core.now c.args.progress.now c.begin.new.core c.begin.new.progress c.args.step.now c.args.after c.requires.next same.0 same.1
 
 pub next_step-requires : goal.next_step-requires
 next_step-requires g c = record {

@@ -2,6 +2,8 @@ use Rattle.std.proofs.Common.{◌∙◌, inl}
 use Rattle.sdr_disk.proofs.MomentsLemmas.{Reads-refl}
 use Rattle.sdr_log.proofs.RestoringLemmas.{at_reads, reads_only}
 use Rattle.sdr_image.proofs.OpenedLemmas.{at_between, loaded, opened_same, reads_may, reads_synced}
+use Rattle.sdr_image.proofs.FaultedLemmas.{reads_failed, reads_then_failed, synced_then_failed}
+use Rattle.sdr_log.proofs.FaultedLemmas.{on_error}
 use Rattle.sdr_image.proofs.OutsideLemmas.{rest_before, rest_read, rest_same}
 use Rattle.sdr_log.specs.Calls.{IsFramed}
 use Rattle.sdr_image.proofs.opening.load.Goals as goal
@@ -105,3 +107,31 @@ returns-clause-inside g c =
     rw c.in-Some.is at c.in_ok-frame.ensures.found in
     rest_before _ _ _ c.read_heap.ensures.reads.same
     (rest_read c.in-Some.frame _ _ _ c.read_frame.ensures.reads.same framed.head c.restore.ensures.inside)
+
+pub returns-in_err-frame-clause-faulted : goal.returns-in_err-frame-clause-faulted
+returns-in_err-frame-clause-faulted g c =
+    on_error c.from_residual.result
+    (reads_failed g.D.Disk.bytes g.D.Disk.moment g.D.Disk.may_hold_after _ _ c.read_frame.ensures.reads)
+
+pub returns-in_default-clause-faulted : goal.returns-in_default-clause-faulted
+returns-in_default-clause-faulted g c =
+    reads_failed g.D.Disk.bytes g.D.Disk.moment g.D.Disk.may_hold_after _ _ c.read_frame.ensures.reads
+
+pub returns-in_err-memory-clause-faulted : goal.returns-in_err-memory-clause-faulted
+returns-in_err-memory-clause-faulted g c =
+    on_error c.from_residual-in_err-memory.result
+    (reads_failed g.D.Disk.bytes g.D.Disk.moment g.D.Disk.may_hold_after _ _ c.read_frame.ensures.reads)
+
+pub returns-in_err-restored-clause-faulted : goal.returns-in_err-restored-clause-faulted
+returns-in_err-restored-clause-faulted g c =
+    on_error c.from_residual-in_err-restored.result
+    (reads_then_failed g.D.Disk.bytes g.D.Disk.moment g.D.Disk.may_hold_after _ _ _ c.read_frame.ensures.reads
+    c.in_err-restored.ensures.faulted)
+
+pub returns-in_err-bytes-clause-faulted : goal.returns-in_err-bytes-clause-faulted
+returns-in_err-bytes-clause-faulted g c =
+    let reads = c.read_frame.ensures.reads in
+    on_error c.from_residual-in_err-bytes.result
+    (synced_then_failed g.D.Disk.bytes g.D.Disk.moment g.D.Disk.may_hold_after c.args.disk.now _ _
+    (λ x is may. c.in_ok-restored.ensures.synced x (reads.same ∙ is) (reads_may _ _ _ _ _ reads x may))
+    c.read_heap.ensures.reads)

@@ -1,3 +1,4 @@
+use Rattle.sdr_image.proofs.FaultedLemmas.{back_failed}
 use Rattle.sdr_image.proofs.OpenedLemmas.{may_put_back}
 use Rattle.sdr_image.proofs.opening.restore.Goals as goal
 
@@ -20,3 +21,18 @@ returns-in-Err-BadLog-clause-any_moment g c x is may =
 pub returns-in-Err-NoMemory-clause-any_moment : goal.returns-in-Err-NoMemory-clause-any_moment
 returns-in-Err-NoMemory-clause-any_moment g c x is may =
     c.put_back_found.ensures.any_moment x is (may_put_back _ x _ (c.requires.framed.head x is) may)
+
+pub returns-in-Err-DiskFault-clause-faulted : goal.returns-in-Err-DiskFault-clause-faulted
+returns-in-Err-DiskFault-clause-faulted g c =
+    back_failed g.D.Disk.bytes g.D.Disk.moment g.D.Disk.may_hold_after c.args.frame _ _ c.requires.framed.head
+    c.in-Err-DiskFault.ensures.faulted
+
+pub returns-in-Err-BadLog-clause-faulted : goal.returns-in-Err-BadLog-clause-faulted
+returns-in-Err-BadLog-clause-faulted g c =
+    back_failed g.D.Disk.bytes g.D.Disk.moment g.D.Disk.may_hold_after c.args.frame _ _ c.requires.framed.head
+    c.in-Err-BadLog.ensures.faulted
+
+pub returns-in-Err-NoMemory-clause-faulted : goal.returns-in-Err-NoMemory-clause-faulted
+returns-in-Err-NoMemory-clause-faulted g c =
+    back_failed g.D.Disk.bytes g.D.Disk.moment g.D.Disk.may_hold_after c.args.frame _ _ c.requires.framed.head
+    c.in-Err-NoMemory.ensures.faulted

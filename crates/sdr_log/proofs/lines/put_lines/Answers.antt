@@ -3,8 +3,9 @@ use Rattle.std.proofs.lemmas.List.{nil_from_length}
 use Rattle.sdr_disk.specs.Ranges.{IsInNone}
 use Rattle.sdr_log.specs.Logged.{line_ranges}
 use Rattle.sdr_log.specs.declared.record.Record.{Record}
+use Rattle.sdr_log.proofs.FaultedLemmas.{on_error}
 use Rattle.sdr_log.proofs.OutsideLemmas.{both_line, both_same, both_then}
-use Rattle.sdr_log.proofs.PuttingLemmas.{lines_more, lines_none, putting_all, putting_each, putting_more, putting_none, putting_written}
+use Rattle.sdr_log.proofs.PuttingLemmas.{lines_more, lines_none, putting_all, putting_each, putting_failed, putting_more, putting_none, putting_written}
 use Rattle.sdr_log.proofs.lines.put_lines.Goals as goal
 
 pub loop-line-init : goal.loop-line-init
@@ -14,7 +15,7 @@ loop-line-init g c = record {
   below = c.requires.below;
   later = omega arith;
   forward = omega arith;
-  calls = omega arith;
+  calls = refl;
   inside = both_same _ _ _ refl;
   told = λ x is. putting_none _ _ _ _ _ _ x is;
   within = λ i o. o;
@@ -31,6 +32,12 @@ pub returns-in_err-put_line-clause-any_moment : goal.returns-in_err-put_line-cla
 returns-in_err-put_line-clause-any_moment g c x is m =
     putting_each _ _ _ _ _ _ x _ _ _ _ _ c.in-Some.ensures.cases.0 c.put_line.ensures.long
     (c.loop-line.invariant.told x is) c.put_line.ensures.moments m
+
+pub returns-in_err-put_line-clause-faulted : goal.returns-in_err-put_line-clause-faulted
+returns-in_err-put_line-clause-faulted g c =
+    on_error c.from_residual.result (λ x is y now m.
+    putting_failed _ _ _ _ _ _ x _ _ _ _ _ c.in-Some.ensures.cases.0 c.put_line.ensures.long
+    (c.loop-line.invariant.told x is) c.put_line.ensures.moments y now c.put_line.ensures.others m)
 
 pub returns-in_err-put_line-clause-inside : goal.returns-in_err-put_line-clause-inside
 returns-in_err-put_line-clause-inside g c =
@@ -69,6 +76,10 @@ pub returns-clause-puts : goal.returns-clause-puts
 returns-clause-puts g c x is y now m =
     putting_all _ _ _ _ _ _ x _ _ (nil_from_length _ c.in_default.ensures.cases) (c.loop-line.invariant.told x is) y
     now m
+
+pub returns-clause-rises : goal.returns-clause-rises
+returns-clause-rises g c =
+    omega (arith, c.loop-line.invariant.calls, ap length (nil_from_length _ c.in_default.ensures.cases))
 
 pub returns-clause-outside : goal.returns-clause-outside
 returns-clause-outside g c x is only = c.loop-line.invariant.outside x only

@@ -15,7 +15,7 @@ invariant-loop-line g l = record {
   below : AreBelow l.frame.heap_lines l.rest;
   later : g.D.Disk.faults l.fn.disk ≤ g.D.Disk.faults l.disk;
   forward : g.D.Disk.moment l.fn.disk ≤ g.D.Disk.moment l.disk;
-  calls : g.D.Disk.moment l.disk + 2 * length l.rest ≤ g.D.Disk.moment l.fn.disk + 2 * length l.fn.lines;
+  calls : g.D.Disk.moment l.disk + 2 * length l.rest ≡ g.D.Disk.moment l.fn.disk + 2 * length l.fn.lines;
   inside : Both (g.D.Disk.bytes l.fn.disk) (g.D.Disk.bytes l.disk) (KeepsOutside l.frame);
   told : IfTold (g.D.Disk.bytes l.fn.disk) (λ x.
       Putting g.D.Disk.moment g.D.Disk.may_hold_after g.D.Disk.bytes l.frame l.fn.lines l.rest l.fn.disk l.disk x);

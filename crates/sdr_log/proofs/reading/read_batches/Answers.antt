@@ -1,4 +1,4 @@
-use Rattle.std.proofs.Common.{◌∙◌, ℕ, List, Some, ap, sym, subst}
+use Rattle.std.proofs.Common.{ℕ, List, subst}
 use Rattle.std.proofs.lemmas.Slice.{first_rest}
 use Rattle.sdr_log.proofs.ReadingLemmas.{ReadSoFar, read_all, read_more}
 use Rattle.sdr_log.proofs.reading.read_batches.Goals as goal
@@ -15,4 +15,4 @@ returns-clause-read c =
     let split = first_rest c.loop-rest.rest.now 0 c.loop-rest.invariant.some in
     let s = subst (λ (l : List ℕ). ReadSoFar c.args.lines c.args.log.now c.loop-rest.found l) split
     c.loop-rest.invariant in
-    read_all _ _ _ _ _ s c.loop-rest-test.false ∙ ap Some (sym c.into_records.ensures.records)
+    read_all _ _ _ _ _ s c.loop-rest-test.false _ c.into_records.ensures.records c.into_records.ensures.good

@@ -1,4 +1,5 @@
 use Rattle.std.proofs.Common.{◌∙◌, inl}
+use Rattle.sdr_log.proofs.FaultedLemmas.{on_error, reads_failed, reads_then_failed}
 use Rattle.sdr_log.proofs.RestoringLemmas.{at_reads, at_restored, back_same, reads_may, reads_only}
 use Rattle.sdr_log.proofs.recovery.put_back.Goals as goal
 
@@ -29,6 +30,21 @@ returns-in_err-count-clause-any_moment g c x is m =
     let reads = c.read_frame.ensures.reads in
     at_restored _ _ _ _ _ reads _ (λ image l. back_same _ x image _ m l) _
     (c.put_back_found.ensures.any_moment x (reads.same ∙ is) (reads_may _ _ _ _ _ _ x reads m))
+
+pub returns-in_err-found-clause-faulted : goal.returns-in_err-found-clause-faulted
+returns-in_err-found-clause-faulted g c =
+    on_error c.from_residual.result
+    (reads_failed g.D.Disk.bytes g.D.Disk.moment g.D.Disk.may_hold_after c.args.frame _ _ c.read_frame.ensures.reads)
+
+pub returns-then-ne-clause-faulted : goal.returns-then-ne-clause-faulted
+returns-then-ne-clause-faulted g c =
+    reads_failed g.D.Disk.bytes g.D.Disk.moment g.D.Disk.may_hold_after c.args.frame _ _ c.read_frame.ensures.reads
+
+pub returns-in_err-count-clause-faulted : goal.returns-in_err-count-clause-faulted
+returns-in_err-count-clause-faulted g c =
+    on_error c.from_residual-in_err-count.result
+    (reads_then_failed g.D.Disk.bytes g.D.Disk.moment g.D.Disk.may_hold_after c.args.frame _ _ _ c.read_frame.ensures.reads
+    c.in_err-count.ensures.faulted)
 
 pub returns-clause-rest : goal.returns-clause-rest
 returns-clause-rest g c x is y now m =

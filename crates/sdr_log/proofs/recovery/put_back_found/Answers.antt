@@ -3,6 +3,7 @@ use Rattle.std.proofs.lemmas.List.{nil_from_length}
 use Rattle.std.proofs.lemmas.Option.{same_Some}
 use Rattle.sdr_log.specs.Logged.{Logs}
 use Rattle.sdr_log.specs.declared.record.Record.{Record}
+use Rattle.sdr_log.proofs.FaultedLemmas.{back_later, on_error, reads_failed}
 use Rattle.sdr_log.proofs.LoggedLemmas.{logs_gate}
 use Rattle.sdr_log.proofs.RestoringLemmas.{at_reads, at_restored, back_same, reads_only, reads_open, reads_rest}
 use Rattle.sdr_log.proofs.RestoringLemmas.{restored_none}
@@ -15,6 +16,11 @@ returns-in_err-records-clause-left g c x is only =
 pub returns-in_err-records-clause-any_moment : goal.returns-in_err-records-clause-any_moment
 returns-in_err-records-clause-any_moment g c x is m =
     at_reads _ _ _ _ _ c.read_records.ensures.reads _ (λ image l. back_same _ x image _ m l)
+
+pub returns-in_err-records-clause-faulted : goal.returns-in_err-records-clause-faulted
+returns-in_err-records-clause-faulted g c =
+    on_error c.from_residual.result
+    (reads_failed g.D.Disk.bytes g.D.Disk.moment g.D.Disk.may_hold_after c.args.frame _ _ c.read_records.ensures.reads)
 
 pub returns-then-len-eq0-clause-back : goal.returns-then-len-eq0-clause-back
 returns-then-len-eq0-clause-back g c x is y now =
@@ -59,6 +65,17 @@ returns-in_err-restore-clause-any_moment g c x is m =
     omega (arith, c.len.ensures, c.if-len-eq0.false, ap length c.as_slice.ensures) in
     at_restored _ _ _ _ _ reads _ (λ image l. back_same _ x image _ m l) _
     (c.restore.ensures.any_moment x (reads.same ∙ is) l (reads_open _ _ _ _ _ _ x reads m _ l some))
+
+pub returns-in_err-restore-clause-faulted : goal.returns-in_err-restore-clause-faulted
+returns-in_err-restore-clause-faulted g c =
+    on_error c.from_residual-in_err-restore.result (λ x is y now m.
+    let reads = c.read_records.ensures.reads in
+    let l = subst (λ (l : List Record). Logs c.args.frame x l) (sym c.as_slice.ensures)
+    (c.in_ok-records.ensures.logs x is) in
+    let some : 0 < length c.as_slice.result.now =
+    omega (arith, c.len.ensures, c.if-len-eq0.false, ap length c.as_slice.ensures) in
+    back_later g.D.Disk.bytes _ _ c.args.frame _ _ _ x y reads.time
+    (c.in_err-restore.ensures.faulted x (reads.same ∙ is) y now l (reads_open _ _ _ _ _ _ x reads m _ l some)))
 
 pub returns-clause-quiet : goal.returns-clause-quiet
 returns-clause-quiet g c x is shut =

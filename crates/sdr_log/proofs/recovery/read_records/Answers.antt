@@ -1,10 +1,11 @@
-use Rattle.std.proofs.Common.{◌≡◌, ◌∙◌, List, ℕ, length, ap, sym}
+use Rattle.std.proofs.Common.{◌≡◌, ◌∙◌, ap, sym}
 use Rattle.std.proofs.lemmas.Result.{err_from_is_err_and}
 use Rattle.sdr_disk.specs.Told.{IfTold}
 use Rattle.sdr_log.specs.Calls.{GivesNone}
-use Rattle.sdr_log.specs.Log.{batches_of, log_of}
+use Rattle.sdr_log.specs.Log.{log_of}
+use Rattle.sdr_log.specs.Reading.{good_records}
 use Rattle.sdr_log.proofs.ReadingLemmas.{OnBadLog-then}
-use Rattle.sdr_log.proofs.RecoveryLemmas.{GivesNone-log, HasRegions-framed, Logs-read}
+use Rattle.sdr_log.proofs.RecoveryLemmas.{GivesNone-log, HasRegions-framed, Logs-read, good_records-are}
 use Rattle.sdr_log.proofs.recovery.read_records.Goals as goal
 
 pub returns-in_err-records-clause-bad_log : goal.returns-in_err-records-clause-bad_log
@@ -15,12 +16,15 @@ returns-in_err-records-clause-bad_log g c =
     let log : c.as_slice.result.now ≡ log_of c.args.frame x =
     c.as_slice.ensures ∙ c.in_ok-log.ensures.given x is in
     GivesNone-log c.args.frame x (HasRegions-framed _ _ _ x c.requires.framed (g.met.D.Disk.told c.args.disk.now) is)
-    (λ records found. wrong records (ap (λ (l : List ℕ). batches_of (length l) l) log ∙ found)))
+    (ap (good_records c.args.frame.heap_lines) (sym log) ∙ wrong))
     c.in_err-records.ensures.bad_log)
+
+pub returns-clause-good : goal.returns-clause-good
+returns-clause-good g c = (good_records-are _ _ _ c.in_ok-records.ensures.read).1
 
 pub returns-clause-logs : goal.returns-clause-logs
 returns-clause-logs g c x is =
     let log : c.as_slice.result.now ≡ log_of c.args.frame x =
     c.as_slice.ensures ∙ c.in_ok-log.ensures.given x is in
     Logs-read c.args.frame x _ (HasRegions-framed _ _ _ x c.requires.framed (g.met.D.Disk.told c.args.disk.now) is)
-    (sym (ap (λ (l : List ℕ). batches_of (length l) l) log) ∙ c.in_ok-records.ensures.read) c.in_ok-records.ensures.good
+    (ap (good_records c.args.frame.heap_lines) (sym log) ∙ c.in_ok-records.ensures.read)

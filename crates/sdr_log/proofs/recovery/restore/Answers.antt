@@ -1,5 +1,6 @@
-use Rattle.std.proofs.Common.{◌∙◌, sym}
+use Rattle.std.proofs.Common.{◌∙◌, inl, inr, sym}
 use Rattle.std.proofs.lemmas.Option.{same_Some}
+use Rattle.sdr_log.proofs.FaultedLemmas.{close_failed, on_error}
 use Rattle.sdr_log.proofs.GoodLemmas.{AreBelow-good}
 use Rattle.sdr_log.proofs.LeavingLemmas.{at_gate_left, at_lines_left}
 use Rattle.sdr_log.proofs.OutsideLemmas.{both_then}
@@ -16,6 +17,19 @@ returns-in_err-put_lines-clause-left g c x is l only =
 pub returns-in_err-put_lines-clause-any_moment : goal.returns-in_err-put_lines-clause-any_moment
 returns-in_err-put_lines-clause-any_moment g c x is l o =
     c.put_lines.ensures.any_moment x is (may_put _ x _ _ l o.logged)
+
+pub returns-in_err-put_lines-clause-faulted : goal.returns-in_err-put_lines-clause-faulted
+returns-in_err-put_lines-clause-faulted g c =
+    on_error c.from_residual.result (λ x is y now l o.
+    inl (inr (c.in_err-put_lines.ensures.faulted x is y now (may_put _ x _ _ l o.logged))))
+
+pub returns-in_err-close-clause-faulted : goal.returns-in_err-close-clause-faulted
+returns-in_err-close-clause-faulted g c =
+    on_error c.from_residual-in_err-close.result (λ x is y now l o.
+    let is1 = c.in_ok-put_lines.ensures.written x is in
+    let p = c.in_ok-put_lines.ensures.puts x is _ is1 (may_put _ x _ _ l o.logged) in
+    close_failed g.D.Disk.bytes _ _ c.args.frame _ _ _ x y _ l o.gate c.in_ok-put_lines.ensures.rises
+    (c.in_err-close.ensures.faulted _ is1 y now p.logged))
 
 pub returns-in_err-close-clause-left : goal.returns-in_err-close-clause-left
 returns-in_err-close-clause-left g c x is l only =

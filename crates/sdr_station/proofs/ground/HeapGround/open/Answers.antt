@@ -99,7 +99,7 @@ invariant_of-result g c =
 pub returns-in-Err-clause-again : goal.returns-in-Err-clause-again
 returns-in-Err-clause-again g c =
     image_again g.D.Disk.bytes g.D.Disk.moment g.D.Disk.may_hold_after c.args.disk c.in-Err.shut.disk c.in-Err.shut.why c.of_image.result
-    c.of_image.ensures c.in-Err.ensures.same
+    c.of_image.ensures c.in-Err.ensures.same c.in-Err.ensures.faulted
 
 pub returns-in-Err-check-clause-again : goal.returns-in-Err-check-clause-again
 returns-in-Err-check-clause-again g c =

@@ -12,11 +12,11 @@ pub returns-clause-agree : goal.returns-clause-agree
 returns-clause-agree g c =
     let K = g.V.Kept in
     let value = c.value_at_end.result in
-    let agrees = Agrees K.number (K.entries value) (K.turns value) (K.turns value) in
-    All-from_map agrees (λ (s : Seated g.row.V-Entry.Denot). s.knows) c.args.seats.items (subst (All agrees) c.gather-place.ensures.told c.value_at_end.ensures.agree)
+    let agrees = Agrees K.number K.maker (K.entries value) (K.turns value) (K.turns value) in
+    All-from_map agrees (λ (s : Seated g.row.V-Entry.Denot). s.knows) c.args.seats.items (subst (All agrees) c.gather-whole.ensures.told c.value_at_end.ensures.agree)
 
 pub returns-clause-apart : goal.returns-clause-apart
 returns-clause-apart g c =
     let numbers = λ (k : Known g.row.V-Entry.Denot). k.numbers in
     let knows = λ (s : Seated g.row.V-Entry.Denot). s.knows in
-    subst (AllPairs Apart) (ap (map numbers) c.gather-place.ensures.told ∙ map-map numbers knows c.args.seats.items) c.value_at_end.ensures.apart
+    subst (AllPairs Apart) (ap (map numbers) c.gather-whole.ensures.told ∙ map-map numbers knows c.args.seats.items) c.value_at_end.ensures.apart

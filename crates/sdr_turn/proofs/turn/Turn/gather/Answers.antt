@@ -16,7 +16,7 @@ loop-seat-preserved g c =
     let others = i.3.0 in (
       omega (arith, ap (λ m. m.0.parts) j.joined, i.0, c.in-Some-pop.ensures.cases),
       record {
-        lock = j.place;
+        lock = j.lock;
         parts_are = refl;
         idle = ap (λ m. m.0.knows.number) j.joined ∙ i.1.idle;
         free = ap (λ m. m.0.knows.took) j.joined ∙ i.1.free;
