@@ -21,6 +21,7 @@ use Rattle.sdr_machine.specs.Leaving.{AllLeave, HoldersLeave, LeaveInTurn, Makes
 use Rattle.sdr_machine.specs.Machine.{Machine, Made, MachineStep}
 use Rattle.sdr_machine.specs.Roll.{first_roll, newcomer}
 use Rattle.sdr_machine.specs.Serving.{Acts, IsInSomeState, Locked, MakesMachineStep, machine_at, takes_memory}
+use Rattle.sdr_machine.specs.Standing.{GroundState}
 use Rattle.sdr_machine.specs.declared.came.Came.{Came}
 use Rattle.sdr_core.specs.Going.{GoesUnasked, MakesNext}
 use Rattle.sdr_core.specs.Logging.{is_leave}
@@ -85,7 +86,7 @@ pub answered_so : {M : Type 0} (media : MediaGhosts M) (keeps : Bool) (old new :
     → IsKept old.roll → Acts (memory_ground media) keeps MachineStep daemon event a old new → Answered media (run_of old) (run_of new) daemon event a
 answered_so {M} media keeps old new daemon event a kept acts = from (acts.leads.each v (λ _. stands_for_itself old.base.worlds))
   where
-    v : _
+    v : GroundState
     v = standing_bare old.base.worlds
 
     m : Machine
@@ -214,11 +215,11 @@ module _ (told told' : Option Told) (leave : Leave) where
     others = turn_told (staying h.between.machine.roll) h.between h.last c' h.others;
   }
 
--- what the leaves of a run lead to
-pub leaves_from : {M : Type 0} (media : MediaGhosts M) (leave : Leave) (old new : MemoryRun M) → GoesUnasked (memory_run media) (AllLeave (media.told old.media) leave) old new
-    → AllLeaveFrom leave (machine_of old) (machine_of new)
-leaves_from media leave old new goes = record {
+-- what the leaves of a run lead to, which is at each core at its machine
+pub leaves_from : {M : Type 0} (r : RunGhosts (MemoryRun M)) (leave : Leave) (old new : MemoryRun M) → GoesUnasked r (AllLeave (r.told old) leave) old new
+    → ((c : Core) → IsAt old c → r.at old c) → ((c : Core) → r.at new c → IsAt new c) → AllLeaveFrom leave (machine_of old) (machine_of new)
+leaves_from r leave old new goes here there = record {
   each = λ told c at.
-      let s = goes.each c at in
-      record { made = s.made; core = s.core; tells = all_told (media.told old.media) told leave c s.made s.core s.tells; machine = s.here };
+      let s = goes.each c (here c at) in
+      record { made = s.made; core = s.core; tells = all_told (r.told old) told leave c s.made s.core s.tells; machine = there s.core s.here };
 }

@@ -1,6 +1,7 @@
 use Rattle.std.proofs.Common.{◌≡◌, ◌∙◌, ◌≤◌, ◌+◌, ap, arith, length, refl, subst, sym}
 use Rattle.sdr_gather.specs.Gathering.{IsGapIn}
 use Rattle.sdr_gather.specs.declared.gathering.Gap.{Gap}
+use Rattle.sdr_machine.specs.Asked.{outside_needed}
 use Rattle.sdr_model.specs.World.{World}
 use Rattle.sdr_model.specs.declared.answer.Reply.TheVariants as replies
 use Rattle.mem_machine.proofs.AnsweringLemmas.{answers_failed, answers_given, answers_short, pieces_needed, pieces_page}
@@ -47,7 +48,7 @@ returns-in-Err-Short-clause-gap g c =
     gap.1.1
 
 -- how often media were asked
-needs : (g : Over) (c : goal.After-gather g) → g.M.Media.asks c.gather.new.media ≤ g.M.Media.asks c.args.media.now + _
+needs : (g : Over) (c : goal.After-gather g) → g.M.Media.asks c.gather.new.media ≤ g.M.Media.asks c.args.media.now + outside_needed c.args.world.now.now c.args.call.now
 needs g c =
     let all = pieces_needed (g.M.Media.told c.args.media.now) c.args.world.now.now c.args.call.now c.args.pieces.now c.requires.has in
     omega (arith, c.gather.ensures.asks, all)

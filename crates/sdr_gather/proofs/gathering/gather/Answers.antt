@@ -1,4 +1,4 @@
-use Rattle.std.proofs.Common.{◌≡◌, ◌≤◌, ◌+◌, ◌∷◌, [], length, length-append, refl, subst, sym, ap, ◌∙◌, arith}
+use Rattle.std.proofs.Common.{◌≡◌, ◌≤◌, ◌+◌, ◌∷◌, [], length, length-append, refl, rules, subst, sym, ap, ◌∙◌, arith}
 use Rattle.std.proofs.lemmas.List.{nil_from_length}
 use Rattle.sdr_machine.specs.Asked.{count_outside}
 use Rattle.sdr_model.specs.Pieces.{piece_told, pieces_told}
@@ -12,7 +12,7 @@ loop-piece-init g c = record {
       (gathering-start (g.M.Media.told c.args.media.now) c.args.pieces.now);
   few = omega (arith, c.requires.page, ap length c.requires.blank);
   room = c.requires.room;
-  page = refl;
+  page = search rules;
   told = refl;
   faults = omega arith;
   short = omega arith;

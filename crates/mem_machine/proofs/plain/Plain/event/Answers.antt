@@ -1,5 +1,6 @@
-use Rattle.std.proofs.Common.{ap, arith, inr}
-use Rattle.mem_machine.specs.Plain.{Plain}
+use Rattle.std.proofs.Common.{ap, arith, inr, subst}
+use Rattle.mem_machine.specs.MemoryRun.{StepsAt}
+use Rattle.mem_machine.specs.Plain.{Plain, machine_of}
 use Rattle.mem_machine.proofs.plain.Plain.event.Goals as goal
 
 pub make-requires-clause-drawn : goal.make-requires-clause-drawn
@@ -9,7 +10,9 @@ make-requires-clause-drawn c =
     inr (omega (arith, c.requires.events, events, drawn))
 
 pub returns-clause-step : goal.returns-clause-step
-returns-clause-step c = λ line. c.in_ok-came.ensures.responds.steps line
+returns-clause-step c =
+    λ line. subst (λ (p : Plain). StepsAt (machine_of p) c.args.daemon line c.args.event.now c.in_ok-came.came _) c.self.view_is
+    (c.in_ok-came.ensures.responds.steps line)
 
 pub invariant_of-self-2 : goal.invariant_of-self-2
 invariant_of-self-2 c =

@@ -1,6 +1,6 @@
-use Rattle.std.proofs.Common.{ap, arith, length}
+use Rattle.std.proofs.Common.{ap, arith, length, subst}
 use Rattle.mem_machine.proofs.RunLemmas.{leaves_from}
-use Rattle.mem_machine.specs.Plain.{Plain}
+use Rattle.mem_machine.specs.Plain.{AllLeaveFrom, Plain, machine_of}
 use Rattle.mem_machine.proofs.plain.Plain.leave_all.Goals as goal
 
 pub leave_all-requires-clause-drawn : goal.leave_all-requires-clause-drawn
@@ -11,7 +11,9 @@ leave_all-requires-clause-drawn c =
     omega (arith, c.requires.events, events, drawn, many)
 
 pub returns-clause-left : goal.returns-clause-left
-returns-clause-left c = leaves_from _ c.args.leave c.self.inside.run c.leave_all.new.run c.leave_all.ensures.left
+returns-clause-left c =
+    subst (λ (p : Plain). AllLeaveFrom c.args.leave (machine_of p) _) c.self.view_is
+    (leaves_from _ c.args.leave c.self.inside.run c.leave_all.new.run c.leave_all.ensures.left (λ core at. at) (λ core at. at))
 
 pub returns-clause-none : goal.returns-clause-none
 returns-clause-none c = c.leave_all.ensures.none c.never_fails.ensures
