@@ -158,7 +158,7 @@ module _ (told : Option Told) (w : World) (call : Call) (pieces : List Piece) (h
   pieces_page = subst (λ t. length t ≤ longest_read) (sym told_same) (length-asked w call has.asks)
 
   -- those that lie with media are what it needs of them
-  pub pieces_needed : count_outside pieces ≡ outside_needed w call
+  pieces_needed : count_outside pieces ≡ outside_needed w call
   pieces_needed = ap count_outside has.asked ∙ by (nat_le (asked_count call) longest_read) refl
     where
       few : asked_count call ≤ longest_read
@@ -167,6 +167,10 @@ module _ (told : Option Told) (w : World) (call : Call) (pieces : List Piece) (h
       by : (b : Bool) → nat_le (asked_count call) longest_read ≡ b → count_outside (pieces_asked w call) ≡ (if b then count_outside (pieces_asked w call) else 0)
       by true is = refl
       by false is = let most : asked_count call ≤ longest_read = few in absurd (grind (arith, nat_tests))
+
+  -- so media were asked no more often than it needs
+  pub asked_few : (before after : ℕ) → after ≤ before + count_outside pieces → after ≤ before + outside_needed w call
+  asked_few before after few = omega (arith, few, pieces_needed)
 
   agrees_given : (bytes : List ℕ) → AreGathered told pieces bytes → AgreesWith told w (events.Say call) (answers.Reply (replies.Bytes (length bytes))) bytes
   agrees_given bytes gathered = by told gathered

@@ -10,6 +10,7 @@ use Rattle.sdr_base.specs.Media.{Told}
 use Rattle.sdr_base.specs.declared.account.Acct.{Acct}
 use Rattle.sdr_base.specs.declared.account.Acct.TheVariants as accts
 use Rattle.sdr_base.specs.declared.media.Media.{Ghosts as MediaGhosts}
+use Rattle.mem_store.specs.Draft.{Draft}
 use Rattle.mem_world.specs.Calling.{IsBound, MayCall}
 use Rattle.law_steps.proofs.DryLaws.{valid_kept_dry, whole_from}
 use Rattle.law_steps.proofs.MachineLaws.{dry_worlds_are_valid}
@@ -59,6 +60,14 @@ memory_ground media = record {
   idle_going = λ t idle. tt;
   going_sound = λ t going. tt;
 }
+
+-- a world in the making as a ground, with its media
+abbrev pub drafted : {M : Type 0} → Draft → M → InMemory M
+drafted d files = record { worlds = record { begun = d.begun; now = d.now }; media = files }
+
+-- where a call left the world now and media, it left the ground
+pub drafted_same : {M : Type 0} (old new : Draft) (files files' : M) → new.begun ≡ old.begun → (new.now ≡ old.now) × (files' ≡ files) → drafted new files' ≡ drafted old files
+drafted_same old new files files' begun left = λ i. record { worlds = record { begun = begun i; now = left.0 i }; media = left.1 i }
 
 -- so many calls lead to a world of the same things too, where as many blocks or more were taken for it
 after_same : (calls more : ℕ) (w : World) (marks shown : List ℕ) (taken : ℕ) → calls ≤ more → w.taken ≤ taken → taken ≤ 2 ^ 24 * more → IsAfter calls w

@@ -1,12 +1,10 @@
-use Rattle.std.proofs.Common.{◌≡◌, ◌∙◌, ◌≤◌, ◌+◌, ap, arith, length, refl, subst, sym}
+use Rattle.std.proofs.Common.{◌∙◌, ap, arith, length, refl, subst, sym}
 use Rattle.sdr_gather.specs.Gathering.{IsGapIn}
 use Rattle.sdr_gather.specs.declared.gathering.Gap.{Gap}
-use Rattle.sdr_machine.specs.Asked.{outside_needed}
 use Rattle.sdr_model.specs.World.{World}
 use Rattle.sdr_model.specs.declared.answer.Reply.TheVariants as replies
-use Rattle.mem_machine.proofs.AnsweringLemmas.{answers_failed, answers_given, answers_short, pieces_needed, pieces_page}
+use Rattle.mem_machine.proofs.AnsweringLemmas.{answers_failed, answers_given, answers_short, asked_few, pieces_page}
 use Rattle.mem_machine.specs.Answering.{Answers}
-use Rattle.mem_machine.proofs.answering.read.Given.{Over}
 use Rattle.mem_machine.proofs.answering.read.Goals as goal
 
 pub gather-requires : goal.gather-requires
@@ -47,17 +45,14 @@ returns-in-Err-Short-clause-gap g c =
     let gap = subst (λ (x : Gap). IsGapIn (g.M.Media.told c.args.media.now) c.args.pieces.now _ _ x) c.in-Err-Short.field-0-is c.in-Err-Short.ensures.gap in
     gap.1.1
 
--- how often media were asked
-needs : (g : Over) (c : goal.After-gather g) → g.M.Media.asks c.gather.new.media ≤ g.M.Media.asks c.args.media.now + outside_needed c.args.world.now.now c.args.call.now
-needs g c =
-    let all = pieces_needed (g.M.Media.told c.args.media.now) c.args.world.now.now c.args.call.now c.args.pieces.now c.requires.has in
-    omega (arith, c.gather.ensures.asks, all)
-
 pub returns-in-Ok-clause-needs : goal.returns-in-Ok-clause-needs
-returns-in-Ok-clause-needs g c = needs g c.before
+returns-in-Ok-clause-needs g c =
+    asked_few (g.M.Media.told c.args.media.now) c.args.world.now.now c.args.call.now c.args.pieces.now c.requires.has _ _ c.gather.ensures.asks
 
 pub returns-in-Err-Fault-clause-needs : goal.returns-in-Err-Fault-clause-needs
-returns-in-Err-Fault-clause-needs g c = needs g c
+returns-in-Err-Fault-clause-needs g c =
+    asked_few (g.M.Media.told c.args.media.now) c.args.world.now.now c.args.call.now c.args.pieces.now c.requires.has _ _ c.gather.ensures.asks
 
 pub returns-in-Err-Short-clause-needs : goal.returns-in-Err-Short-clause-needs
-returns-in-Err-Short-clause-needs g c = needs g c
+returns-in-Err-Short-clause-needs g c =
+    asked_few (g.M.Media.told c.args.media.now) c.args.world.now.now c.args.call.now c.args.pieces.now c.requires.has _ _ c.gather.ensures.asks
