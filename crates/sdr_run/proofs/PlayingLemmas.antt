@@ -6,7 +6,7 @@ use Rattle.sdr_base.proofs.WrittenLemmas.{rose_later}
 use Rattle.sdr_base.specs.Causes.{Rose}
 use Rattle.sdr_base.specs.Written.{AppendsPart}
 use Rattle.sdr_core.specs.CoreKept.{RunStart, LoggedLock}
-use Rattle.sdr_core.specs.Going.{GoesUnasked, NextCore, media_of}
+use Rattle.sdr_core.specs.Going.{GoesUnasked, MakesNext, NextCore, media_of}
 use Rattle.sdr_core.specs.Leaving.{LastsOn}
 use Rattle.sdr_core.specs.declared.has_run.HasRun.{Ghosts as RunGhosts}
 use Rattle.sdr_daemon.specs.Progressing.{IsFresh}
@@ -19,11 +19,14 @@ use Rattle.sdr_machine.specs.Core.{Core, CoreStep}
 use Rattle.sdr_machine.specs.Leaving.{AllLeave}
 use Rattle.sdr_machine.specs.Machine.{Made}
 use Rattle.sdr_machine.specs.Roll.{first_roll}
+use Rattle.sdr_machine.specs.declared.came.Came.{Came}
 use Rattle.sdr_machine.specs.declared.has_ground.HasGround.{Ghosts}
 use Rattle.sdr_model.specs.declared.answer.Answer.{Answer}
+use Rattle.sdr_model.specs.declared.event.Event.{Event}
 use Rattle.sdr_model.specs.declared.script.ScriptStep.{ScriptStep}
 use Rattle.sdr_run.specs.Playing.{IsPrinted, Output, Plays, PrintsMore, leave_of}
-use Rattle.sdr_run.specs.Running.{AnswersStep, HasMade, HasRun, Running}
+use Rattle.sdr_run.specs.Running.{AnswersStep, HasMade, HasRun, Running, TellsGiven}
+use Rattle.sdr_run.specs.Steps.{StartsWith}
 use Rattle.sdr_text.proofs.TextLemmas.{part_later}
 use Rattle.sdr_text.specs.Text.{line_text}
 use Rattle.sdr_words.specs.Bindings.{Binding, bound, event_of}
@@ -87,6 +90,21 @@ running_start r now first script out here = record {
   };
   names = refl;
 }
+
+-- a step was answered by its event
+pub answered_by : {R : Type 0} (r : RunGhosts R) (bindings : List Binding) (step : ScriptStep) (event : Event) (came : Came) (old new : R) (Prints : List ℕ → Type 0)
+    → event ≡ event_of bindings step → MakesNext r step.daemon step.line event came old new
+    → TellsGiven r new came (λ bytes. Prints (line_text step.line step.daemon came.answer bytes)) → AnswersStep r bindings step old new Prints
+answered_by r bindings step event came old new Prints is makes prints = record {
+  came = came;
+  makes = subst (λ (ev : Event). MakesNext r step.daemon step.line ev came old new) is makes;
+  prints = prints;
+}
+
+-- the run so far, by the step that is next
+pub running_at : {R : Type 0} (r : RunGhosts R) (before : R) (from : Core) (script left : List ScriptStep) (step : ScriptStep) (bindings : List Binding) (now : R)
+    (P : List ℕ → Type 0) (next : StartsWith left step) → Running r before from script left bindings now P → Running r before from script (step ∷ next.rest) bindings now P
+running_at r before from script left step bindings now P next at = subst (λ (rest : List ScriptStep). Running r before from script rest bindings now P) next.is at
 
 module _ {R : Type 0} (r : RunGhosts R) (before : R) (from : Core) (script : List ScriptStep) (step : ScriptStep) (rest : List ScriptStep) (bindings : List Binding) (old new : R)
     (was going : Bool) (first out after : Output) (at : Running r before from script (step ∷ rest) bindings old (IsPrinted was first out))
