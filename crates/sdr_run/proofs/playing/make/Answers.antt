@@ -1,15 +1,21 @@
 use Rattle.std.proofs.Common.{inr}
 use Rattle.sdr_run.proofs.PlayingLemmas.{answered_by}
+use Rattle.sdr_run.specs.Playing.{PrintsMore, output}
 use Rattle.sdr_run.proofs.playing.make.Goals as goal
 
 pub returns-clause-makes : goal.returns-clause-makes
-returns-clause-makes g c = record {
-  answers = answered_by g.R.HasRun c.args.bindings.now c.args.step.now _ c.in_ok-came.came c.args.run.now c.answer.new.run _ c.in_ok-event.ensures
-      c.in_ok-came.ensures.makes c.in_ok-came.ensures.prints;
-  names = c.in_ok-bind.ensures.ok;
-}
+returns-clause-makes g c =
+    let seen = λ (out : g.row.K.Denot). output g.K.Sink.taken g.K.Sink.faults out in
+    record {
+      answers = answered_by g.R.HasRun c.args.bindings.now c.args.step.now _ c.in_ok-came.came c.args.run.now c.answer.new.run
+          (PrintsMore c.args.printing.now c.answer.new.printing (seen c.args.out.now) (seen c.answer.new.out)) c.in_ok-event.ensures
+          c.in_ok-came.ensures.makes c.in_ok-came.ensures.prints;
+      names = c.in_ok-bind.ensures.ok;
+    }
 
 pub returns-in_err-bind-clause-err : goal.returns-in_err-bind-clause-err
 returns-in_err-bind-clause-err g c =
-    inr (answered_by g.R.HasRun c.args.bindings.now c.args.step.now _ c.in_ok-came.came c.args.run.now c.answer.new.run _ c.in_ok-event.ensures
+    let seen = λ (out : g.row.K.Denot). output g.K.Sink.taken g.K.Sink.faults out in
+    inr (answered_by g.R.HasRun c.args.bindings.now c.args.step.now _ c.in_ok-came.came c.args.run.now c.answer.new.run
+    (PrintsMore c.args.printing.now c.answer.new.printing (seen c.args.out.now) (seen c.answer.new.out)) c.in_ok-event.ensures
     c.in_ok-came.ensures.makes c.in_ok-came.ensures.prints)
