@@ -8,9 +8,11 @@ use Rattle.sdr_log.specs.declared.frame.Frame.{Frame}
 use Rattle.std.specs.Prelude.{codes}
 use Rattle.sdr_shell.specs.Form.{OnFormat}
 use Rattle.sdr_shell.specs.declared.form.Form.{Form}
-use Rattle.sdr_core.specs.Caused.{MediaChange, media_change}
+use Rattle.sdr_core.proofs.CausedLemmas.{failed_refl}
+use Rattle.sdr_core.specs.Caused.{HaveFailed, MediaChange, media_change, seen_media}
 use Rattle.sdr_base.specs.Written.{AppendsPart}
 use Rattle.sdr_base.specs.declared.media.Media.{Ghosts as MediaGhosts}
+use Rattle.sdr_run.specs.Asking.{AsksAlong}
 use Rattle.sdr_run.specs.Dry.{IsDry}
 use Rattle.sdr_run.specs.Playing.{IsPrinted}
 use Rattle.sdr_run.specs.declared.drying.DryRun.{DryRun}
@@ -25,7 +27,7 @@ use Rattle.sdr_words.specs.declared.error.ScriptError.TheVariants as errors
 use Rattle.sdr_shell.specs.declared.status.TheConstants.{DONE, INPUT_FAULT, OUTPUT_FAULT, DISK_FAULT, REFUSED_LINE, NO_MEMORY, TOO_SMALL}
 use Rattle.sdr_model.specs.declared.script.ScriptStep.{ScriptStep}
 use Rattle.sdr_text.proofs.TextLemmas.{part_later}
-use Rattle.sdr_run.proofs.DryLemmas.{asks_of, some_of, some_weaker, whole_of}
+use Rattle.sdr_run.proofs.DryLemmas.{asks_none, asks_of, some_none, some_of, some_weaker, whole_of}
 use Rattle.sdr_run.proofs.PlayingLemmas.{part_more}
 
 -- a last line behind a text that was written whole
@@ -42,6 +44,31 @@ pub some_behind : (media : MediaChange) (script : List ScriptStep) (old mid new 
 some_behind media script old mid new before between now line r later w =
     some_weaker media script (λ rest text. Appends old mid text) (λ rest text. WritesOut old new before now (text ++ line))
     (λ rest text h. writes_behind old mid new before between now text line h later w) r
+
+-- Memory was wanting before the first step, which the last line tells: media and the output are as before.
+module _ {M : Type 0} (m : MediaGhosts M) (script : List ScriptStep) (files files' : M) (same : files' ≡ files) where
+  pub unrun_media : HaveFailed 0 0 (media_change m.told m.faults m.short files files')
+  unrun_media =
+      subst (λ (x : M). HaveFailed 0 0 (media_change m.told m.faults m.short files x)) (sym same)
+      (failed_refl (seen_media m.told m.faults m.short files))
+
+  pub unrun_starved : (sink sink' : Seen) → Wrote sink sink' (codes "no memory\n")
+      → SomeRun (media_change m.told m.faults m.short files files') script
+      (λ rest text. WritesOut sink.bytes sink'.bytes sink.faults sink'.faults (text ++ codes "no memory\n"))
+  unrun_starved sink sink' wrote =
+      subst (λ (x : M). SomeRun (media_change m.told m.faults m.short files x) script
+      (λ rest text. WritesOut sink.bytes sink'.bytes sink.faults sink'.faults (text ++ codes "no memory\n"))) (sym same)
+      (some_behind (media_change m.told m.faults m.short files files) script sink.bytes sink.bytes sink'.bytes sink.faults sink.faults sink'.faults
+      (codes "no memory\n") (some_none (seen_media m.told m.faults m.short files) script sink.bytes) (omega arith) wrote)
+
+  pub unrun_asks : (sink sink' : Seen) → Wrote sink sink' (codes "no memory\n") → RanAsking (m.told files) script (m.asks files) (m.asks files') sink sink'
+  unrun_asks sink sink' wrote = record {
+    played = record { starved = true; printing = true };
+    mid = sink;
+    asks = subst (λ (x : M). AsksAlong (m.told files) script (m.asks files) (m.asks x) (output_of sink) (output_of sink) (record { starved = true; printing = true }))
+        (sym same) (asks_none (m.told files) script (m.asks files) (output_of sink));
+    tells = wrote;
+  }
 
 -- A script was run in memory, and what stopped the run was told behind its text.
 module _ {M : Type 0} (m : MediaGhosts M) (script : List ScriptStep) (files : M) (sink mid sink' : Seen) (ran : DryRun M) (status : ℕ)

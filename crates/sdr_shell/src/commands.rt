@@ -25,7 +25,7 @@ use crate::status::{
 use sdr_base::{Media, Sink, Source};
 use sdr_disk::Disk;
 use sdr_model::ScriptStep;
-use sdr_run::{DryRun, dry};
+use sdr_run::dry;
 use sdr_text::Line;
 use sdr_words::{ScriptError, read_script};
 use std::alloc::Global;
@@ -71,13 +71,14 @@ fn run_script<M: Media, K: Sink>(
         (text ++ codes "no memory\n")) }
 {
     match dry(alloc, script, media, output) {
-        Ok(DryRun { media, played }) => {
+        Ok(ran) => {
             let end = RunEnd {
                 failed: false,
-                starved: played.starved,
-                printing: played.printing,
+                starved: ran.played.starved,
+                printing: ran.played.printing,
             };
-            (tell_ran(end, output), media)
+            let status = tell_ran(end, output);
+            (status, ran.media)
         }
         Err(media) => {
             last_line(output, b"no memory\n");
