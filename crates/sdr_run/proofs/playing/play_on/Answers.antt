@@ -48,6 +48,20 @@ returns-in_default-make-clause-ran g c =
       }
     ]
 
+pub returns-in_default-make-clause-lasts : goal.returns-in_default-make-clause-lasts
+returns-in_default-make-clause-lasts g c = elim c.in_default-make.ensures.err [
+  | inl same ↦ subst (λ (k : g.row.R.Denot). g.R.HasRun.lasts k) (sym same.0) c.loop-step.invariant.lasts
+  | inr answered ↦ answered.makes.lasts
+]
+
+pub returns-in_default-make-clause-drawn : goal.returns-in_default-make-clause-drawn
+returns-in_default-make-clause-drawn g c =
+    let all = ap length c.in-Some.ensures.some.is in
+    elim c.in_default-make.ensures.err [
+      | inl same ↦ let stays = ap (λ (k : g.row.R.Denot). (g.R.HasRun.roll_of k).drawn) same.0 in omega (arith, c.loop-step.invariant.drawn, stays)
+      | inr answered ↦ let one = answered.makes.drawn in omega (arith, c.loop-step.invariant.drawn, one, all)
+    ]
+
 -- there was no memory for the next step
 pub returns-in_default-pass-clause-ran : goal.returns-in_default-pass-clause-ran
 returns-in_default-pass-clause-ran g c =
@@ -64,6 +78,12 @@ returns-in_default-pass-clause-ran g c =
           (running_at g.R.HasRun c.args.run.now from _ _ step old.bindings old.run _ next (old.invariant.running from here)) old.invariant.later made.answers
           new.bindings made.names).at;
     }
+
+pub returns-in_default-pass-clause-drawn : goal.returns-in_default-pass-clause-drawn
+returns-in_default-pass-clause-drawn g c =
+    let one = c.in-Ok.ensures.makes.answers.makes.drawn in
+    let all = ap length c.in-Some.ensures.some.is in
+    omega (arith, c.loop-step.invariant.drawn, one, all)
 
 pub loop-step-preserved : goal.loop-step-preserved
 loop-step-preserved g c =
@@ -87,6 +107,13 @@ loop-step-preserved g c =
       drawn = let one = made.answers.makes.drawn in omega (arith, old.invariant.drawn, one, all, fewer);
       later = omega (arith, old.invariant.later, c.make.ensures.later);
     }
+
+pub loop-step-smaller : goal.loop-step-smaller
+loop-step-smaller g c =
+    let next = c.in-Some.ensures.some in
+    let all = ap length next.is in
+    let fewer = ap length (c.in-Ok-pass.ensures c.in-Some.step.now next.rest next.is) in
+    omega (arith, all, fewer)
 
 pub returns-clause-ran : goal.returns-clause-ran
 returns-clause-ran g c = record {
