@@ -1,6 +1,7 @@
 mod GreetingExample
 pub mod DryLemmas
 pub mod ScheduleLemmas
+pub mod StepsLemmas
 pub mod PlayingLemmas
 pub mod RecordingLemmas
 pub mod HandedLemmas

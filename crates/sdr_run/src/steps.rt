@@ -55,10 +55,13 @@ impl Steps for ScriptSteps<'_> {
     }
 
     fn pass(&mut self) -> Result<(), NoMemory> {
-        if let Some((_, after)) = self.rest.split_first() {
-            self.rest = after;
+        match self.rest.split_first() {
+            Some((_, after)) => {
+                self.rest = after;
+                Ok(())
+            }
+            None => Ok(()),
         }
-        Ok(())
     }
 }
 

@@ -1,4 +1,4 @@
-use Rattle.std.proofs.Common.{◌≡◌, ◌≤◌, ◌+◌, ◌∷◌, List, true, false, true≢false, ap, sym, subst, arith, length, inl, inr}
+use Rattle.std.proofs.Common.{◌≡◌, ◌≤◌, ◌+◌, ◌∷◌, [], List, true, false, true≢false, ap, sym, subst, arith, length, inl, inr}
 use Rattle.sdr_model.specs.declared.script.ScriptStep.{ScriptStep}
 use Rattle.sdr_run.proofs.PlayingLemmas.{made_also, made_next, made_still, running_at, running_next, running_start}
 use Rattle.sdr_run.specs.Playing.{IsPrinted, Output, output}
@@ -15,7 +15,7 @@ loop-step-init g c = record {
   running = λ from here.
       subst (λ names. Running g.R.HasRun c.args.run.now from (g.S.Steps.left c.args.steps.now) (g.S.Steps.left c.args.steps.now) names c.args.run.now
       (IsPrinted c.args.printing.now (seen g c.args.out.now) (seen g c.args.out.now))) (sym c.new-bindings.ensures)
-      (subst (λ p. Running g.R.HasRun c.args.run.now from (g.S.Steps.left c.args.steps.now) (g.S.Steps.left c.args.steps.now) _ c.args.run.now
+      (subst (λ p. Running g.R.HasRun c.args.run.now from (g.S.Steps.left c.args.steps.now) (g.S.Steps.left c.args.steps.now) [] c.args.run.now
       (IsPrinted p (seen g c.args.out.now) (seen g c.args.out.now))) (sym c.requires.printing)
       (running_start g.R.HasRun c.args.run.now from (g.S.Steps.left c.args.steps.now) (seen g c.args.out.now) here));
   lasts = c.requires.lasts;
