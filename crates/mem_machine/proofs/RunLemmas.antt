@@ -1,5 +1,5 @@
 -- Events of a run on a world in memory.
-use Rattle.std.proofs.Common.{◌≡◌, ◌∙◌, ◌≤◌, ◌+◌, ℕ, List, [], ◌∷◌, Bool, true, false, true≢false, Option, None, Some, Result, Ok, Err, IfOk, OnOk, OnErr, length, if◌then◌else◌, map, refl, sym, subst, arith}
+use Rattle.std.proofs.Common.{◌≡◌, ◌∙◌, ◌≤◌, ◌+◌, ℕ, List, [], ◌∷◌, Bool, true, false, true≢false, Option, None, Some, Result, Ok, Err, IfOk, OnOk, OnErr, length, if◌then◌else◌, map, refl, sym, ap, subst, arith}
 use Rattle.std.specs.Prelude.{⊤}
 use Rattle.std.proofs.lemmas.List.{length-map}
 use Rattle.sdr_base.specs.Media.{Told}
@@ -9,6 +9,7 @@ use Rattle.sdr_model.specs.declared.answer.Answer.{Answer}
 use Rattle.sdr_model.specs.declared.event.Event.{Event}
 use Rattle.sdr_model.specs.declared.event.Event.TheVariants as events
 use Rattle.sdr_model.specs.declared.event.Leave.{Leave}
+use Rattle.sdr_machine.proofs.GroundLemmas.{lapses_same}
 use Rattle.sdr_machine.proofs.HolderSteps.{keeps_holders}
 use Rattle.sdr_machine.proofs.StepLemmas.{from_option, step_is}
 use Rattle.sdr_machine.proofs.WorkLemmas.{on_some}
@@ -76,6 +77,9 @@ wants_no_leave (events.Leaves leave) takes = absurd (true≢false (sym takes))
 -- an event was answered by a step of a machine
 pub record Answered {M : Type 0} (media : MediaGhosts M) (old new : MemoryRun M) (daemon : ℕ) (event : Event) (a : Came) : Type 0 where
   pub responds : Responds (media.told old.media) (machine_of old) daemon event a (machine_of new)
+  pub gap : HasLapseCause a.answer (lapses_of media old.media) (lapses_of media new.media)
+  pub told : media.told new.media ≡ media.told old.media
+  pub lapses : LapsesLast (lapses_of media old.media) (lapses_of media new.media)
   pub kept : IsKept new.roll
   pub daemons : length new.roll.daemons ≡ length old.roll.daemons
   pub drawn : new.roll.drawn ≤ old.roll.drawn + 1
@@ -109,6 +113,9 @@ answered_so {M} media keeps old new daemon event a kept acts = from (acts.leads.
             };
             media = subst (λ (n : Machine). AgreesWith (media.told old.base.media) m.now.world event a.answer (bytes_answered a n)) same led.tells.media;
           };
+          gap = acts.asks.gap;
+          told = acts.asks.kept.media;
+          lapses = acts.asks.kept.lapses;
           kept = record {
             few = let many = holders.length in let few = kept.few in omega (arith, many, few);
             first = holders.first kept.first;
@@ -118,6 +125,56 @@ answered_so {M} media keeps old new daemon event a kept acts = from (acts.leads.
           drawn = is.drawn;
           needs = acts.media.each (standing_bare old.base.worlds) (λ _. stands_for_itself old.base.worlds);
         }
+
+-- What an event leaves of a run, whether it was answered or found no memory: media tell the same, no count of theirs has fallen, and there are as many
+-- daemons.
+pub record Stays {M : Type 0} (media : MediaGhosts M) (old new : MemoryRun M) : Type 0 where
+  pub told : media.told new.media ≡ media.told old.media
+  pub lapses : LapsesLast (lapses_of media old.media) (lapses_of media new.media)
+  pub daemons : length new.roll.daemons ≡ length old.roll.daemons
+
+-- what came of an event at a lock, where the run was this one
+module _ {M E : Type 0} (media : MediaGhosts M) (keeps : Bool) (old new : Locked (InMemory M)) (run : MemoryRun M) (view : run_of old ≡ run) (daemon : ℕ) (event : Event)
+    (kept : IsKept old.roll) where
+  answered_here : (a : Came) → Acts (memory_ground media) keeps MachineStep daemon event a old new → Answered media run (run_of new) daemon event a
+  answered_here a acts = subst (λ (k : MemoryRun M). Answered media k (run_of new) daemon event a) view (answered_so media keeps old new daemon event a kept acts)
+
+  pub responds_of : (r : Result Came E) → IfOk r (λ a. Acts (memory_ground media) keeps MachineStep daemon event a old new)
+      → IfOk r (λ a. Responds (media.told run.media) (machine_of run) daemon event a (machine_of (run_of new)))
+  responds_of (Ok a) acts = (answered_here a acts).responds
+  responds_of (Err e) acts = tt
+
+  pub gap_of : (r : Result Came E) → IfOk r (λ a. Acts (memory_ground media) keeps MachineStep daemon event a old new)
+      → IfOk r (λ a. HasLapseCause a.answer (lapses_of media run.media) (lapses_of media new.base.media))
+  gap_of (Ok a) acts = (answered_here a acts).gap
+  gap_of (Err e) acts = tt
+
+  pub needs_of : (r : Result Came E) → IfOk r (λ a. Acts (memory_ground media) keeps MachineStep daemon event a old new)
+      → OnOk r (media.asks new.base.media ≤ media.asks run.media + outside_asked (machine_of run) daemon event)
+  needs_of (Ok a) acts = (answered_here a acts).needs
+  needs_of (Err e) acts = tt
+
+  pub drawn_of : (r : Result Came E) → IfOk r (λ a. Acts (memory_ground media) keeps MachineStep daemon event a old new)
+      → OnOk r (new.roll.drawn ≤ run.roll.drawn + 1)
+  drawn_of (Ok a) acts = (answered_here a acts).drawn
+  drawn_of (Err e) acts = tt
+
+  pub err_of : (r : Result Came E) → OnErr r (new ≡ old) → OnErr r (run_of new ≡ run)
+  err_of (Ok a) same = tt
+  err_of (Err e) same = ap (λ (l : Locked (InMemory M)). run_of l) same ∙ view
+
+  pub stays_of : (r : Result Came E) → IfOk r (λ a. Acts (memory_ground media) keeps MachineStep daemon event a old new) → OnErr r (new ≡ old)
+      → Stays media run (run_of new)
+  stays_of (Ok a) acts same =
+      let answered = answered_here a acts in record { told = answered.told; lapses = answered.lapses; daemons = answered.daemons }
+  stays_of (Err e) acts same =
+      subst (λ (k : MemoryRun M). Stays media run k) (sym (ap (λ (l : Locked (InMemory M)). run_of l) same ∙ view))
+      (record { told = refl; lapses = lapses_same (lapses_of media run.media); daemons = refl })
+
+  -- what is kept of the roll
+  pub kept_of : (r : Result Came E) → IfOk r (λ a. Acts (memory_ground media) keeps MachineStep daemon event a old new) → OnErr r (new ≡ old) → IsKept new.roll
+  kept_of (Ok a) acts same = (answered_here a acts).kept
+  kept_of (Err e) acts same = subst (λ (l : Locked (InMemory M)). IsKept l.roll) (sym same) kept
 
 -- an event of a run, as one of a core that is at its machine
 pub next_of : {M : Type 0} (media : MediaGhosts M) (daemon line : ℕ) (event : Event) (a : Came) (old new : MemoryRun M)
@@ -161,12 +218,6 @@ pub next_all : {M E : Type 0} (media : MediaGhosts M) (daemon line : ℕ) (event
     → IfOk r (λ a. MakesNext (memory_run media) daemon line event a old new)
 next_all media daemon line event old new (Ok a) responds gap told lapses drawn needs = next_of media daemon line event a old new responds gap told lapses drawn needs
 next_all media daemon line event old new (Err e) responds gap told lapses drawn needs = tt
-
--- what a lock has come to by it is kept
-pub kept_of : {M E : Type 0} (media : MediaGhosts M) (old new : Locked (InMemory M)) (daemon : ℕ) (event : Event) {k : MemoryRun M} (r : Result Came E)
-    → IfOk r (λ a. Answered media k (run_of new) daemon event a) → OnErr r (new ≡ old) → IsKept old.roll → IsKept new.roll
-kept_of media old new daemon event (Ok a) answered same kept = answered.kept
-kept_of {M} media old new daemon event (Err e) answered same kept = subst (λ (l : Locked (InMemory M)). IsKept l.roll) (sym same) kept
 
 -- a leave agrees with whatever media tell
 agrees_leaving : (told : Option Told) (w : World) (leave : Leave) (a : Answer) (bytes : List ℕ) → AgreesWith told w (events.Leaves leave) a bytes

@@ -91,6 +91,13 @@ impl<M: Media> MemoryGround<M> {
         }
     }
 
+    /// The bytes that it shows: those of the last answered call of the open transaction.
+    pub fn shown(&self) -> &[u8]
+        ensures { result.now ≡ self.now.worlds.now.shown }
+    {
+        self.world.shown()
+    }
+
     /// The files and items. The world is let go.
     pub fn into_media(self) -> M
         ensures { result ≡ self.media }
@@ -138,7 +145,7 @@ impl<M: Media> Backing for MemoryGround<M> {
 
 impl<M: Media> Shows for MemoryGround<M> {
     fn shown(&self) -> &[u8] {
-        self.world.shown()
+        MemoryGround::shown(self)
     }
 }
 

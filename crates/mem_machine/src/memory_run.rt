@@ -8,7 +8,7 @@ ghost use Rattle.sdr_machine.specs.Serving.{takes_memory};
 use crate::MemoryGround;
 use sdr_base::{Media, NoMemory};
 use sdr_core::{HasRun, Runs};
-use sdr_machine::{Came, Lock, Roll, Shows};
+use sdr_machine::{Came, Lock, Roll};
 use sdr_model::{Answer, Event, Reply};
 use std::alloc::Global;
 use std::marker::Model;

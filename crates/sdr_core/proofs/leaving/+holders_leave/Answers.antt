@@ -19,7 +19,7 @@ holders_leave-requires g t c κs within =
     let d : Daemon = c.in-Some.daemon in
     let served : served_daemon roll ≡ Some d = subst (λ r. served_daemon r ≡ Some d) c.roll.ensures.roll (sym c.in-Some.ensures) in
     let fewer = leave_fewer g.R.HasRun c.args.leave c.make_leave.result c.args.run.now c.make_leave.new.run d c.make_leave.ensures.makes c.roll.ensures.come c.roll.ensures.first served in
-    (omega (arith, fewer), (within.0, (within.1, c.make_leave.ensures.makes.lasts)))
+    (omega (arith, fewer), (within, c.make_leave.ensures.makes.lasts))
 
 pub returns-in-Some-clause-left : goal.returns-in-Some-clause-left
 returns-in-Some-clause-left g t c =

@@ -1,21 +1,36 @@
-use Rattle.std.proofs.Common.{IfOk, subst}
-use Rattle.std.proofs.lemmas.Result.{IfOk-weaker}
-use Rattle.sdr_machine.specs.declared.came.Came.{Came}
-use Rattle.mem_machine.proofs.RunLemmas.{Answered, answered_so, kept_of, run_of}
-use Rattle.mem_machine.specs.MemoryRun.{MemoryRun}
-use Rattle.mem_machine.proofs.memory_run.MemoryRun.make.Given.{Over}
+use Rattle.std.proofs.Common.{true}
+use Rattle.mem_machine.proofs.RunLemmas.{drawn_of, err_of, gap_of, kept_of, needs_of, responds_of, stays_of}
 use Rattle.mem_machine.proofs.memory_run.MemoryRun.make.Goals as goal
 
--- what the lock answered
-answered : (g : Over) (c : goal.After-event g)
-    → IfOk c.event.result (λ (came : Came). Answered g.M.Media c.args.self.now (run_of c.event.new.self) c.args.daemon c.args.event.now came)
-answered g c =
-    subst (λ (k : MemoryRun g.row.M.Denot). IfOk c.event.result (λ (came : Came). Answered g.M.Media k (run_of c.event.new.self) c.args.daemon c.args.event.now came)) c.self.view_is
-    (IfOk-weaker c.event.result _ _
-    (λ came acts. answered_so g.M.Media _ c.self.inside.lock c.event.new.self c.args.daemon c.args.event.now came c.self.invariant acts) c.event.ensures.step)
-
 pub returns-clause-responds : goal.returns-clause-responds
-returns-clause-responds g c = IfOk-weaker c.event.result _ _ (λ came a. a.responds) (answered g c)
+returns-clause-responds g c = responds_of g.M.Media _ c.self.inside.lock c.event.new.self c.args.self.now c.self.view_is c.args.daemon c.args.event.now c.self.invariant c.event.result c.event.ensures.step
+
+pub returns-clause-gap : goal.returns-clause-gap
+returns-clause-gap g c = gap_of g.M.Media _ c.self.inside.lock c.event.new.self c.args.self.now c.self.view_is c.args.daemon c.args.event.now c.self.invariant c.event.result c.event.ensures.step
+
+pub returns-clause-needs : goal.returns-clause-needs
+returns-clause-needs g c = needs_of g.M.Media _ c.self.inside.lock c.event.new.self c.args.self.now c.self.view_is c.args.daemon c.args.event.now c.self.invariant c.event.result c.event.ensures.step
+
+pub returns-clause-drawn : goal.returns-clause-drawn
+returns-clause-drawn g c = drawn_of g.M.Media _ c.self.inside.lock c.event.new.self c.args.self.now c.self.view_is c.args.daemon c.args.event.now c.self.invariant c.event.result c.event.ensures.step
+
+pub returns-clause-told : goal.returns-clause-told
+returns-clause-told g c =
+    (stays_of g.M.Media _ c.self.inside.lock c.event.new.self c.args.self.now c.self.view_is c.args.daemon c.args.event.now c.self.invariant c.event.result
+    c.event.ensures.step c.event.ensures.err).told
+
+pub returns-clause-lapses : goal.returns-clause-lapses
+returns-clause-lapses g c =
+    (stays_of g.M.Media _ c.self.inside.lock c.event.new.self c.args.self.now c.self.view_is c.args.daemon c.args.event.now c.self.invariant c.event.result
+    c.event.ensures.step c.event.ensures.err).lapses
+
+pub returns-clause-daemons : goal.returns-clause-daemons
+returns-clause-daemons g c =
+    (stays_of g.M.Media _ c.self.inside.lock c.event.new.self c.args.self.now c.self.view_is c.args.daemon c.args.event.now c.self.invariant c.event.result
+    c.event.ensures.step c.event.ensures.err).daemons
+
+pub returns-clause-err : goal.returns-clause-err
+returns-clause-err g c = err_of g.M.Media true c.self.inside.lock c.event.new.self c.args.self.now c.self.view_is c.args.daemon c.args.event.now c.self.invariant c.event.result c.event.ensures.err
 
 pub invariant_of-self : goal.invariant_of-self
-invariant_of-self g c = kept_of g.M.Media c.self.inside.lock c.event.new.self c.args.daemon c.args.event.now c.event.result (answered g c) c.event.ensures.err c.self.invariant
+invariant_of-self g c = kept_of g.M.Media _ c.self.inside.lock c.event.new.self c.args.self.now c.self.view_is c.args.daemon c.args.event.now c.self.invariant c.event.result c.event.ensures.step c.event.ensures.err
