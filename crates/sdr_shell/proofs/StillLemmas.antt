@@ -82,7 +82,9 @@ module _ {M : Type 0} (m : MediaGhosts M) (script : List ScriptStep) (files : M)
 
   some_printed : (printing : Bool) → ran.played.printing ≡ printing → SomeRun media script (λ rest text. IsPrinted printing (output_of sink) (output_of mid) text)
   some_printed printing is =
-      some_weaker media script _ _ (λ rest text p. subst (λ b. IsPrinted b (output_of sink) (output_of mid) text) is p) (some_of m script files (output_of sink) (output_of mid) ran dry)
+      some_weaker media script (λ rest text. IsPrinted ran.played.printing (output_of sink) (output_of mid) text)
+      (λ rest text. IsPrinted printing (output_of sink) (output_of mid) text)
+      (λ rest text p. subst (λ b. IsPrinted b (output_of sink) (output_of mid) text) is p) (some_of m script files (output_of sink) (output_of mid) ran dry)
 
   pub dry_known : (status ≡ DONE) ⊎ (status ≡ OUTPUT_FAULT) ⊎ (status ≡ NO_MEMORY)
   dry_known = by ran.played.starved ran.played.printing refl refl
@@ -122,7 +124,8 @@ module _ {M : Type 0} (m : MediaGhosts M) (script : List ScriptStep) (files : M)
       by false true one two = let t = (told_by false true one two).0 in absurd (omega (arith, is, t))
       by false false one two =
           subst (λ (s : Seen). SomeRun media script (λ rest text. AppendsPart sink.bytes s.bytes text)) (sym (told_by false false one two).1)
-          (some_weaker media script _ _ (λ rest text p. p.1) (some_printed false two))
+          (some_weaker media script (λ rest text. IsPrinted false (output_of sink) (output_of mid) text) (λ rest text. AppendsPart sink.bytes mid.bytes text)
+          (λ rest text p. p.1) (some_printed false two))
 
   pub dry_starved : sink.faults ≤ mid.faults → status ≡ NO_MEMORY
       → SomeRun media script (λ rest text. WritesOut sink.bytes sink'.bytes sink.faults sink'.faults (text ++ codes "no memory\n"))
@@ -136,7 +139,9 @@ module _ {M : Type 0} (m : MediaGhosts M) (script : List ScriptStep) (files : M)
           some_behind media script sink.bytes mid.bytes sink'.bytes sink.faults mid.faults sink'.faults (codes "no memory\n") (some_printed true two) later (told_by true true one two).1
       by true false one two =
           subst (λ (s : Seen). SomeRun media script (λ rest text. WritesOut sink.bytes s.bytes sink.faults s.faults (text ++ codes "no memory\n"))) (sym (told_by true false one two).1)
-          (some_weaker media script _ _ (λ rest text p. inr (p.0, part_more sink.bytes mid.bytes text (codes "no memory\n") p.1)) (some_printed false two))
+          (some_weaker media script (λ rest text. IsPrinted false (output_of sink) (output_of mid) text)
+          (λ rest text. WritesOut sink.bytes mid.bytes sink.faults mid.faults (text ++ codes "no memory\n"))
+          (λ rest text p. inr (p.0, part_more sink.bytes mid.bytes text (codes "no memory\n") p.1)) (some_printed false two))
 
   pub dry_asks : RanAsking (m.told files) script (m.asks files) (m.asks ran.media) sink sink'
   dry_asks = record {
