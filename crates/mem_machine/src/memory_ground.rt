@@ -26,9 +26,12 @@ pub struct MemoryGround<M: Media> {
 }
 
 impl<M: Media> Model for MemoryGround<M> {
+    ghost use Rattle.mem_machine.specs.CodedRun.{coded_in_memory};
     ghost use Rattle.mem_machine.specs.Memory.{InMemory, IsReached};
 
     ghost Value = { InMemory M };
+
+    ghost coded = { coded_in_memory M.code };
 
     ghost view = { λ s. record {
       worlds = record { begun = s.world.begun; now = s.world.now };

@@ -21,9 +21,12 @@ pub struct MemoryRun<M: Media> {
 }
 
 impl<M: Media> Model for MemoryRun<M> {
+    ghost use Rattle.mem_machine.specs.CodedRun.{coded_run};
     ghost use Rattle.mem_machine.specs.MemoryRun as run;
 
     ghost Value = { run.MemoryRun M };
+
+    ghost coded = { coded_run M.code };
 
     ghost view = { λ s. record { roll = s.lock.roll; worlds = s.lock.base.worlds; media = s.lock.base.media } };
 

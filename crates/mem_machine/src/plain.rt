@@ -22,9 +22,12 @@ pub struct Plain {
 }
 
 impl Model for Plain {
+    ghost use Rattle.mem_machine.specs.CodedRun.{coded_plain};
     ghost use Rattle.mem_machine.specs.Plain as plain;
 
     ghost Value = { plain.Plain };
+
+    ghost coded = { coded_plain };
 
     ghost view = { λ s. record { roll = s.run.roll; worlds = s.run.worlds; events = s.events } };
 
