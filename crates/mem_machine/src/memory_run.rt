@@ -73,7 +73,9 @@ impl<M: Media> MemoryRun<M> {
     /// No disk of it has failed, since it has none. It does nothing.
     pub fn never_fails(&self)
         ensures { self.now.roll.failed ≡ None }
-    {}
+    {
+        let _ = &self.lock;
+    }
 
     /// The files and items. What the open transaction has done is lost.
     pub fn into_media(self) -> M

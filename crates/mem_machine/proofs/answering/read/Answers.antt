@@ -1,10 +1,16 @@
-use Rattle.std.proofs.Common.{◌∙◌, ap, arith, length, refl, subst, sym}
-use Rattle.sdr_gather.specs.Gathering.{IsGapIn}
+use Rattle.std.proofs.Common.{◌∙◌, List, ap, arith, length, refl, subst, sym}
+use Rattle.std.specs.List.{list_any}
+use Rattle.sdr_base.specs.Causes.{Rose}
+use Rattle.sdr_gather.specs.Gathering.{IsGapIn, OfMedia}
 use Rattle.sdr_gather.specs.declared.gathering.Gap.{Gap}
+use Rattle.sdr_gather.specs.declared.gathering.Gap.TheVariants as gaps
+use Rattle.sdr_machine.specs.Ground.{lies_with_media}
 use Rattle.sdr_model.specs.World.{World}
 use Rattle.sdr_model.specs.declared.answer.Reply.TheVariants as replies
 use Rattle.mem_machine.proofs.AnsweringLemmas.{answers_failed, answers_given, answers_short, asked_few, pieces_page}
 use Rattle.mem_machine.specs.Answering.{Answers}
+use Rattle.sdr_model.specs.declared.piece.Piece.{Piece}
+use Rattle.mem_machine.proofs.answering.read.Given.{Over}
 use Rattle.mem_machine.proofs.answering.read.Goals as goal
 
 pub gather-requires : goal.gather-requires
@@ -23,26 +29,40 @@ returns-in-Ok-clause-answers g c =
     (answers_given told w c.args.call.now c.args.pieces.now c.requires.has c.show.new.self.now bytes
     (c.show.ensures.shown ∙ ap (λ shown. record w { shown = shown }) c.of-given.ensures) c.in-Ok.ensures.gathered)
 
+-- that media failed, and that they gave fewer bytes, by what they were and are
+abbrev failed : (g : Over) → List Piece → g.row.M.Denot → g.row.M.Denot → Type 0
+failed g pieces old new = OfMedia (list_any lies_with_media pieces) (Rose (g.M.Media.faults old) (g.M.Media.faults new))
+
+abbrev short : (g : Over) → List Piece → g.row.M.Denot → g.row.M.Denot → Type 0
+short g pieces old new = OfMedia (list_any lies_with_media pieces) (Rose (g.M.Media.short old) (g.M.Media.short new))
+
 -- why the pieces weren't gathered
+abbrev Lacks : (g : Over) → List Piece → g.row.M.Denot → g.row.M.Denot → Gap → Type 0
+Lacks g pieces old new gap = IsGapIn (g.M.Media.told old) pieces (failed g pieces old new) (short g pieces old new) gap
+
 pub returns-in-Err-Fault-clause-answers : goal.returns-in-Err-Fault-clause-answers
 returns-in-Err-Fault-clause-answers g c =
-    let gap = subst (λ (x : Gap). IsGapIn (g.M.Media.told c.args.media.now) c.args.pieces.now _ _ x) c.in-Err-Fault.field-0-is c.in-Err-Fault.ensures.gap in
+    let gap : Lacks g c.args.pieces.now c.args.media.now c.gather.new.media gaps.Fault =
+    subst (λ (x : Gap). Lacks g c.args.pieces.now c.args.media.now c.gather.new.media x) c.in-Err-Fault.field-0-is c.in-Err-Fault.ensures.gap in
     answers_failed (g.M.Media.told c.args.media.now) c.args.world.now.now c.args.call.now c.args.pieces.now c.requires.has c.args.world.now.now refl gap.0
 
 pub returns-in-Err-Fault-clause-gap : goal.returns-in-Err-Fault-clause-gap
 returns-in-Err-Fault-clause-gap g c =
-    let gap = subst (λ (x : Gap). IsGapIn (g.M.Media.told c.args.media.now) c.args.pieces.now _ _ x) c.in-Err-Fault.field-0-is c.in-Err-Fault.ensures.gap in
+    let gap : Lacks g c.args.pieces.now c.args.media.now c.gather.new.media gaps.Fault =
+    subst (λ (x : Gap). Lacks g c.args.pieces.now c.args.media.now c.gather.new.media x) c.in-Err-Fault.field-0-is c.in-Err-Fault.ensures.gap in
     gap.1
 
-pub returns-in-Err-Short-clause-answers : goal.returns-in-Err-Short-clause-answers
-returns-in-Err-Short-clause-answers g c =
-    let gap = subst (λ (x : Gap). IsGapIn (g.M.Media.told c.args.media.now) c.args.pieces.now _ _ x) c.in-Err-Short.field-0-is c.in-Err-Short.ensures.gap in
+pub returns-clause-answers : goal.returns-clause-answers
+returns-clause-answers g c =
+    let gap : Lacks g c.args.pieces.now c.args.media.now c.gather.new.media (gaps.Short c.in-Err-Short.have c.in-Err-Short.want) =
+    subst (λ (x : Gap). Lacks g c.args.pieces.now c.args.media.now c.gather.new.media x) c.in-Err-Short.field-0-is c.in-Err-Short.ensures.gap in
     answers_short (g.M.Media.told c.args.media.now) c.args.world.now.now c.args.call.now c.args.pieces.now c.requires.has c.args.world.now.now
     c.in-Err-Short.have c.in-Err-Short.want refl gap.0 gap.1.0 gap.2
 
-pub returns-in-Err-Short-clause-gap : goal.returns-in-Err-Short-clause-gap
-returns-in-Err-Short-clause-gap g c =
-    let gap = subst (λ (x : Gap). IsGapIn (g.M.Media.told c.args.media.now) c.args.pieces.now _ _ x) c.in-Err-Short.field-0-is c.in-Err-Short.ensures.gap in
+pub returns-clause-gap : goal.returns-clause-gap
+returns-clause-gap g c =
+    let gap : Lacks g c.args.pieces.now c.args.media.now c.gather.new.media (gaps.Short c.in-Err-Short.have c.in-Err-Short.want) =
+    subst (λ (x : Gap). Lacks g c.args.pieces.now c.args.media.now c.gather.new.media x) c.in-Err-Short.field-0-is c.in-Err-Short.ensures.gap in
     gap.1.1
 
 pub returns-in-Ok-clause-needs : goal.returns-in-Ok-clause-needs
@@ -53,6 +73,6 @@ pub returns-in-Err-Fault-clause-needs : goal.returns-in-Err-Fault-clause-needs
 returns-in-Err-Fault-clause-needs g c =
     asked_few (g.M.Media.told c.args.media.now) c.args.world.now.now c.args.call.now c.args.pieces.now c.requires.has _ _ c.gather.ensures.asks
 
-pub returns-in-Err-Short-clause-needs : goal.returns-in-Err-Short-clause-needs
-returns-in-Err-Short-clause-needs g c =
+pub returns-clause-needs : goal.returns-clause-needs
+returns-clause-needs g c =
     asked_few (g.M.Media.told c.args.media.now) c.args.world.now.now c.args.call.now c.args.pieces.now c.requires.has _ _ c.gather.ensures.asks
