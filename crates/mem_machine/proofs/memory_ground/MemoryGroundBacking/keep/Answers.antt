@@ -1,6 +1,7 @@
-use Rattle.std.proofs.Common.{◌∙◌, ap}
+use Rattle.std.proofs.Common.{◌∙◌, ap, subst, sym}
+use Rattle.mem_store.specs.Draft.{Draft}
 use Rattle.mem_machine.proofs.MemoryLemmas.{brings_both, brings_kept, keeps_unasked, reached_kept}
-use Rattle.mem_machine.specs.Memory.{worlds_kept}
+use Rattle.mem_machine.specs.Memory.{IsReached, worlds_kept}
 use Rattle.mem_machine.proofs.memory_ground.MemoryGroundBacking.keep.Goals as goal
 
 pub returns-clause-kept : goal.returns-clause-kept
@@ -12,4 +13,6 @@ pub returns-clause-keeps : goal.returns-clause-keeps
 returns-clause-keeps g c = keeps_unasked g.M.Media _ _ (ap (λ m. m.media) c.self.view_is)
 
 pub invariant_of-self : goal.invariant_of-self
-invariant_of-self g c = reached_kept c.self.inside.calls _ c.self.invariant
+invariant_of-self g c =
+    subst (λ (d : Draft). IsReached c.self.inside.calls (record { begun = d.begun; now = d.now })) (sym c.keep.ensures)
+    (reached_kept c.self.inside.calls (record { begun = c.self.inside.world.begun; now = c.self.inside.world.now }) c.self.invariant)
