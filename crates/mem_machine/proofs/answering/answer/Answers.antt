@@ -7,7 +7,7 @@ pub returns-in-None-clause-answers : goal.returns-in-None-clause-answers
 returns-in-None-clause-answers g c =
     IfOk-weaker c.apply.result _ _
     (λ reply step. answers_unasked (g.M.Media.told c.args.media.now) c.args.world.now.now c.apply.new.world.now c.args.call.now reply
-    (c.in_ok-pieces_of.ensures.none (ap Ok c.in-None.is)) step) c.apply.ensures.step
+    (c.in_ok-pieces.ensures.none (ap Ok c.in-None.is)) step) c.apply.ensures.step
 
 pub returns-in-None-clause-gap : goal.returns-in-None-clause-gap
 returns-in-None-clause-gap g c =
