@@ -209,7 +209,7 @@ module _ {M : Type 0} (media : MediaGhosts M) (old new : InMemory M) where
   -- a call that was answered so
   pub brings_call : (call : Call) (reply : Reply) → Answers (media.told old.media) call old.worlds.now new.worlds.now reply → new.worlds.begun ≡ old.worlds.begun
       → Brings (λ (m : InMemory M) (v : GroundState). StandsBare m.worlds v) old new (Calls (media.told old.media) call reply)
-  brings_call call reply answers begun = record {
+  brings_call call reply came begun = record {
     each = λ v stands.
         let moves = dry_moves old.worlds.now call reply in
         record {
@@ -217,9 +217,9 @@ module _ {M : Type 0} (media : MediaGhosts M) (old new : InMemory M) where
           holds = record { before = stands.before ∙ sym (ap bare begun); now = refl };
           tells = record {
             steps = subst (λ (s : State). Steps s call (record { reply = reply; moves = moves; after = bare new.worlds.now })) (sym stands.now)
-                (record { step = answers.step; media = answers.misses; base = refl; demand = refl });
+                (record { step = came.step; media = came.misses; base = refl; demand = refl });
             media = subst (λ (s : State). AgreesWith (media.told old.media) s.world (events.Say call) (answers.Reply reply) (bytes_given (answers.Reply reply) new.worlds.now.shown)) (sym stands.now)
-                answers.agrees;
+                came.agrees;
             before = refl;
           };
         };

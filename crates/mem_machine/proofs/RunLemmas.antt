@@ -134,36 +134,36 @@ pub record Stays {M : Type 0} (media : MediaGhosts M) (old new : MemoryRun M) : 
   pub daemons : length new.roll.daemons ≡ length old.roll.daemons
 
 -- what came of an event at a lock, where the run was this one
-module _ {M E : Type 0} (media : MediaGhosts M) (keeps : Bool) (old new : Locked (InMemory M)) (run : MemoryRun M) (view : run_of old ≡ run) (daemon : ℕ) (event : Event)
+module _ {M : Type 0} (media : MediaGhosts M) (keeps : Bool) (old new : Locked (InMemory M)) (run : MemoryRun M) (view : run_of old ≡ run) (daemon : ℕ) (event : Event)
     (kept : IsKept old.roll) where
   answered_here : (a : Came) → Acts (memory_ground media) keeps MachineStep daemon event a old new → Answered media run (run_of new) daemon event a
   answered_here a acts = subst (λ (k : MemoryRun M). Answered media k (run_of new) daemon event a) view (answered_so media keeps old new daemon event a kept acts)
 
-  pub responds_of : (r : Result Came E) → IfOk r (λ a. Acts (memory_ground media) keeps MachineStep daemon event a old new)
+  pub responds_of : {E : Type 0} (r : Result Came E) → IfOk r (λ a. Acts (memory_ground media) keeps MachineStep daemon event a old new)
       → IfOk r (λ a. Responds (media.told run.media) (machine_of run) daemon event a (machine_of (run_of new)))
   responds_of (Ok a) acts = (answered_here a acts).responds
   responds_of (Err e) acts = tt
 
-  pub gap_of : (r : Result Came E) → IfOk r (λ a. Acts (memory_ground media) keeps MachineStep daemon event a old new)
+  pub gap_of : {E : Type 0} (r : Result Came E) → IfOk r (λ a. Acts (memory_ground media) keeps MachineStep daemon event a old new)
       → IfOk r (λ a. HasLapseCause a.answer (lapses_of media run.media) (lapses_of media new.base.media))
   gap_of (Ok a) acts = (answered_here a acts).gap
   gap_of (Err e) acts = tt
 
-  pub needs_of : (r : Result Came E) → IfOk r (λ a. Acts (memory_ground media) keeps MachineStep daemon event a old new)
+  pub needs_of : {E : Type 0} (r : Result Came E) → IfOk r (λ a. Acts (memory_ground media) keeps MachineStep daemon event a old new)
       → OnOk r (media.asks new.base.media ≤ media.asks run.media + outside_asked (machine_of run) daemon event)
   needs_of (Ok a) acts = (answered_here a acts).needs
   needs_of (Err e) acts = tt
 
-  pub drawn_of : (r : Result Came E) → IfOk r (λ a. Acts (memory_ground media) keeps MachineStep daemon event a old new)
+  pub drawn_of : {E : Type 0} (r : Result Came E) → IfOk r (λ a. Acts (memory_ground media) keeps MachineStep daemon event a old new)
       → OnOk r (new.roll.drawn ≤ run.roll.drawn + 1)
   drawn_of (Ok a) acts = (answered_here a acts).drawn
   drawn_of (Err e) acts = tt
 
-  pub err_of : (r : Result Came E) → OnErr r (new ≡ old) → OnErr r (run_of new ≡ run)
+  pub err_of : {E : Type 0} (r : Result Came E) → OnErr r (new ≡ old) → OnErr r (run_of new ≡ run)
   err_of (Ok a) same = tt
   err_of (Err e) same = ap (λ (l : Locked (InMemory M)). run_of l) same ∙ view
 
-  pub stays_of : (r : Result Came E) → IfOk r (λ a. Acts (memory_ground media) keeps MachineStep daemon event a old new) → OnErr r (new ≡ old)
+  pub stays_of : {E : Type 0} (r : Result Came E) → IfOk r (λ a. Acts (memory_ground media) keeps MachineStep daemon event a old new) → OnErr r (new ≡ old)
       → Stays media run (run_of new)
   stays_of (Ok a) acts same =
       let answered = answered_here a acts in record { told = answered.told; lapses = answered.lapses; daemons = answered.daemons }
@@ -172,7 +172,7 @@ module _ {M E : Type 0} (media : MediaGhosts M) (keeps : Bool) (old new : Locked
       (record { told = refl; lapses = lapses_same (lapses_of media run.media); daemons = refl })
 
   -- what is kept of the roll
-  pub kept_of : (r : Result Came E) → IfOk r (λ a. Acts (memory_ground media) keeps MachineStep daemon event a old new) → OnErr r (new ≡ old) → IsKept new.roll
+  pub kept_of : {E : Type 0} (r : Result Came E) → IfOk r (λ a. Acts (memory_ground media) keeps MachineStep daemon event a old new) → OnErr r (new ≡ old) → IsKept new.roll
   kept_of (Ok a) acts same = (answered_here a acts).kept
   kept_of (Err e) acts same = subst (λ (l : Locked (InMemory M)). IsKept l.roll) (sym same) kept
 
@@ -244,10 +244,10 @@ module _ (told told' : Option Told) (leave : Leave) where
   holders_told c [] c' h = h
   holders_told c (e ∷ made) c' h =
       from_option (served_daemon c.machine.roll) h (λ _ no. absurd no)
-      (λ d some then. on_some _ _ (served_daemon c.machine.roll) d some (record {
-        next = then.next;
-        leaves = leave_told d.id c e then.next then.leaves;
-        rest = holders_told then.next made c' then.rest;
+      (λ d some turn. on_some _ _ (served_daemon c.machine.roll) d some (record {
+        next = turn.next;
+        leaves = leave_told d.id c e turn.next turn.leaves;
+        rest = holders_told turn.next made c' turn.rest;
       }))
 
   turn_told : (daemons : List ℕ) (c : Core) (made : List Made) (c' : Core) → LeaveInTurn told leave daemons c made c' → LeaveInTurn told' leave daemons c made c'

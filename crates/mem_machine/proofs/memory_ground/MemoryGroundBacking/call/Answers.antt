@@ -1,8 +1,8 @@
-use Rattle.std.proofs.Common.{◌∙◌, ap, arith, refl, subst, true}
+use Rattle.std.proofs.Common.{◌∙◌, ap, arith, refl, subst, sym, true}
 use Rattle.sdr_machine.specs.Serving.{Brings, CallAsks, Calls, KeepsGround}
 use Rattle.sdr_machine.specs.Standing.{GroundState}
 use Rattle.mem_machine.proofs.MemoryLemmas.{asks_call, asks_none, brings_call, drafted, drafted_same, keeps_called, keeps_unasked, memory_ground, reached_called, reached_may}
-use Rattle.mem_machine.specs.Memory.{InMemory, StandsBare}
+use Rattle.mem_machine.specs.Memory.{InMemory, IsReached, StandsBare}
 use Rattle.mem_machine.proofs.memory_ground.MemoryGroundBacking.call.Goals as goal
 
 pub answer-requires : goal.answer-requires
@@ -52,8 +52,14 @@ returns-in_default-clause-keeps g c =
     keeps_unasked g.M.Media c.args.self.now (drafted c.answer.new.world c.answer.new.media)
     (c.in_default.ensures.same.1 ∙ ap (λ (m : InMemory g.row.M.Denot). m.media) c.self.view_is)
 
-pub invariant_of-self : goal.invariant_of-self
-invariant_of-self g c =
+pub invariant_of-self-2 : goal.invariant_of-self-2
+invariant_of-self-2 g c =
     reached_called c.self.inside.calls (g.M.Media.told c.self.inside.media) (drafted c.self.inside.world c.self.inside.media).worlds
     (drafted c.answer.new.world c.answer.new.media).worlds c.args.call.now c.in-Ok.reply c.in-Ok.ensures.answers c.answer.ensures.begun
     (omega (arith, c.if-self-ge-MOST_CALLS.false)) c.self.invariant
+
+pub invariant_of-self : goal.invariant_of-self
+invariant_of-self g c =
+    subst (λ (m : InMemory g.row.M.Denot). IsReached c.self.inside.calls m.worlds)
+    (sym (drafted_same c.self.inside.world c.answer.new.world c.self.inside.media c.answer.new.media c.answer.ensures.begun c.in_default.ensures.same))
+    c.self.invariant
