@@ -7,7 +7,6 @@ use Rattle.sdr_base.specs.Causes.{Rose}
 use Rattle.sdr_base.specs.Written.{AppendsPart}
 use Rattle.sdr_core.specs.CoreKept.{RunStart, BeginsOn, IsRunOf, LoggedLock, core_at}
 use Rattle.sdr_core.specs.Leaving.{LastsOn, RunLeads}
-use Rattle.sdr_daemon.specs.Progressing.{IsFresh}
 use Rattle.sdr_core.proofs.CausedLemmas.{answer_caused, caused_later, caused_more, failed_refl, media_later}
 use Rattle.sdr_run.proofs.ScheduleLemmas.{bindings_after-push, follows-push, run_text-push, runs-push}
 use Rattle.sdr_core.specs.Caused.{AreCaused, from_to}
@@ -83,16 +82,6 @@ running_start {T} g b script daemons base k out named begins made =
       };
       names = refl;
     })
-
--- so is a core for daemons in threads
-pub fresh_core : {T : Type 0} (g : Ghosts T) (b : RunStart) (daemons : List ℕ) (base : T) (k : LoggedLock T) → daemons ≡ b.daemons → LastsOn g base
-    → k ≡ record { lock = record { roll = first_roll daemons; base = base }; log = record { works = []; journal = [] } } → IsFresh g b k
-fresh_core {T} g b daemons base k named lasts made = record {
-  roll = ap (λ (x : LoggedLock T). x.lock.roll) made ∙ ap first_roll named;
-  works = ap (λ (x : LoggedLock T). x.log.works) made;
-  journal = ap (λ (x : LoggedLock T). x.log.journal) made;
-  lasts = subst (λ (x : T). LastsOn g x) (sym (ap (λ (x : LoggedLock T). x.lock.base) made)) lasts;
-}
 
 module _ {T : Type 0} (g : Ghosts T) (b : RunStart) (base : T) (script : List ScriptStep) (step : ScriptStep) (rest : List ScriptStep) (bindings : List Binding) (old new : LoggedLock T)
     (was going : Bool) (first before after : Output) (r : Running g b base script (step ∷ rest) bindings old (IsPrinted was first before))

@@ -3,7 +3,6 @@ pub mod Asking
 pub mod Handed
 pub mod Playing
 pub mod Replaying
-pub mod Daemons
 pub mod Opening
 pub mod Running
 pub mod Settled

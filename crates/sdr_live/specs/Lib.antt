@@ -1,0 +1,2 @@
+pub mod AtLock
+pub mod Daemons
