@@ -9,7 +9,7 @@ use Rattle.sdr_daemon.specs.Progressing.{IsFresh}
 use Rattle.sdr_daemon.specs.Scripts.{KeepsToScripts}
 use Rattle.sdr_disk.specs.declared.disk.Disk.{Ghosts as DiskGhosts}
 use Rattle.sdr_live.specs.Daemons.{RunsDaemons, RunsOn, RunsOnGround}
-use Rattle.sdr_live.specs.declared.running.RanDaemons.{RanDaemons}
+use Rattle.sdr_live.specs.declared.daemons.RanTotals.{RanTotals}
 use Rattle.sdr_machine.specs.Roll.{first_roll}
 use Rattle.sdr_machine.specs.declared.has_ground.HasGround.{Ghosts}
 use Rattle.sdr_model.specs.declared.script.ScriptStep.{ScriptStep}
@@ -33,10 +33,10 @@ fresh_core {T} g b daemons base k named lasts made = record {
 -- what daemons have come to on a heap that was opened on a disk with media, under a condition that is met where the disk was settled
 pub daemons_ran : {D M : Type 0} (d : DiskGhosts D) (m : MediaGhosts M) (disk : D) (files : M) (script : List ScriptStep) (g : Grounded D M) (condition : Type 0)
     (met : condition ↔ IsSettled d disk) (o : OpenedSo d disk files g) (was : HandedDisk) (handed : was ≡ handed_as d disk)
-    (ran : RanDaemons (Grounded D M)) (now : D × M)
+    (ran : RanTotals (Grounded D M)) (now : D × M)
     → RunsOnGround (ground_of d m condition) (begins_on m was script g) script ran → now.0 ≡ ran.base.heap.cells.disk → d.size now.0 ≡ was.size
     → StaysAsHanded was.bytes (d.bytes now.0) ran.base.heap.cells.frame → d.moment now.0 ≡ ran.base.moment → now.1 ≡ ran.base.media
-    → RunsOn d m disk files script (record { journal = ran.journal; base = now; failed = ran.failed; starved = ran.starved })
+    → RunsOn d m disk files script (record { journal = ran.journal; base = now; failed = ran.failed; starved = ran.starved; totals = ran.totals })
 daemons_ran {D} {M} d m disk files script g condition met o was handed ran now out on size stays seen media_is =
     let shows : M → SeenMedia = seen_media m.told m.faults m.short in
     record {
@@ -50,4 +50,5 @@ daemons_ran {D} {M} d m disk files script g condition met o was handed ran now o
             wanting = out.wanting;
           });
       failed = out.failed;
+      totals_are = out.totals_are;
     }

@@ -1,2 +1,3 @@
 pub mod AtLock
 pub mod Daemons
+pub mod Posted

@@ -5,9 +5,11 @@ ghost use Rattle.sdr_live.specs.AtLock.{AreBeforeTurns, IsAtLock};
 ghost use Rattle.sdr_turn.specs.Seats.{IsIdleSeat};
 
 use crate::at_lock::{SeatedDaemon, take_turns, take_turns_of};
+use crate::posted_run::{PostedRun, Posting};
 use sdr_base::Gate;
+use sdr_board::Board;
 use sdr_core::Origin;
-use sdr_daemon::{Coming, Scripted, ScriptedRun};
+use sdr_daemon::{Coming, Scripted};
 use sdr_machine::Tells;
 use sdr_turn::{Seat, Turn};
 use std::alloc::Global;
@@ -22,29 +24,29 @@ pub const NO_PLACE: u64 = u64::MAX;
 
 /// What a daemon's thread gives back: the daemon, which is at this lock still.
 #[derive(Drop)]
-pub struct StaysAt<T: Tells, J: Origin, S: Scripted>(Snapshot<Turn<ScriptedRun<T, J, S>>>);
+pub struct StaysAt<T: Tells, J: Origin, S: Scripted, B: Posting>(Snapshot<Turn<PostedRun<T, J, S, B>>>);
 
-impl<T: Tells, J: Origin, S: Scripted> Promise<SeatedDaemon<T, J, S>> for StaysAt<T, J, S> {
+impl<T: Tells, J: Origin, S: Scripted, B: Posting> Promise<SeatedDaemon<T, J, S, B>> for StaysAt<T, J, S, B> {
     ghost use Rattle.sdr_live.specs.AtLock.{IsAtLock};
 
     ghost kept_by = { λ p d. IsAtLock p.0.value J.begins.daemons d.seat d.coming };
 }
 
 /// The thread of a daemon.
-pub type Handle<T, J, S> = PromisedHandle<SeatedDaemon<T, J, S>, StaysAt<T, J, S>>;
+pub type Handle<T, J, S, B> = PromisedHandle<SeatedDaemon<T, J, S, B>, StaysAt<T, J, S, B>>;
 
 /// Room for what is kept of the daemons that run at a lock, so that no memory is taken while the lock has the core.
 #[derive(Drop)]
-pub struct Room<T: Tells, J: Origin, S: Scripted> {
+pub struct Room<T: Tells, J: Origin, S: Scripted, B: Posting> {
     /// The threads that were started.
-    pub started: Vec<Handle<T, J, S>>,
+    pub started: Vec<Handle<T, J, S, B>>,
     /// The daemons whose threads couldn't be started.
-    pub refused: Vec<SeatedDaemon<T, J, S>>,
+    pub refused: Vec<SeatedDaemon<T, J, S, B>>,
 }
 
-impl<T: Tells, J: Origin, S: Scripted> Room<T, J, S> {
+impl<T: Tells, J: Origin, S: Scripted, B: Posting> Room<T, J, S, B> {
     /// Room for so many daemons. `None` where there is no memory for it.
-    pub fn new(alloc: Global, daemons: usize) -> Option<Room<T, J, S>>
+    pub fn new(alloc: Global, daemons: usize) -> Option<Room<T, J, S, B>>
         ensures room { IfSome result (λ r. (daemons ≤ vec_capacity r.started) × (daemons ≤ vec_capacity r.refused)) }
         ensures empty { IfSome result (λ r. (vec_len r.started ≡ 0) × (vec_len r.refused ≡ 0)) }
     {
@@ -62,30 +64,33 @@ fn start<
     T: Tells + Send,
     J: Origin + Send + Sync,
     S: Scripted + Send + Sync,
+    B: Posting + Send + Sync,
     G: Gate + Sync,
 >(
     scope: &'s Scope<'s, &'x ()>,
     rt: &'x R,
-    lock: &'x Turn<ScriptedRun<T, J, S>>,
+    lock: &'x Turn<PostedRun<T, J, S, B>>,
+    board: &'x Board,
     gate: &'x G,
     refused: &'x AtomicU64,
-    own: SeatedDaemon<T, J, S>,
-) -> Result<Handle<T, J, S>, SeatedDaemon<T, J, S>>
-    requires { IsAtLock lock.now J.begins.daemons own.seat own.coming }
+    own: SeatedDaemon<T, J, S, B>,
+) -> Result<Handle<T, J, S, B>, SeatedDaemon<T, J, S, B>>
+    requires board { board.now ≡ B.board }
+    requires seat { IsAtLock lock.now J.begins.daemons own.seat own.coming }
     ensures ok { IfOk result (λ h. h.promise.0.value ≡ lock.now) }
     ensures err { IfErr result (λ d. IsAtLock lock.now J.begins.daemons d.seat d.coming) }
 {
     let place = own.seat.place();
     let stays = StaysAt(Snapshot::of(lock));
-    let run = move || -> SeatedDaemon<T, J, S>
-        requires { IsSync R.row × IsSync G.row × IsAtLock lock.now J.begins.daemons own.seat own.coming }
+    let run = move || -> SeatedDaemon<T, J, S, B>
+        requires { IsSync R.row × IsSync G.row × (board.now ≡ B.board) × IsAtLock lock.now J.begins.daemons own.seat own.coming }
         ensures { IsAtLock lock.entry.now J.begins.daemons result.seat result.coming }
     {
         // The caller calls this itself where the thread couldn't be started: then the daemon goes back to it.
         if refused.load(Ordering::SeqCst) == place {
             return own;
         }
-        take_turns(rt, lock, gate, own)
+        take_turns(rt, lock, board, gate, own)
     };
     match scope.spawn_with(stays, run) {
         Ok(handle) => Ok(handle),
@@ -104,17 +109,20 @@ fn start_all<
     T: Tells + Send,
     J: Origin + Send + Sync,
     S: Scripted + Send + Sync,
+    B: Posting + Send + Sync,
     G: Gate + Sync,
 >(
     scope: &'s Scope<'s, &'x ()>,
     rt: &'x R,
-    lock: &'x Turn<ScriptedRun<T, J, S>>,
+    lock: &'x Turn<PostedRun<T, J, S, B>>,
+    board: &'x Board,
     gate: &'x G,
     refused: &'x AtomicU64,
-    seats: &mut Vec<Seat<ScriptedRun<T, J, S>>>,
+    seats: &mut Vec<Seat<PostedRun<T, J, S, B>>>,
     mut first: Vec<Coming>,
-    room: &mut Room<T, J, S>,
+    room: &mut Room<T, J, S, B>,
 )
+    requires board { board.now ≡ B.board }
     requires before { AreBeforeTurns lock.now J.begins.daemons seats.old.items first.items }
     requires count { vec_len first ≡ vec_len seats.old }
     requires room { (vec_len seats.old ≤ vec_capacity room.old.started) × (vec_len seats.old ≤ vec_capacity room.old.refused) }
@@ -132,6 +140,7 @@ fn start_all<
             scope,
             rt,
             lock,
+            board,
             gate,
             refused,
             SeatedDaemon { seat, coming },
@@ -143,12 +152,12 @@ fn start_all<
 }
 
 // Waits for the threads, and gathers the seats of all daemons.
-fn gather<R: Threads, T: Tells, J: Origin, S: Scripted>(
+fn gather<R: Threads, T: Tells, J: Origin, S: Scripted, B: Posting>(
     rt: &R,
-    lock: &Turn<ScriptedRun<T, J, S>>,
-    mut seats: Vec<Seat<ScriptedRun<T, J, S>>>,
-    room: Room<T, J, S>,
-) -> Vec<Seat<ScriptedRun<T, J, S>>>
+    lock: &Turn<PostedRun<T, J, S, B>>,
+    mut seats: Vec<Seat<PostedRun<T, J, S, B>>>,
+    room: Room<T, J, S, B>,
+) -> Vec<Seat<PostedRun<T, J, S, B>>>
     requires seats { vec_len seats ≡ 0 }
     requires room { vec_len room.started + vec_len room.refused ≤ vec_capacity seats }
     requires started { All (λ h. h.promise.0.value ≡ lock.now) room.started.items }
@@ -177,17 +186,20 @@ fn take_turns_in_scope<
     T: Tells + Send,
     J: Origin + Send + Sync,
     S: Scripted + Send + Sync,
+    B: Posting + Send + Sync,
     G: Gate + Sync,
 >(
     scope: &'s Scope<'s, &'x ()>,
     rt: &'x R,
-    lock: &'x Turn<ScriptedRun<T, J, S>>,
+    lock: &'x Turn<PostedRun<T, J, S, B>>,
+    board: &'x Board,
     gate: &'x G,
     refused: &'x AtomicU64,
-    mut seats: Vec<Seat<ScriptedRun<T, J, S>>>,
+    mut seats: Vec<Seat<PostedRun<T, J, S, B>>>,
     first: Vec<Coming>,
-    mut room: Room<T, J, S>,
-) -> Vec<Seat<ScriptedRun<T, J, S>>>
+    mut room: Room<T, J, S, B>,
+) -> Vec<Seat<PostedRun<T, J, S, B>>>
+    requires board { board.now ≡ B.board }
     requires before { AreBeforeTurns lock.now J.begins.daemons seats.items first.items }
     requires count { vec_len first ≡ vec_len seats }
     requires room { (vec_len seats ≤ vec_capacity room.started) × (vec_len seats ≤ vec_capacity room.refused) }
@@ -195,8 +207,8 @@ fn take_turns_in_scope<
     ensures count { vec_len result ≡ vec_len seats }
     ensures idle { All (IsIdleSeat lock.now.id) result.items }
 {
-    start_all(scope, rt, lock, gate, refused, &mut seats, first, &mut room);
-    take_turns_of(rt, lock, gate, &mut room.refused);
+    start_all(scope, rt, lock, board, gate, refused, &mut seats, first, &mut room);
+    take_turns_of(rt, lock, board, gate, &mut room.refused);
     gather(rt, lock, seats, room)
 }
 
@@ -209,16 +221,19 @@ pub fn take_turns_in_threads<
     T: Tells + Send,
     J: Origin + Send + Sync,
     S: Scripted + Send + Sync,
+    B: Posting + Send + Sync,
     G: Gate + Sync,
 >(
     rt: &'x R,
-    lock: &'x Turn<ScriptedRun<T, J, S>>,
+    lock: &'x Turn<PostedRun<T, J, S, B>>,
+    board: &'x Board,
     gate: &'x G,
     refused: &'x AtomicU64,
-    seats: Vec<Seat<ScriptedRun<T, J, S>>>,
+    seats: Vec<Seat<PostedRun<T, J, S, B>>>,
     first: Vec<Coming>,
-    room: Room<T, J, S>,
-) -> Vec<Seat<ScriptedRun<T, J, S>>>
+    room: Room<T, J, S, B>,
+) -> Vec<Seat<PostedRun<T, J, S, B>>>
+    requires board { board.now ≡ B.board }
     requires before { AreBeforeTurns lock.now J.begins.daemons seats.items first.items }
     requires count { vec_len first ≡ vec_len seats }
     requires room { (vec_len seats ≤ vec_capacity room.started) × (vec_len seats ≤ vec_capacity room.refused) }
@@ -229,7 +244,8 @@ pub fn take_turns_in_threads<
     thread::scope(
         thread::scope_env(),
         rt,
-        |scope| -> Vec<Seat<ScriptedRun<T, J, S>>>
+        |scope| -> Vec<Seat<PostedRun<T, J, S, B>>>
+            requires board { board.now ≡ B.board }
             requires before { AreBeforeTurns lock.now J.begins.daemons seats.items first.items }
             requires count { vec_len first ≡ vec_len seats }
             requires room { (vec_len seats ≤ vec_capacity room.started) × (vec_len seats ≤ vec_capacity room.refused) }
@@ -237,6 +253,6 @@ pub fn take_turns_in_threads<
             requires sync { IsSync R.row × IsSync G.row }
             ensures count { vec_len result ≡ vec_len seats }
             ensures idle { All (IsIdleSeat lock.entry.now.id) result.items }
-        { take_turns_in_scope(scope, rt, lock, gate, refused, seats, first, room) },
+        { take_turns_in_scope(scope, rt, lock, board, gate, refused, seats, first, room) },
     )
 }

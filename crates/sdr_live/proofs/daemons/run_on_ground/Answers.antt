@@ -1,6 +1,6 @@
 use Rattle.std.proofs.Common.{◌∙◌, List, ℕ, ap, subst, sym}
 use Rattle.sdr_core.specs.CoreKept.{BeginsOn}
-use Rattle.sdr_daemon.specs.Scripts.{KeepsToScripts}
+use Rattle.sdr_live.specs.Daemons.{RunsOnGround}
 use Rattle.sdr_model.specs.declared.script.ScriptStep.{ScriptStep}
 use Rattle.sdr_live.proofs.RunsLemmas.{fresh_core}
 use Rattle.sdr_words.specs.Daemons.{daemons_of}
@@ -11,22 +11,16 @@ new-requires-clause-begins g c =
     subst (λ (daemons : List ℕ). BeginsOn g.T.HasGround g.J.Origin.begins daemons c.args.base)
     (sym (c.deref.ensures.value ∙ c.in-Ok.ensures.named ∙ ap daemons_of c.as_slice.ensures)) c.requires.begins
 
-pub run_all-requires-clause-fresh : goal.run_all-requires-clause-fresh
-run_all-requires-clause-fresh g c lives outlive =
+pub run_on_board-ran-requires-clause-fresh : goal.run_on_board-ran-requires-clause-fresh
+run_on_board-ran-requires-clause-fresh g c lives outlive =
     fresh_core g.T.HasGround g.J.Origin.begins c.deref.result.now c.args.base c.in-Ok-new.core
     (c.deref.ensures.value ∙ c.in-Ok.ensures.named ∙ ap daemons_of c.as_slice.ensures ∙ c.requires.begins.daemons_are) c.requires.lasts
     c.in-Ok-new.ensures.made
 
-pub run_all-requires-clause-named : goal.run_all-requires-clause-named
-run_all-requires-clause-named g c lives outlive = sym c.requires.begins.daemons_are ∙ ap daemons_of c.requires.script
+pub run_on_board-ran-requires-clause-named : goal.run_on_board-ran-requires-clause-named
+run_on_board-ran-requires-clause-named g c lives outlive = sym c.requires.begins.daemons_are ∙ ap daemons_of c.requires.script
 
 pub returns-in-Ok-new-clause-ran : goal.returns-in-Ok-new-clause-ran
 returns-in-Ok-new-clause-ran g c =
-    let e = c.run_all.ensures in
-    record {
-      keeps = subst (λ (script : List ScriptStep). KeepsToScripts g.J.Origin.begins.told g.J.Origin.begins.first script c.run_all.result.journal)
-          (sym c.requires.script) e.keeps;
-      run = e.run;
-      failed = e.failed;
-      wanting = e.starved;
-    }
+    subst (λ (script : List ScriptStep). RunsOnGround g.T.HasGround g.J.Origin.begins script c.run_on_board-ran.result)
+    (sym c.requires.script) c.run_on_board-ran.ensures

@@ -19,7 +19,7 @@ loop-seat-preserved g c =
     let is_new = IsNewSeat {E = Entry} lock.id in
     let has_place = λ (s : Seated Entry). s.knows.place < length daemons in
     let stays = λ (x : Coming). is_over x ≡ false in
-    let at_lock = λ (d : SeatedDaemon g.row.T.Denot g.row.J.Denot g.row.S.Denot). IsAtLock lock daemons d.seat d.coming in
+    let at_lock = λ (d : SeatedDaemon g.row.T.Denot g.row.J.Denot g.row.S.Denot g.row.B.Denot). IsAtLock lock daemons d.seat d.coming in
     let push = c.push_reserved-in-Err.ensures in (
       record {
         new = (All-pop is_new seats rest c.pop.result c.pop.ensures.items i.0.new).0;
