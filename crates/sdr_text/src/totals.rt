@@ -4,24 +4,28 @@ ghost use Rattle.std.specs.Io.KnownBytes.{Appends};
 ghost use Rattle.sdr_base.specs.Causes.{HasCause};
 ghost use Rattle.sdr_base.specs.Written.{AppendsPart};
 ghost use Rattle.sdr_text.specs.Refused.{field_on};
-ghost use Rattle.sdr_text.specs.TotalsText.{totals_text};
+ghost use Rattle.sdr_text.specs.TotalsText.{numbers_of, totals_text};
 
 use crate::Line;
 use sdr_base::{Sink, SinkFault, write_all};
 use sdr_board::Totals;
 
-// Adds five numbers, each after a space.
-fn add_five(line: &mut Line, numbers: [u64; 5])
-    requires { length line.old ≤ 200 }
-    ensures text { line.new ≡ fold field_on line.old numbers }
-    ensures len { length line.new ≤ length line.old + 105 }
+// Adds the ten numbers, each after a space.
+fn add_numbers(line: &mut Line, totals: &Totals)
+    requires { length line.old ≤ 100 }
+    ensures text { line.new ≡ fold field_on line.old (numbers_of totals.now) }
+    ensures len { length line.new ≤ length line.old + 210 }
 {
-    let [first, second, third, fourth, fifth] = numbers;
-    line.field(first);
-    line.field(second);
-    line.field(third);
-    line.field(fourth);
-    line.field(fifth);
+    line.field(totals.entries);
+    line.field(totals.number);
+    line.field(totals.ended);
+    line.field(totals.cancelled);
+    line.field(totals.exited);
+    line.field(totals.faulted);
+    line.field(totals.looks);
+    line.field(totals.left);
+    line.field(totals.taken);
+    line.field(totals.given);
 }
 
 /// Writes the line of totals: the word `totals`, and the ten numbers in the order of the fields. It writes all, or a part from the front
@@ -35,22 +39,7 @@ pub fn write_totals<K: Sink>(out: &mut K, totals: &Totals) -> Result<(), SinkFau
 {
     let mut line = Line::new();
     line.push(b"totals");
-    let outcomes = [
-        totals.entries,
-        totals.number,
-        totals.ended,
-        totals.cancelled,
-        totals.exited,
-    ];
-    add_five(&mut line, outcomes);
-    let others = [
-        totals.faulted,
-        totals.looks,
-        totals.left,
-        totals.taken,
-        totals.given,
-    ];
-    add_five(&mut line, others);
+    add_numbers(&mut line, totals);
     line.push(b"\n");
     write_all(out, line.as_slice())
 }
