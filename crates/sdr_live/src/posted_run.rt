@@ -1,6 +1,5 @@
 // A run of daemons whose journal is on a board.
-ghost use Rattle.std.specs.Prelude.{◌≡◌, ◌<◌, false, length, map};
-ghost use mathlib.Core.List.{IsPrefix};
+ghost use Rattle.std.specs.Prelude.{◌≡◌, ◌<◌, [], false, length, map};
 ghost use Rattle.sdr_board.specs.Known.{published};
 ghost use Rattle.sdr_core.specs.Numbers.{numbers_done};
 ghost use Rattle.sdr_daemon.specs.Coming.{coming_at, is_over};
@@ -67,11 +66,10 @@ impl<T: Tells, J: Origin, S: Scripted, B: Posting> Kept for PostedRun<T, J, S, B
 }
 
 impl<T: Tells, J: Origin, S: Scripted, B: Posting> PostedRun<T, J, S, B> {
-    /// A run, and the writer of its board, which has published its first entries, or none.
+    /// A run, and the writer of its board, which has published nothing yet.
     pub fn new(run: ScriptedRun<T, J, S>, writer: Writer) -> PostedRun<T, J, S, B>
-        requires board { writer.board ≡ B.board }
-        requires begins { IsPrefix writer.entries run.core.log.journal }
-        ensures { result ≡ record { run = run; posted = writer.entries } }
+        requires { writer ≡ published B.board [] }
+        ensures { result ≡ record { run = run; posted = [] } }
     {
         PostedRun {
             run,
