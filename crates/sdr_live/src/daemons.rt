@@ -118,8 +118,7 @@ fn run_on_ground<
     };
     match Core::<T, J>::new(alloc, &daemons, base) {
         Ok(core) => {
-            let ran =
-                run_on_board::<R, T, J, S, G>(rt, alloc, core, script, gate, &board, writer);
+            let ran = run_on_board::<R, T, J, S, G>(rt, alloc, core, script, gate, &board, writer);
             Ok(ran)
         }
         Err((_, base)) => Err(base),

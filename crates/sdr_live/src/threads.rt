@@ -24,9 +24,12 @@ pub const NO_PLACE: u64 = u64::MAX;
 
 /// What a daemon's thread gives back: the daemon, which is at this lock still.
 #[derive(Drop)]
-pub struct StaysAt<T: Tells, J: Origin, S: Scripted, B: Posting>(Snapshot<Turn<PostedRun<T, J, S, B>>>);
+pub struct StaysAt<T: Tells, J: Origin, S: Scripted, B: Posting>(
+    Snapshot<Turn<PostedRun<T, J, S, B>>>,
+);
 
-impl<T: Tells, J: Origin, S: Scripted, B: Posting> Promise<SeatedDaemon<T, J, S, B>> for StaysAt<T, J, S, B> {
+impl<T: Tells, J: Origin, S: Scripted, B: Posting> Promise<SeatedDaemon<T, J, S, B>>
+    for StaysAt<T, J, S, B> {
     ghost use Rattle.sdr_live.specs.AtLock.{IsAtLock};
 
     ghost kept_by = { λ p d. IsAtLock p.0.value J.begins.daemons d.seat d.coming };
@@ -207,7 +210,9 @@ fn take_turns_in_scope<
     ensures count { vec_len result ≡ vec_len seats }
     ensures idle { All (IsIdleSeat lock.now.id) result.items }
 {
-    start_all(scope, rt, lock, board, gate, refused, &mut seats, first, &mut room);
+    start_all(
+        scope, rt, lock, board, gate, refused, &mut seats, first, &mut room,
+    );
     take_turns_of(rt, lock, board, gate, &mut room.refused);
     gather(rt, lock, seats, room)
 }

@@ -32,12 +32,7 @@ pub fn without_journal<D, M>(alloc: Global, status: u8, disk: D, media: M) -> Ru
 }
 
 /// Tells that the words are no form. All is given back as it was handed in.
-pub fn no_form<D, M, K: Sink>(
-    alloc: Global,
-    disk: D,
-    media: M,
-    output: &mut K,
-) -> RunOutcome<D, M>
+pub fn no_form<D, M, K: Sink>(alloc: Global, disk: D, media: M, output: &mut K) -> RunOutcome<D, M>
     ensures outcome { result ≡ record { status = USAGE; journal = []; disk = disk; media = media } }
     ensures written { Wrote (seen K.taken K.faults output.old) (seen K.taken K.faults output.new)
         (codes "usage\n") }

@@ -36,9 +36,7 @@ pub fn status_of<R: Threads + Wait + Sync, G: Gate + Sync>(
     let mut words = Vec::new(alloc);
     words.push(RcStr::from_str(alloc, "run").ok()?).ok()?;
     if totals {
-        words
-            .push(RcStr::from_str(alloc, "totals").ok()?)
-            .ok()?;
+        words.push(RcStr::from_str(alloc, "totals").ok()?).ok()?;
     }
     let mut source = MemorySource::new(Bytes::copied(alloc, script).ok()?, Vec::new(alloc));
     let disk = MemoryDisk::new(formatted(alloc)?, vec![in alloc; failing; 1].ok()?);

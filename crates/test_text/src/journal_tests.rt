@@ -1,7 +1,7 @@
 // What is printed of a journal, by literals from outside.
 use sdr_base::{Bytes, Items, MemorySink, NoMemory, Reason};
-use sdr_model::{Answer, Close, Entry, Event, Leave, Reply, Said, What};
 use sdr_board::Totals;
+use sdr_model::{Answer, Close, Entry, Event, Leave, Reply, Said, What};
 use sdr_text::{write_journal, write_totals};
 use std::alloc::Global;
 
