@@ -1,5 +1,5 @@
 // Daemons that run their scripts on the heap of a disk.
-ghost use Rattle.std.specs.Prelude.{◌≡◌, ◌↔◌, [], IfErr, IfOk};
+ghost use Rattle.std.specs.Prelude.{◌≡◌, ◌↔◌, [], IfErr, IfOk, IfSome};
 ghost use Rattle.sdr_board.specs.Known.{published};
 ghost use Rattle.sdr_board.specs.Totals.{totals};
 ghost use Rattle.sdr_core.specs.CoreKept.{BeginsOn};
@@ -38,6 +38,14 @@ pub struct RanTotals<T> {
     pub starved: bool,
     /// The totals of the whole journal.
     pub totals: Totals,
+}
+
+// A board of totals, and its writer. `None` where there is no memory for them.
+fn make_board(alloc: Global) -> Option<(Board, Writer)>
+    ensures { IfSome result (λ made. made.1 ≡ published made.0 []) }
+{
+    let (board, writer, _) = Board::new(alloc).ok()?;
+    Some((board, writer))
 }
 
 // The totals of a journal whose totals were published last. They are read by a pass that is split off the writer. Where these are of
@@ -113,7 +121,7 @@ fn run_on_ground<
     let Ok(daemons) = daemons_of(alloc, script.as_slice()) else {
         return Err(base);
     };
-    let Ok((board, writer, _)) = Board::new(alloc) else {
+    let Some((board, writer)) = make_board(alloc) else {
         return Err(base);
     };
     match Core::<T, J>::new(alloc, &daemons, base) {
