@@ -1,9 +1,9 @@
-use Rattle.std.proofs.Common.{rules, ◌≡◌, None, Some, ap, refl, sym}
+use Rattle.std.proofs.Common.{rules, ◌≡◌, Bool, None, Some, ap, refl}
 use Rattle.sdr_shell.proofs.AnsweringLemmas.{answers_dry, answers_format, answers_inspect, answers_recover, answers_replay, answers_usage, form_at, unrun}
 use Rattle.sdr_shell.proofs.StillLemmas.{dry_completes, format_completes, not_run, spells_none}
 use Rattle.sdr_shell.specs.Answers.{AnswersDry, AnswersFormat, seen}
 use Rattle.sdr_shell.specs.Form.{form_of, still_form}
-use Rattle.sdr_shell.specs.declared.form.Form.TheVariants.{Dry, Format, Inspect, Recover, Replay}
+use Rattle.sdr_shell.specs.declared.form.Form.TheVariants.{Dry, Format, Inspect, Recover, Replay, Run}
 use Rattle.sdr_shell.specs.declared.status.TheConstants.{USAGE}
 use Rattle.sdr_shell.proofs.commands.still.Goals as goal
 
@@ -96,7 +96,7 @@ pub returns-in-Some-Run : goal.returns-in-Some-Run
 returns-in-Some-Run g c =
     form_at g.D.Disk g.M.Media g.S.Source g.K.Sink c.args.disk c.args.media c.args.input.now c.args.input.now c.args.output.now
     c.no_form.new.output (still_form (form_of c.args.words.now)) None c.no_form.result (unrun USAGE c.args.disk c.args.media)
-    (ap still_form (sym c.in-Some-Run.ensures.form)) c.no_form.ensures.outcome
+    (let known : (totals : Bool) × (form_of c.args.words.now ≡ Some (Run totals)) = search rules in ap still_form known.1) c.no_form.ensures.outcome
     (answers_usage g.D.Disk g.M.Media g.S.Source g.K.Sink c.args.disk c.args.media c.args.input.now c.args.input.now c.args.output.now
     c.no_form.new.output c.no_form.ensures.written c.no_form.ensures.later)
 
@@ -104,6 +104,6 @@ pub returns-in-None : goal.returns-in-None
 returns-in-None g c =
     form_at g.D.Disk g.M.Media g.S.Source g.K.Sink c.args.disk c.args.media c.args.input.now c.args.input.now c.args.output.now
     c.no_form-in-None.new.output (still_form (form_of c.args.words.now)) None c.no_form-in-None.result (unrun USAGE c.args.disk c.args.media)
-    (ap still_form (sym c.in-None.ensures.form)) c.no_form-in-None.ensures.outcome
+    (let known : form_of c.args.words.now ≡ None = search rules in ap still_form known) c.no_form-in-None.ensures.outcome
     (answers_usage g.D.Disk g.M.Media g.S.Source g.K.Sink c.args.disk c.args.media c.args.input.now c.args.input.now c.args.output.now
     c.no_form-in-None.new.output c.no_form-in-None.ensures.written c.no_form-in-None.ensures.later)
