@@ -46,14 +46,6 @@ enough d heap w call o s served small row answered =
 
     by : (c : Call) → ByRow w o c → o.moves ≡ row_moves w c at
         → most_lines d + call_lines heap w c ≤ most_lines (demand_after d w c o)
-    by (calls.Malloc bytes) there moves =
-        let one : length o.moves ≡ 1 = ap (λ (ms : List Move). length ms) moves in
-        let need : bytes_taken o.moves ≡ 8 + bytes + 0 = ap bytes_taken moves in
-        omega (arith, one, need)
-    by (calls.String text) there moves =
-        let one : length o.moves ≡ 1 = ap (λ (ms : List Move). length ms) moves in
-        let need : bytes_taken o.moves ≡ 1 + length text + 0 = ap bytes_taken moves in
-        omega (arith, one, need)
     by (calls.ListDestroy list) there moves =
         let elements = elements_in (as_list (thing_at w list)) in
         let all : length o.moves ≡ length (gave (elements ++ list ∷ [])) = ap (λ (ms : List Move). length ms) moves in
@@ -61,18 +53,6 @@ enough d heap w call o s served small row answered =
         let split = length-append elements (list ∷ []) in
         let few = elements_told heap w list s served small in
         omega (arith, all, same, split, few)
-    by (calls.Table rows size user) there moves =
-        let one : length o.moves ≡ 1 = ap (λ (ms : List Move). length ms) moves in
-        let need : bytes_taken o.moves ≡ 24 + rows * size + 0 = ap bytes_taken moves in
-        omega (arith, one, need)
-    by (calls.Hash key_length buckets) there moves =
-        let one : length o.moves ≡ 1 = ap (λ (ms : List Move). length ms) moves in
-        let need : bytes_taken o.moves ≡ 24 + 8 * buckets + 0 = ap bytes_taken moves in
-        omega (arith, one, need)
-    by (calls.HashInsert hash key value) there moves =
-        let one : length o.moves ≡ 1 = ap (λ (ms : List Move). length ms) moves in
-        let need : bytes_taken o.moves ≡ 16 + length key + 0 = ap bytes_taken moves in
-        omega (arith, one, need)
     by (calls.HashDestroy hash) there moves =
         let entries = entries_in (as_hash (thing_at w hash)) in
         let all : length o.moves ≡ length (gave (entries ++ hash ∷ [])) = ap (λ (ms : List Move). length ms) moves in
@@ -80,10 +60,6 @@ enough d heap w call o s served small row answered =
         let split = length-append entries (hash ∷ []) in
         let few = entries_are heap w hash s served small in
         omega (arith, all, same, split, few)
-    by (calls.FileRef path bytes) there moves =
-        let one : length o.moves ≡ 1 = ap (λ (ms : List Move). length ms) moves in
-        let need : bytes_taken o.moves ≡ 48 + length path + 0 = ap bytes_taken moves in
-        omega (arith, one, need)
     by (calls.SetMaximum acct space value) there moves =
         let grants = ap (grants_between w) (has_set w acct space value o there answered) in omega (arith, grants)
     by (calls.Request acct file bulk heap_space coarse fine) there moves =
@@ -98,14 +74,6 @@ enough d heap w call o s served small row answered =
         let one = r.one in omega (arith, grants, one)
     by (calls.AppendExtent addr ticket named offset bytes) there moves =
         append_enough d w (calls.AppendExtent addr ticket named offset bytes) o (source_at w named) at refl moves
-    by (calls.PrependHeader addr ticket text) there moves =
-        let one : length o.moves ≡ 1 = ap (λ (ms : List Move). length ms) moves in
-        let need : bytes_taken o.moves ≡ 8 + length text + 0 = ap bytes_taken moves in
-        omega (arith, one, need)
-    by (calls.AppendTrailer addr ticket text) there moves =
-        let one : length o.moves ≡ 1 = ap (λ (ms : List Move). length ms) moves in
-        let need : bytes_taken o.moves ≡ 8 + length text + 0 = ap bytes_taken moves in
-        omega (arith, one, need)
     by (calls.DiscardFirstHeader addr) there moves =
         let l = has_lost w addr (λ z. slice_get z.headers 0) without_header o there answered in
         let one = l.one in
@@ -122,7 +90,9 @@ enough d heap w call o s served small row answered =
     by (calls.ClonePart addr ticket offset bytes) there moves = clone_enough d w addr ticket offset bytes o (object_at w addr) at moves
     by (calls.Bond addr ticket) there moves = bond_enough d w addr ticket o there answered
     by (calls.Strip addr) there moves = cut_enough d w addr o there answered moves
-    by c there moves = let many = ap (λ (ms : List Move). length ms) moves in omega (arith, many)
+    by c there moves =
+        let many = ap (λ (ms : List Move). length ms) moves in
+        let need = ap bytes_taken moves in omega (arith, many, need)
 
 -- a call that reads touches none
 pub reading_lines : (heap : Heap) (w : World) (call : Call) → is_reading call ≡ true → call_lines heap w call ≡ 0

@@ -73,10 +73,10 @@ call_lines heap w (calls.Bond object ticket) = bond_lines w object
 call_lines heap w (calls.Strip object) = strip_lines w object
 call_lines heap w call = 0
 
--- What is of a kind is kept: raw objects with their source words, and with the source that names them; strings, lists with their
--- elements, tables, hashes; sources, and those of raw objects with these; zero-copy objects, also with the queue of their account, with
--- what their extents name and may name, and with all that it takes to clone their parts and to cut them to these. The catalogue
--- and the queues of both accounts are kept.
+-- Where a block of a kind stands, what is of that kind is kept: a raw object with its source word, and with the source that names it;
+-- a source with counts that can be added, and with its raw object; a zero-copy object, also with the queue of its account, with a
+-- source or a raw object beside it, with the sources that its extents name, and with all that it takes to clone its part, to cut it to
+-- this and to read it. The catalogue and the queues of both accounts are kept.
 pub record KeepsKinds (heap : Heap) : Type 0 where
   pub words : (addr : ℕ) → HasSourceWord (heap.blocks addr)
   pub strings : (addr : ℕ) → IsString (heap.blocks addr)
