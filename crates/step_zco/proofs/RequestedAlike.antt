@@ -1,5 +1,5 @@
--- How many lines a call may touch by what it asks.
-use Rattle.std.proofs.Common.{◌≡◌, ◌∙◌, ◌≤◌, ◌+◌, ℕ, List, [], ◌∷◌, Bool, true, false, true≢false, cond, refl, sym, ap, arith}
+-- A request grants as many tickets wherever the block of its own stands.
+use Rattle.std.proofs.Common.{◌≡◌, ◌∙◌, ℕ, List, [], ◌∷◌, Bool, true, false, cond, refl, sym, ap, arith}
 use Rattle.std.specs.List.{count_by}
 use Rattle.std.proofs.lemmas.List.Sums.{sum_by-append}
 use Rattle.sdr_base.specs.declared.account.Acct.{Acct}
@@ -7,23 +7,15 @@ use Rattle.sdr_base.specs.declared.account.Acct.TheVariants as accts
 use Rattle.sdr_base.specs.declared.account.Amounts.{Amounts}
 use Rattle.law_steps.proofs.DistinctLemmas.{count_by-cons, weight}
 use Rattle.law_steps.proofs.QueueOrder.{enqueued_is, placed}
-use Rattle.sdr_machine.specs.Demand.{Demand, demand_after, grants_between, most_lines}
+use Rattle.sdr_machine.specs.Demand.{grants_between}
 use Rattle.sdr_model.specs.AccountSteps.{new_ticket, with_request}
 use Rattle.sdr_model.specs.Accounts.{account_of, tickets_of}
 use Rattle.sdr_model.specs.Amounts.{are_within, minus, plus}
 use Rattle.sdr_model.specs.Queue.{enqueued, granted, served, stands_before}
-use Rattle.sdr_model.specs.Reading.{is_reading}
-use Rattle.sdr_model.specs.Rows.{ByRow}
-use Rattle.sdr_model.specs.Step.{is_answer}
-use Rattle.sdr_model.specs.Steps.{Outcome}
 use Rattle.sdr_model.specs.World.{World}
 use Rattle.sdr_model.specs.declared.accounts.Ticket.{Ticket}
-use Rattle.sdr_model.specs.declared.call.Call.{Call}
-use Rattle.sdr_model.specs.declared.call.Call.TheVariants as calls
-use Rattle.step_zco.proofs.AnswerLemmas.{has_requested, has_set, has_shredded}
 use Rattle.step_zco.proofs.GrantLemmas.{newly}
 use Rattle.step_zco.proofs.OccupiedLemmas.{left_entered, occupied_same, occupied_with}
-use Rattle.step_zco.specs.AccountAnswering.{call_lines, grants_of, is_account_call}
 
 -- a new ticket, wherever its block is
 module _ (w : World) (asked : Amounts) (coarse fine : ℕ) where
@@ -127,30 +119,3 @@ module _ (w : World) (asked : Amounts) (coarse fine : ℕ) where
       let one = sum_by-append (λ (t : Ticket). weight (newly w t)) w.accounts.inbound.tickets (in_queue a) in
       let two = sum_by-append (λ (t : Ticket). weight (newly w t)) w.accounts.inbound.tickets (in_queue b) in
       let same = requests_alike accts.Outbound a b in omega (arith, one, two, same)
-
--- a call that is answered by its row asks for as many lines as it touches
-pub enough : (d : Demand) (w : World) (call : Call) (o : Outcome) → is_account_call call ≡ true → ByRow w o call →
-    is_answer o.reply ≡ true → most_lines d + call_lines w call ≤ most_lines (demand_after d w call o)
-enough d w (calls.SetMaximum acct space value) o is row answered =
-    let grants = ap (grants_between w) (has_set w acct space value o row answered) in omega (arith, grants)
-enough d w (calls.Request acct file bulk heap coarse fine) o is row answered =
-    let asked : Amounts = record { file = file; bulk = bulk; heap = heap } in
-    let r = has_requested w acct asked coarse fine o row answered in
-    let grants : grants_between w o.after ≡ grants_of w (calls.Request acct file bulk heap coarse fine) =
-    ap (grants_between w) r.after ∙ request_alike w asked coarse fine acct r.addr 0 in
-    let one = r.one in omega (arith, grants, one)
-enough d w (calls.Shred number) o is row answered =
-    let r = has_shredded w number o row answered in
-    let grants = ap (grants_between w) r.after in
-    let one = r.one in omega (arith, grants, one)
-enough d w (calls.Occupancy acct space) o is row answered = omega arith
-enough d w (calls.Maximum acct space) o is row answered = omega arith
-enough d w (calls.Awarded ticket) o is row answered = omega arith
-enough d w call o is row answered = absurd (true≢false (sym is))
-
--- a call that reads touches none
-pub reading_lines : (w : World) (call : Call) → is_reading call ≡ true → call_lines w call ≡ 0
-reading_lines w (calls.SetMaximum acct space value) reads = absurd (true≢false (sym reads))
-reading_lines w (calls.Request acct file bulk heap coarse fine) reads = absurd (true≢false (sym reads))
-reading_lines w (calls.Shred number) reads = absurd (true≢false (sym reads))
-reading_lines w call reads = refl
