@@ -1,0 +1,5 @@
+pub mod DaemonsLemmas
+pub mod LeftLemmas
+mod RoundExamples
+pub mod RoundLemmas
+pub mod StatementLemmas

@@ -1,0 +1,6 @@
+pub mod Left
+pub mod Rounds
+pub mod Schedule
+pub mod Statements
+pub mod VerbPlaces
+pub mod VerbWords
