@@ -1,7 +1,8 @@
 -- Statements that are numbered one behind another.
-use Rattle.std.proofs.Common.{◌≡◌, ℕ, suc, ◌+◌, List, [], ◌∷◌, ◌++◌, length, ap, refl, ◌∙◌, arith}
+use Rattle.std.proofs.Common.{◌≡◌, ℕ, suc, ◌+◌, List, [], ◌∷◌, ◌++◌, length, ap, refl, sym, ◌∙◌, append_assoc, arith}
 use Rattle.sdr_load.specs.Statements.{numbered, step_in}
 use Rattle.sdr_load.specs.declared.statement.Statement.{Statement}
+use Rattle.sdr_model.specs.declared.script.ScriptStep.{ScriptStep}
 
 pub numbered-append : (line : ℕ) (xs ys : List Statement) → numbered line (xs ++ ys) ≡ numbered line xs ++ numbered (line + length xs) ys
 numbered-append line [] ys =
@@ -15,11 +16,11 @@ pub length-numbered : (line : ℕ) (xs : List Statement) → length (numbered li
 length-numbered line [] = refl
 length-numbered line (x ∷ xs) = ap (λ n. suc n) (length-numbered (line + 1) xs)
 
--- one statement more, in the next line
-pub numbered_push : (line first : ℕ) (xs : List Statement) (x : Statement) → line ≡ first + length xs
-    → numbered first (xs ++ x ∷ []) ≡ numbered first xs ++ step_in line x ∷ []
-numbered_push line first xs x here =
-    let at : first + length xs ≡ line = omega (arith, here) in
-    numbered-append first xs (x ∷ []) ∙ ap (λ n. numbered first xs ++ step_in n x ∷ []) at
+-- the first of the statements that are left is put behind those that are numbered
+pub numbered_more : (done now : List ScriptStep) (line : ℕ) (x : Statement) (rest left : List Statement) → left ≡ x ∷ rest → now ≡ done ++ step_in line x ∷ []
+    → now ++ numbered (line + 1) rest ≡ done ++ numbered line left
+numbered_more done now line x rest left is put =
+    ap (λ l. l ++ numbered (line + 1) rest) put ∙ append_assoc done (step_in line x ∷ []) (numbered (line + 1) rest)
+    ∙ sym (ap (λ l. done ++ numbered line l) is)
 
-pub ruleset one_more = (numbered_push,)
+pub ruleset of_numbered = (length-numbered, numbered-append)

@@ -9,7 +9,6 @@ use sdr_model::ScriptStep;
 use std::alloc::Global;
 
 // The steps of statements, a line each.
-#[tactic(auto, using(crate::proofs::StatementLemmas::one_more))]
 fn numbered(
     alloc: Global,
     first: u64,
@@ -28,7 +27,7 @@ fn numbered(
 }
 
 /// The steps of a round, from a line on.
-#[tactic(auto, using(crate::proofs::RoundLemmas::round_is_short, crate::proofs::StatementLemmas::numbered_count))]
+#[tactic(auto, using(crate::proofs::RoundLemmas::round_is_short, crate::proofs::RoundLemmas::round_has_some, crate::proofs::StatementLemmas::of_numbered))]
 pub fn steps_of(alloc: Global, round: u64, line: u64) -> Result<Items<ScriptStep>, NoMemory>
     requires few { round ≤ MOST_ROUNDS }
     requires room { line < 2 ^ 32 }
