@@ -72,19 +72,20 @@ among_before daemon most here low = grind (arith, nat_tests)
 one_round_more : (daemon rounds : ℕ) → (is_among (min 4 rounds) daemon || (daemon_of rounds == daemon)) ≡ is_among (min 4 (suc rounds)) daemon
 one_round_more daemon rounds =
     elim (cases_lt rounds 4) [
-    | inl few ↦
-      let here : rounds % 4 ≡ rounds = omega (arith, few) in
-      let old : min 4 rounds ≡ rounds = omega (arith, few) in
-      let new : min 4 (suc rounds) ≡ 1 + rounds = omega (arith, few) in
-      ap (λ n. is_among (min 4 rounds) daemon || (1 + n == daemon)) here
-      ∙ ap (λ n. is_among n daemon || (1 + rounds == daemon)) old
-      ∙ among_next daemon rounds ∙ ap (λ n. is_among n daemon) (sym new)
-    | inr many ↦
-      let low : rounds % 4 < 4 = omega arith in
-      let old : min 4 rounds ≡ 4 = omega (arith, many) in
-      let new : min 4 (suc rounds) ≡ 4 = omega (arith, many) in
-      ap (λ n. is_among n daemon || (daemon_of rounds == daemon)) old
-      ∙ among_before daemon 4 (rounds % 4) low ∙ ap (λ n. is_among n daemon) (sym new) ]
+      | inl few ↦
+          let here : rounds % 4 ≡ rounds = omega (arith, few) in
+          let old : min 4 rounds ≡ rounds = omega (arith, few) in
+          let new : min 4 (suc rounds) ≡ 1 + rounds = omega (arith, few) in
+          ap (λ n. is_among (min 4 rounds) daemon || (1 + n == daemon)) here
+          ∙ ap (λ n. is_among n daemon || (1 + rounds == daemon)) old
+          ∙ among_next daemon rounds ∙ ap (λ n. is_among n daemon) (sym new)
+      | inr many ↦
+          let low : rounds % 4 < 4 = omega arith in
+          let old : min 4 rounds ≡ 4 = omega (arith, many) in
+          let new : min 4 (suc rounds) ≡ 4 = omega (arith, many) in
+          ap (λ n. is_among n daemon || (daemon_of rounds == daemon)) old
+          ∙ among_before daemon 4 (rounds % 4) low ∙ ap (λ n. is_among n daemon) (sym new)
+    ]
 
 among_none : (daemon : ℕ) → false ≡ is_among 0 daemon
 among_none daemon = grind (arith, nat_tests)

@@ -73,20 +73,22 @@ pub left_of_passed : (steps : List ScriptStep) (done line round last now : ℕ) 
 left_of_passed steps done line round last now held is =
     let later = numbered line (said_from (round + 1) (last - round)) in
     elim (cases_lt done (length steps)) [
-    | inl within ↦
-      let next : now ≡ done + 1 = omega (arith, within, is) in
-      ap (λ n. left_of steps n line round last) next ∙ sym (after_one steps later done within)
-    | inr all ↦
-      let same : now ≡ done = omega (arith, all, is) in
-      let none = left_of_none steps done line round last held all in
-      ap (λ n. left_of steps n line round last) same ∙ none ∙ sym (ap (drop 1) none) ]
+      | inl within ↦
+          let next : now ≡ done + 1 = omega (arith, within, is) in
+          ap (λ n. left_of steps n line round last) next ∙ sym (after_one steps later done within)
+      | inr all ↦
+          let same : now ≡ done = omega (arith, all, is) in
+          let none = left_of_none steps done line round last held all in
+          ap (λ n. left_of steps n line round last) same ∙ none ∙ sym (ap (drop 1) none)
+    ]
 
 -- where the last round isn't the one that is held a step of it is left
 still_open : (round last held done line : ℕ) → IsHeld round last held done line → round < last → done < held
 still_open round last held done line is more =
     elim (cases_lt done held) [
-    | inl within ↦ within
-    | inr all ↦ absurd (omega (arith, is.ended all, more)) ]
+      | inl within ↦ within
+      | inr all ↦ absurd (omega (arith, is.ended all, more))
+    ]
 
 -- what is left where the last step of a round is done and the next round was made
 pub left_of_next : (steps next : List ScriptStep) (done line round last now : ℕ) → IsHeld round last (length steps) done line → round < last

@@ -39,8 +39,9 @@ unfolding round_of
 round_is_short round =
     elim (round == 0) as (λ b. length (cond b (opening 1) (adding (daemon_of round) (length_in round) (byte_in round)
     ++ cond (drops_oldest round) (dropping (daemon_of round)) [] ++ closing (daemon_of round) (is_cancelled round) ∷ [])) ≤ 10) [
-    | true ↦ lit≤ tt
-    | false ↦ later_is_short (drops_oldest round) (is_cancelled round) (daemon_of round) (length_in round) (byte_in round) ]
+      | true ↦ lit≤ tt
+      | false ↦ later_is_short (drops_oldest round) (is_cancelled round) (daemon_of round) (length_in round) (byte_in round)
+    ]
 
 -- and at least one
 pub round_has_some : (round : ℕ) → 0 < length (round_of round)
@@ -48,5 +49,6 @@ unfolding round_of
 round_has_some round =
     elim (round == 0) as (λ b. 0 < length (cond b (opening 1) (adding (daemon_of round) (length_in round) (byte_in round)
     ++ cond (drops_oldest round) (dropping (daemon_of round)) [] ++ closing (daemon_of round) (is_cancelled round) ∷ []))) [
-    | true ↦ lit< tt
-    | false ↦ later_has_some (drops_oldest round) (is_cancelled round) (daemon_of round) (length_in round) (byte_in round) ]
+      | true ↦ lit< tt
+      | false ↦ later_has_some (drops_oldest round) (is_cancelled round) (daemon_of round) (length_in round) (byte_in round)
+    ]

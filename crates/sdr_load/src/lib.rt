@@ -17,7 +17,7 @@ mod statement;
 mod steps;
 mod verb;
 
-pub use laws::daemons_of_loads;
+pub use laws::{daemons_of_loads, loads_are_read};
 pub use load_steps::LoadSteps;
 pub use round::MOST_ROUNDS;
 use round::{Speaker, round_of};

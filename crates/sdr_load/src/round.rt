@@ -136,7 +136,11 @@ impl Speaker {
     {
         let list = vec![in self.alloc; self.text(b"load")?]?;
         let length = vec![in self.alloc; Arg::Number(bytes)]?;
-        let content = vec![in self.alloc; self.named(b"p")?, Arg::Number(0), self.filled(bytes, byte)?]?;
+        let content = vec![in self.alloc;
+            self.named(b"p")?,
+            Arg::Number(0),
+            self.filled(bytes, byte)?,
+        ]?;
         let last = vec![in self.alloc; self.named(b"l")?, self.named(b"p")?]?;
         Ok(vec![in self.alloc;
             self.says(Verb::Begin, self.no_args()),
@@ -179,11 +183,7 @@ impl Speaker {
     fn closes(&self, cancelled: bool) -> Statement
         ensures { result ≡ closing self.now.daemon cancelled }
     {
-        let verb = if cancelled {
-            Verb::Cancel
-        } else {
-            Verb::End
-        };
+        let verb = if cancelled { Verb::Cancel } else { Verb::End };
         self.says(verb, self.no_args())
     }
 }

@@ -20,7 +20,7 @@ returns c =
     let end : length s.steps ≤ s.done + 1 = omega arith in
     let more : s.round < s.last = omega arith in
     let is = left_of_next s.steps next s.done s.line s.round s.last (s.line + c.len-2.result) c.self.invariant more end
-        c.in_ok-next.ensures.steps (ap (λ n. s.line + n) c.len-2.ensures) ∙ ap (drop 1) c.self.view_is in
+    c.in_ok-next.ensures.steps (ap (λ n. s.line + n) c.len-2.ensures) ∙ ap (drop 1) c.self.view_is in
     record {
       passed = λ step rest was. is ∙ ap (drop 1) was;
       none = λ was. is ∙ ap (drop 1) was;
