@@ -1,6 +1,6 @@
 -- The steps of a load follow one another.
-use Rattle.std.proofs.Common.{◌≡◌, ◌==◌, ◌&&◌, ◌||◌, ◌≤◌, ◌<◌, ◌^◌, ◌⊎◌, inl, inr, ℕ, zero, suc, ◌+◌, ◌*◌, ◌%◌, List, [], ◌∷◌, ◌++◌, Bool, true, false, cond, codes, length, slice_index, nat_eq, replicate, ap, refl, sym, subst, ◌∙◌, arith, lit<, lit≤}
-use Rattle.std.proofs.lemmas.Bool.{and_from}
+use Rattle.std.proofs.Common.{◌≡◌, ◌==◌, ◌&&◌, ◌≤◌, ◌<◌, ◌^◌, ◌⊎◌, inl, inr, ℕ, zero, suc, ◌+◌, List, [], ◌∷◌, ◌++◌, Bool, true, false, cond, codes, length, nat_eq, replicate, ap, refl, sym, subst, ◌∙◌, arith, lit<, lit≤}
+use Rattle.std.proofs.lemmas.Bool.{and_from, or_left, or_right}
 use Rattle.std.proofs.lemmas.Bool.Decides.{nat_tests}
 use Rattle.std.proofs.lemmas.List.Folds.{list_any-append}
 use Rattle.std.specs.Cmp.Lexicographic.{pointwise}
@@ -9,7 +9,7 @@ use Rattle.hex.specs.Hex.{IsBytes}
 use Rattle.sdr_load.proofs.ReadingLemmas.{Follows, Follows-append}
 use Rattle.sdr_load.proofs.StatementLemmas.{length-numbered, numbered-append}
 use Rattle.sdr_load.specs.Rounds.{adding, byte_in, closing, daemon_of, dropping, drops_oldest, is_cancelled, later_round, length_in, opening, round_of}
-use Rattle.sdr_load.specs.Schedule.{said_from, script_for}
+use Rattle.sdr_load.specs.Schedule.{script_for}
 use Rattle.sdr_load.specs.Statements.{binds, numbered, says, step_in}
 use Rattle.sdr_load.specs.VerbPlaces.{place_of}
 use Rattle.sdr_load.specs.VerbWords.{word_of}
@@ -39,14 +39,6 @@ in_table verbs.First = lit< tt
 in_table verbs.Datum = lit< tt
 in_table verbs.Catlg = lit< tt
 in_table verbs.Find = lit< tt
-
-or_right : (b c : Bool) → c ≡ true → (b || c) ≡ true
-or_right true c t = refl
-or_right false c t = t
-
-or_left : (b c : Bool) → b ≡ true → (b || c) ≡ true
-or_left true c t = refl
-or_left false c t = cc
 
 same_number : (n : ℕ) → (n == n) ≡ true
 same_number n = grind (arith, nat_tests)
@@ -99,11 +91,19 @@ module _ (daemon : ℕ) (low : 1 ≤ daemon) (high : daemon ≤ 16) where
       let one = earlier ++ step_in line begins ∷ [] in
       let two = one ++ step_in (line + 1) lists ∷ [] in
       let three = two ++ step_in (line + 1 + 1) names ∷ [] in
-      let l = bound_now one (step_in (line + 1) lists) (codes "l") refl refl in
-      (refl, step_is earlier line begins refl (inl refl) tt,
-      (refl, step_is one (line + 1) lists refl (inr refl) (lit< tt, tt),
-      (refl, step_is two (line + 1 + 1) names refl (inl refl) (load_bytes, (lit≤ tt, ((refl, l), tt))),
-      (refl, step_is three (line + 1 + 1 + 1) ends refl (inl refl) tt, tt))))
+      let l = bound_now one (step_in (line + 1) lists) (codes "l") refl refl in (
+        refl,
+        step_is earlier line begins refl (inl refl) tt,
+        (
+          refl,
+          step_is one (line + 1) lists refl (inr refl) (lit< tt, tt),
+          (
+            refl,
+            step_is two (line + 1 + 1) names refl (inl refl) (load_bytes, (lit≤ tt, ((refl, l), tt))),
+            (refl, step_is three (line + 1 + 1 + 1) ends refl (inl refl) tt, tt),
+          ),
+        ),
+      )
 
   adding_follows : (earlier : List ScriptStep) (line bytes byte : ℕ) → bytes < 2 ^ 64 → byte < 256
       → Follows earlier line (numbered line (adding daemon bytes byte))
@@ -121,12 +121,23 @@ module _ (daemon : ℕ) (low : 1 ≤ daemon) (high : daemon ≤ 16) where
       let l = bound_now one (step_in (line + 1) finds) (codes "l") refl refl in
       let p = bound_now two (step_in (line + 1 + 1) makes) (codes "p") refl refl in
       let still_l = bound_still three (step_in (line + 1 + 1 + 1) writes) (codes "l") (bound_still two (step_in (line + 1 + 1) makes) (codes "l") l) in
-      let still_p = bound_still three (step_in (line + 1 + 1 + 1) writes) (codes "p") p in
-      (refl, step_is earlier line begins refl (inl refl) tt,
-      (refl, step_is one (line + 1) finds refl (inr refl) (load_bytes, tt),
-      (refl, step_is two (line + 1 + 1) makes refl (inr refl) (fits, tt),
-      (refl, step_is three (line + 1 + 1 + 1) writes refl (inl refl) ((refl, p), (lit< tt, (replicated_bytes bytes byte small, tt))),
-      (refl, step_is four (line + 1 + 1 + 1 + 1) inserts refl (inl refl) ((refl, still_l), ((refl, still_p), tt)), tt)))))
+      let still_p = bound_still three (step_in (line + 1 + 1 + 1) writes) (codes "p") p in (
+        refl,
+        step_is earlier line begins refl (inl refl) tt,
+        (
+          refl,
+          step_is one (line + 1) finds refl (inr refl) (load_bytes, tt),
+          (
+            refl,
+            step_is two (line + 1 + 1) makes refl (inr refl) (fits, tt),
+            (
+              refl,
+              step_is three (line + 1 + 1 + 1) writes refl (inl refl) ((refl, p), (lit< tt, (replicated_bytes bytes byte small, tt))),
+              (refl, step_is four (line + 1 + 1 + 1 + 1) inserts refl (inl refl) ((refl, still_l), ((refl, still_p), tt)), tt),
+            ),
+          ),
+        ),
+      )
 
   -- these statements bind the list
   adding_binds : (earlier : List ScriptStep) (line bytes byte : ℕ) → is_bound_by (earlier ++ numbered line (adding daemon bytes byte)) daemon (codes "l") ≡ true
@@ -150,11 +161,19 @@ module _ (daemon : ℕ) (low : 1 ≤ daemon) (high : daemon ≤ 16) where
       let e = bound_now earlier (step_in line finds) (codes "e") refl refl in
       let still_e = bound_still one (step_in (line + 1) reads) (codes "e") e in
       let x = bound_now one (step_in (line + 1) reads) (codes "x") refl refl in
-      let still_x = bound_still two (step_in (line + 1 + 1) deletes) (codes "x") x in
-      (refl, step_is earlier line finds refl (inr refl) ((refl, l), tt),
-      (refl, step_is one (line + 1) reads refl (inr refl) ((refl, e), tt),
-      (refl, step_is two (line + 1 + 1) deletes refl (inl refl) ((refl, still_e), tt),
-      (refl, step_is three (line + 1 + 1 + 1) frees refl (inl refl) ((refl, still_x), tt), tt))))
+      let still_x = bound_still two (step_in (line + 1 + 1) deletes) (codes "x") x in (
+        refl,
+        step_is earlier line finds refl (inr refl) ((refl, l), tt),
+        (
+          refl,
+          step_is one (line + 1) reads refl (inr refl) ((refl, e), tt),
+          (
+            refl,
+            step_is two (line + 1 + 1) deletes refl (inl refl) ((refl, still_e), tt),
+            (refl, step_is three (line + 1 + 1 + 1) frees refl (inl refl) ((refl, still_x), tt), tt),
+          ),
+        ),
+      )
 
   closing_follows : (cancelled : Bool) (earlier : List ScriptStep) (line : ℕ) → Follows earlier line (numbered line (closing daemon cancelled ∷ []))
   unfolding place_of verb_names shapes

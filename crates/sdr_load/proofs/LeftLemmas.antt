@@ -1,5 +1,5 @@
 -- The steps that are left, where a step is passed.
-use Rattle.std.proofs.Common.{◌≡◌, ◌≤◌, ◌<◌, ◌⊎◌, inl, inr, ℕ, zero, suc, ◌+◌, ◌-◌, min, true≢false, List, [], ◌∷◌, ◌++◌, length, drop, ap, refl, sym, ◌∙◌, None, Some, Option, arith}
+use Rattle.std.proofs.Common.{◌≡◌, ◌≤◌, ◌<◌, inl, inr, ℕ, zero, suc, ◌+◌, ◌-◌, min, true≢false, List, [], ◌∷◌, ◌++◌, length, drop, ap, refl, sym, ◌∙◌, None, Some, Option, arith}
 use Rattle.std.proofs.lemmas.Bool.{cases_lt}
 use Rattle.std.proofs.lemmas.List.{drop_all, drop_more}
 use Rattle.std.specs.Borrow.{Bor}
@@ -11,7 +11,6 @@ use Rattle.sdr_load.specs.Left.{IsHeld, left_of}
 use Rattle.sdr_load.specs.Rounds.{round_of}
 use Rattle.sdr_load.specs.Schedule.{said_from, script_for}
 use Rattle.sdr_load.specs.Statements.{numbered}
-use Rattle.sdr_load.specs.declared.statement.Statement.{Statement}
 use Rattle.sdr_model.specs.declared.script.ScriptStep.{ScriptStep}
 
 -- the first of some rounds, and those behind it

@@ -1,5 +1,5 @@
 -- Steps that follow one another are read from their canonical lines.
-use Rattle.std.proofs.Common.{◌≡◌, ◌==◌, ◌&&◌, ◌<◌, ℕ, zero, suc, ◌+◌, List, [], ◌∷◌, ◌++◌, Bool, true, false, not, cond, Option, None, Some, Result, Ok, Err, option_to_list, length, get_or, map, ap, refl, sym, subst, ◌∙◌, append_assoc, append-nil, arith}
+use Rattle.std.proofs.Common.{◌≡◌, ◌==◌, ◌<◌, ℕ, zero, suc, ◌+◌, List, [], ◌∷◌, ◌++◌, Bool, true, false, not, cond, Option, Some, Result, Ok, Err, option_to_list, length, get_or, map, ap, refl, sym, subst, ◌∙◌, append_assoc, append-nil, arith}
 use Rattle.std.proofs.lemmas.Bool.{and_parts}
 use Rattle.std.proofs.lemmas.Bool.Decides.{nat_tests}
 use Rattle.std.proofs.lemmas.List.Splits.{slice_split_at}
@@ -21,10 +21,13 @@ Follows-append earlier [] ys line these those =
     let same : line + 0 ≡ line = omega arith in
     subst (λ (n : ℕ). Follows earlier n ys) same (subst (λ (l : List ScriptStep). Follows l (line + 0) ys) (append-nil earlier) those)
 Follows-append earlier (x ∷ xs) ys line these those =
-    let same : line + suc (length xs) ≡ line + 1 + length xs = omega arith in
-    (these.0, these.1, Follows-append (earlier ++ x ∷ []) xs ys (line + 1) these.2
-    (subst (λ (n : ℕ). Follows ((earlier ++ x ∷ []) ++ xs) n ys) same
-    (subst (λ (l : List ScriptStep). Follows l (line + suc (length xs)) ys) (sym (append_assoc earlier (x ∷ []) xs)) those)))
+    let same : line + suc (length xs) ≡ line + 1 + length xs = omega arith in (
+      these.0,
+      these.1,
+      Follows-append (earlier ++ x ∷ []) xs ys (line + 1) these.2
+          (subst (λ (n : ℕ). Follows ((earlier ++ x ∷ []) ++ xs) n ys) same
+          (subst (λ (l : List ScriptStep). Follows l (line + suc (length xs)) ys) (sym (append_assoc earlier (x ∷ []) xs)) those)),
+    )
 
 abbrev reading : List ScriptStep → ℕ → Reading
 reading steps next = record { steps = steps; next = next }

@@ -2,6 +2,7 @@
 use Rattle.std.specs.Prelude.{ℕ, ◌+◌, ◌-◌, ◌*◌, ◌≤◌, List, ◌++◌, drop}
 use Rattle.sdr_load.specs.Schedule.{said_from}
 use Rattle.sdr_load.specs.Statements.{numbered}
+use Rattle.sdr_load.specs.declared.round.TheConstants.{MOST_ROUNDS}
 use Rattle.sdr_model.specs.declared.script.ScriptStep.{ScriptStep}
 
 -- the steps of a round that aren't done, then those of the rounds behind it up to the last, from a line on
@@ -10,7 +11,7 @@ left_of steps done line round last = drop done steps ++ numbered line (said_from
 
 -- a round of a load is held that has so many steps, of which so many are done; the next one begins in this line
 pub record IsHeld (round last held done line : ℕ) : Type 0 where
-  pub few : last ≤ 10000
+  pub few : last ≤ MOST_ROUNDS
   pub within : round ≤ last
   pub some : done ≤ held
   pub ended : held ≤ done → last ≤ round

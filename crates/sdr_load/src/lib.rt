@@ -1,13 +1,17 @@
-//! The script of a load: a generated schedule, which makes, lists and frees objects in rounds by four daemons.
+//! The script of a load: a generated schedule of rounds, in which four daemons make, list and free objects.
 //!
 //! 1. Round 0 makes a list and gives it the name `load`.
-//! 2. Each round behind it makes an object and puts it at the end of the list. Where eight or more of the rounds behind
-//!    round 0 and before it ended, the first element goes, and its object with it.
-//! 3. Every third round is cancelled, the others end.
+//! 2. Each round behind it makes an object and puts it at the end of the list. Where eight or more of the rounds from 1 to
+//!    the one before it aren't divisible by 3, the first element is deleted, and its object is freed.
+//! 3. A round is cancelled where 3 divides it, and else it ends.
 //! 4. The lines are counted from 1 through all rounds.
 //!
 //! Proved: `LoadSteps` gives the steps of `script_for`, one behind another (`new`, `next`, `pass`), and holds those of one
-//! round. A load of N rounds behind round 0 names the first N + 1 daemons, and no more than four (`daemons_of_loads`).
+//! round; want of memory leaves it as before (`same`). The canonical lines of these steps are read as this script
+//! (`loads_are_read`). A load of N rounds behind round 0 names the first N + 1 daemons, and no more than four
+//! (`daemons_of_loads`).
+//!
+//! Only tested: nothing. That a round is made where there is memory is neither proved nor tested yet.
 #![tactic(auto)]
 
 mod laws;

@@ -24,7 +24,7 @@ use std::alloc::Global;
 /// The most rounds behind round 0 that a load may have.
 pub const MOST_ROUNDS: u64 = 10_000;
 
-// Rounds that end stand in the list for so many rounds that end.
+// Where so many rounds ended, each further one takes the oldest element out.
 const KEPT: u64 = 8;
 
 fn daemon_of(round: u64) -> u8
