@@ -12,7 +12,7 @@ daemon_of round = 1 + round % 4
 
 -- how many bytes the object of a round has
 abbrev pub length_in : ℕ → ℕ
-length_in round = 1 + 37 * round % 500
+length_in round = 1 + (37 * round) % 500
 
 -- the byte that fills the object of a round
 abbrev pub byte_in : ℕ → ℕ

@@ -11,7 +11,7 @@
 //! (`loads_are_read`). A load of N rounds behind round 0 names the first N + 1 daemons, and no more than four
 //! (`daemons_of_loads`).
 //!
-//! Only tested: nothing. That a round is made where there is memory is neither proved nor tested yet.
+//! Only tested: that the steps are made where memory is ample (`test_text`).
 #![tactic(auto)]
 
 mod laws;

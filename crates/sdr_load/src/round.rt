@@ -37,7 +37,7 @@ fn length_in(round: u64) -> u64
     requires few { round ≤ MOST_ROUNDS }
     ensures { result ≡ length_in round }
 {
-    1 + 37 * round % 500
+    1 + (37 * round) % 500
 }
 
 fn byte_in(round: u64) -> u8
