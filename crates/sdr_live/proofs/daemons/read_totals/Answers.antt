@@ -8,7 +8,7 @@ use Rattle.sdr_model.specs.declared.journal.Entry.{Entry}
 use Rattle.sdr_live.proofs.daemons.read_totals.Goals as goal
 
 pub returns-then-totals-journal : goal.returns-then-totals-journal
-returns-then-totals-journal g c =
+returns-then-totals-journal c =
     let journal = c.args.journal.now in
     let seen = c.read-totals.new.pass.entries in
     let split : c.split-pass.result.entries ≡ journal = ap (λ (s : Seen). s.entries) c.split-pass.ensures.pass ∙ ap (λ (w : Published). w.entries) c.requires in
