@@ -21,6 +21,8 @@ _sdrtool() {
       -) mapfile -t COMPREPLY < <(compgen -W dry -- "$word") ;;
       *) mapfile -t COMPREPLY < <(compgen -W 'format replay run inspect recover dry' -- "$word") ;;
     esac
+  elif [ "$at" = 3 ] && [ "${COMP_WORDS[COMP_CWORD - 1]}" = run ]; then
+    mapfile -t COMPREPLY < <(compgen -W totals -- "$word")
   fi
 }
 complete -F _sdrtool sdrtool

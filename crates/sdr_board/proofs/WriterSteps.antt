@@ -1,11 +1,9 @@
 -- Each step of the writer is allowed.
-use Rattle.std.proofs.Common.{◌≡◌, ◌≢◌, ℕ, suc, ◌<◌, ◌≤◌, ◌==◌, true, List, [], ◌∷◌, ◌++◌, drop, length, set, refl, sym, ◌∙◌, ap, subst, arith}
-use Rattle.std.proofs.lemmas.Bool.Decides.{nat_tests}
+use Rattle.std.proofs.Common.{◌≡◌, ◌≢◌, ℕ, suc, ◌<◌, ◌≤◌, true, List, [], ◌∷◌, ◌++◌, drop, length, set, refl, sym, ◌∙◌, ap, subst, arith}
 use mathlib.Core.List.{IsPrefix}
-use mathlib.Core.Option.{some, some-injective}
+use mathlib.Core.Option.{some}
 use lib.ListN.{get_elem?}
-use prog.Atomic.{either}
-use Rattle.atomic_table.specs.Table.{State, step, Allows}
+use Rattle.atomic_table.specs.Table.{State, Allows}
 use Rattle.sdr_board.specs.Plays.{Beginning, Writing, Ending}
 use Rattle.sdr_board.specs.Posted.{posted, board_words, Fits, IsPosted}
 use Rattle.sdr_board.specs.Totals.{totals, words_of}
@@ -79,28 +77,26 @@ module _ {S : Type 0} where
         refl,
       )))
 
-pub ends : (slots id old new begun : ℕ) (seen journal : List Entry) (written : List ℕ) (carry : List (ℕ × List Entry)) → old ≡ length seen → new ≡ length journal → begun ≡ length journal
-    → written ≡ words_of (totals journal) → IsPrefix seen journal
-    → Allows (IsPosted {S = List Entry}) slots id (writing_view seen begun written, carry) 0 (λ n. either (n == old) new n) (Ending (step slots 0 old new (some journal)) (writing_view seen begun written, carry))
-ends slots id old new begun seen journal written carry old_is new_is begun_is all later =
-    allowed slots id 0 (writing_view seen begun written, carry) (λ n. either (n == old) new n) (Ending (step slots 0 old new (some journal)) (writing_view seen begun written, carry))
-    (λ s k at.
-    let v = writing_view seen begun written in
-    let f = k.fits id v at in
-    let mine = f.writes refl in
-    let long : length seen ≡ length k.log = ap (λ (l : List Entry). length l) mine.1 in
-    let hit : (length k.log == old) ≡ true = grind (arith, nat_tests) in
-    let first : either (length k.log == old) new (length k.log) ≡ length journal = ap (λ b. either b new (length k.log)) hit ∙ new_is in
-    let second : k.begun ≡ length journal = sym mine.2 ∙ begun_is in
-    let others : posted k.log k.written ≡ posted journal [] = ap (posted k.log) (sym mine.3 ∙ all) in
-    let longer : IsPrefix k.log journal = subst (λ (l : List Entry). IsPrefix l journal) mine.1 later in
-    let w = writer_view journal in (
-      w,
-      subst (λ n. Rule (record { words = n ∷ k.begun ∷ posted k.log k.written; homes = s.homes; views = set s.views id w })) (sym first)
-          (subst (λ n. Rule (record { words = length journal ∷ n ∷ posted k.log k.written; homes = s.homes; views = set s.views id w })) (sym second)
-          (subst (λ (ws : List ℕ). Rule (record { words = length journal ∷ length journal ∷ ws; homes = s.homes; views = set s.views id w })) (sym others)
-          (changed s k id w journal (length journal) [] (omega arith) (λ e. refl)
-          (record { seen = prefix_self journal; told = (journal, refl); stood = (journal, refl); front = omega arith; writes = λ t. (mine.0, refl, refl, refl) })
-          (still_fit s k id v journal (length journal) [] at refl longer (omega (arith, second)))))),
-      λ other said. ap (λ (l : List Entry). (writer_view l, carry)) (some-injective journal other said),
-    ))
+  pub ends : (slots id new begun : ℕ) (seen journal : List Entry) (written : List ℕ) (carry : List (ℕ × S)) → new ≡ length journal → begun ≡ length journal
+      → written ≡ words_of (totals journal) → IsPrefix seen journal
+      → Allows Rule slots id (writing_view seen begun written, carry) 0 (λ _. new) (λ _. Ending journal (writing_view seen begun written, carry) new)
+  ends slots id new begun seen journal written carry new_is begun_is all later =
+      allowed slots id 0 (writing_view seen begun written, carry) (λ _. new) (λ _. Ending journal (writing_view seen begun written, carry) new)
+      (λ s k at.
+      let v = writing_view seen begun written in
+      let f = k.fits id v at in
+      let mine = f.writes refl in
+      let long : length seen ≡ length k.log = ap (λ (l : List Entry). length l) mine.1 in
+      let second : k.begun ≡ length journal = sym mine.2 ∙ begun_is in
+      let others : posted k.log k.written ≡ posted journal [] = ap (posted k.log) (sym mine.3 ∙ all) in
+      let longer : IsPrefix k.log journal = subst (λ (l : List Entry). IsPrefix l journal) mine.1 later in
+      let w = writer_view journal in (
+        w,
+        subst (λ n. Rule (record { words = n ∷ k.begun ∷ posted k.log k.written; homes = s.homes; views = set s.views id w })) (sym new_is)
+            (subst (λ n. Rule (record { words = length journal ∷ n ∷ posted k.log k.written; homes = s.homes; views = set s.views id w })) (sym second)
+            (subst (λ (ws : List ℕ). Rule (record { words = length journal ∷ length journal ∷ ws; homes = s.homes; views = set s.views id w })) (sym others)
+            (changed s k id w journal (length journal) [] (omega arith) (λ e. refl)
+            (record { seen = prefix_self journal; told = (journal, refl); stood = (journal, refl); front = omega arith; writes = λ t. (mine.0, refl, refl, refl) })
+            (still_fit s k id v journal (length journal) [] at refl longer (omega (arith, second)))))),
+        refl,
+      ))

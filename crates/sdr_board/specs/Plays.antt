@@ -1,8 +1,7 @@
 -- What each step tells: who steps before it, the number found in the word (or written there), and who steps after it.
 use Rattle.std.specs.Prelude.{◌≡◌, ℕ, ◌≤◌, ◌==◌, List, [], ◌∷◌, ◌++◌, length, slice_index, MatchBool}
 use mathlib.Core.List.{IsPrefix}
-use mathlib.Core.Option.{some}
-use Rattle.atomic_table.specs.Table.{Me, Step}
+use Rattle.atomic_table.specs.Table.{Me}
 use Rattle.sdr_board.specs.Known.{longer}
 use Rattle.sdr_board.specs.Posted.{board_words}
 use Rattle.sdr_board.specs.Views.{writer_view, writing_view, with_look, with_front, with_seen, with_met, with_longer}
@@ -47,6 +46,6 @@ module _ {S : Type 0} where
   abbrev pub Writing : Me S View → ℕ → Me S View → Type 0
   Writing me new after = after ≡ (writing_view me.0.seen me.0.begun (me.0.written ++ new ∷ []), me.1)
 
--- the writer has published the journal that it names
-abbrev pub Ending : Step (List Entry) → Me (List Entry) View → ℕ → Me (List Entry) View → Type 0
-Ending s me found after = (journal : List Entry) → s.said ≡ some journal → after ≡ (writer_view journal, me.1)
+  -- the writer has published this journal
+  abbrev pub Ending : List Entry → Me S View → ℕ → Me S View → Type 0
+  Ending journal me found after = after ≡ (writer_view journal, me.1)

@@ -8,14 +8,13 @@ use crate::view::View;
 use crate::writer::Writer;
 use atomic_table::Table;
 use sdr_base::NoMemory;
-use sdr_model::Journal;
 use std::alloc::Global;
 use std::marker::Model;
 
 /// The words that the writer and the readers share.
 #[derive(Drop)]
 pub struct Board {
-    pub(crate) table: Table<Journal, View, (), Posts, Global>,
+    pub(crate) table: Table<(), View, (), Posts, Global>,
 }
 
 impl Model for Board {

@@ -3,7 +3,7 @@
 //! The words of a table are the totals, and one more: how many entries the totals are of that the writer began last. A
 //! journal only grows, so the count of entries tells which totals they are.
 //! 1. The one writer says of how many entries totals come, writes all but the first, a word each, and then the first: how
-//!    many entries' totals stand on the board.
+//!    many entries' totals stand on the board. Each is one store.
 //! 2. A reader reads how many stand, the others, and how many were begun. Where these are as many, the totals are whole.
 //! 3. Where they aren't, the reader has met the writer, and looks again. After some looks it answers what it read last.
 //!

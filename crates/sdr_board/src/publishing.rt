@@ -6,42 +6,54 @@ ghost use Rattle.sdr_board.specs.Totals.{totals, words_of};
 ghost use Rattle.sdr_board.specs.Views.{writer_view, writing_view};
 
 use crate::board::Board;
-use crate::rule::{BEGUN, Begins, Ends, FIRST, Place, STANDS, Writes};
+use crate::rule::{BEGUN, Begins, Ends, FIRST, Naming, Place, STANDS, Writes};
 use crate::totals::Totals;
 use crate::writer::Writer;
-use sdr_model::Journal;
+use sdr_model::Entry;
+use std::marker::Brand;
 
 impl Board {
     /// The totals of the whole journal stand on the board. It reckons with the entries that are new, and costs a store for
-    /// each word and a compare-exchange; nothing where no entry is new.
-    pub fn publish(&self, writer: &mut Writer, journal: &Journal)
+    /// each word; nothing where no entry is new.
+    pub fn publish(&self, writer: &mut Writer, journal: &[Entry])
         requires board { writer.old.board ≡ self.now }
         requires begins { IsPrefix writer.old.entries journal.now }
 
         ensures published { writer.new ≡ published self.now journal.now }
     {
+        self.publish_named::<Brand>(writer, journal);
+    }
+
+    // The same, for the journal that is named.
+    fn publish_named<N: Naming>(&self, writer: &mut Writer, journal: &[Entry])
+        requires named { journal.now ≡ N.journal }
+        requires board { writer.old.board ≡ self.now }
+        requires begins { IsPrefix writer.old.entries N.journal }
+
+        ensures published { writer.new ≡ published self.now N.journal }
+    {
         let before = writer.last.entries as usize;
         if before < journal.len() {
-            let last = writer.last.with_all(&journal.as_slice()[before..]);
-            self.post(&mut writer.place, writer.last.entries, last, journal);
+            let last = writer.last.with_all(&journal[before..]);
+            self.post::<N>(&mut writer.place, last);
             writer.last = last;
         }
     }
 
-    // Says of how many entries totals come, writes these, and says that they stand.
-    fn post(&self, place: &mut Place, before: u64, last: Totals, journal: &Journal)
+    // Says of how many entries totals come, writes these, and says that they stand: those of the journal that is named.
+    fn post<N: Naming>(&self, place: &mut Place, last: Totals)
         requires board { place.old.table_id ≡ self.now }
-        requires writer { (place.old.me.0 ≡ writer_view place.old.me.0.seen) × (length place.old.me.0.seen ≡ before) }
-        requires begins { IsPrefix place.old.me.0.seen journal.now }
-        requires totals { (last ≡ totals journal.now) × (before < last.entries) }
+        requires writer { place.old.me.0 ≡ writer_view place.old.me.0.seen }
+        requires begins { IsPrefix place.old.me.0.seen N.journal }
+        requires totals { (last ≡ totals N.journal) × (length place.old.me.0.seen < last.entries) }
 
         ensures board { place.new.table_id ≡ self.now }
-        ensures posted { place.new.me ≡ (writer_view journal.now, place.old.me.1) }
+        ensures posted { place.new.me ≡ (writer_view N.journal, place.old.me.1) }
     {
         let shared = &self.table.shared;
         shared.store::<Begins>(place, BEGUN, last.entries);
         self.write(place, last);
-        shared.compare_exchange_with::<Ends>(place, STANDS, before, last.entries, journal);
+        shared.store::<Ends<N>>(place, STANDS, last.entries);
     }
 
     // Writes the totals that were begun, but the first.

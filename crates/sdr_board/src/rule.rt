@@ -1,9 +1,9 @@
 use crate::view::View;
 use atomic_table::{Join, Play, Seat, Split, TableRule};
-use sdr_model::Journal;
+use std::marker::{Brand, PhantomData};
 
 /// What the writer or a reader steps with.
-pub(crate) type Place = Seat<Journal, View>;
+pub(crate) type Place = Seat<(), View>;
 
 /// The word that counts the entries whose totals stand on the board.
 pub(crate) const STANDS: usize = 0;
@@ -14,11 +14,10 @@ pub(crate) const BEGUN: usize = 1;
 /// The first word of the other totals.
 pub(crate) const FIRST: usize = 2;
 
-/// The rule of a board. Its table has no slot: the type of the slots is that of the journal which the writer names as it
-/// publishes.
+/// The rule of a board. Its table has no slot.
 pub struct Posts;
 
-impl TableRule<Journal, View, ()> for Posts {
+impl TableRule<(), View, ()> for Posts {
     ghost use Rattle.std.specs.Prelude.{[]};
     ghost use Rattle.sdr_board.specs.Posted.{IsPosted};
     ghost use Rattle.sdr_board.specs.Views.{writer_view};
@@ -31,7 +30,7 @@ impl TableRule<Journal, View, ()> for Posts {
 /// A reader looks how many entries' totals stand on the board.
 pub struct Looks;
 
-impl Play<Journal, View> for Looks {
+impl Play<(), View> for Looks {
     ghost use Rattle.sdr_board.specs.Plays.{Looking};
 
     ghost then = { λ step. Looking };
@@ -40,7 +39,7 @@ impl Play<Journal, View> for Looks {
 /// A reader reads one word.
 pub struct Peeks;
 
-impl Play<Journal, View> for Peeks {
+impl Play<(), View> for Peeks {
     ghost use Rattle.sdr_board.specs.Plays.{Peeking};
 
     ghost then = { λ step. Peeking step.word };
@@ -49,7 +48,7 @@ impl Play<Journal, View> for Peeks {
 /// A reader looks of how many entries totals are begun.
 pub struct Checks;
 
-impl Play<Journal, View> for Checks {
+impl Play<(), View> for Checks {
     ghost use Rattle.sdr_board.specs.Plays.{Checking};
 
     ghost then = { λ step. Checking };
@@ -58,7 +57,7 @@ impl Play<Journal, View> for Checks {
 /// A reader compares what it saw with what it was told.
 pub struct Compares;
 
-impl Play<Journal, View> for Compares {
+impl Play<(), View> for Compares {
     ghost use Rattle.sdr_board.specs.Plays.{Comparing};
 
     ghost then = { λ step. Comparing };
@@ -67,7 +66,7 @@ impl Play<Journal, View> for Compares {
 /// The writer begins totals.
 pub struct Begins;
 
-impl Play<Journal, View> for Begins {
+impl Play<(), View> for Begins {
     ghost use Rattle.sdr_board.specs.Plays.{Beginning};
 
     ghost then = { λ step. Beginning };
@@ -76,19 +75,35 @@ impl Play<Journal, View> for Begins {
 /// The writer writes one word.
 pub struct Writes;
 
-impl Play<Journal, View> for Writes {
+impl Play<(), View> for Writes {
     ghost use Rattle.sdr_board.specs.Plays.{Writing};
 
     ghost then = { λ step. Writing };
 }
 
-/// The writer publishes.
-pub struct Ends;
+/// Names a journal. Each call that publishes one picks it.
+pub trait Naming {
+    ghost use Rattle.std.specs.Prelude.{List};
+    ghost use Rattle.sdr_model.specs.declared.journal.Entry.{Entry};
 
-impl Play<Journal, View> for Ends {
+    ghost journal: { List Entry };
+}
+
+impl Naming for Brand {
+    ghost use Rattle.std.specs.Prelude.{[]};
+
+    ghost journal = { [] };
+}
+
+/// The writer has published the journal that is named.
+pub struct Ends<N: Naming> {
+    of: PhantomData<N>,
+}
+
+impl<N: Naming> Play<(), View> for Ends<N> {
     ghost use Rattle.sdr_board.specs.Plays.{Ending};
 
-    ghost then = { Ending };
+    ghost then = { λ step. Ending N.journal };
 }
 
 /// A reader is split off the writer, and told what that published; and a reader is told what another has seen.

@@ -1,4 +1,3 @@
-pub mod AtLockLemmas
 pub mod AwardedRow
 pub mod BundleRow
 pub mod ComingLemmas

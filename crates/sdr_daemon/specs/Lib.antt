@@ -1,4 +1,3 @@
-pub mod AtLock
 pub mod Coming
 pub mod Drawing
 pub mod Progressing

@@ -1,5 +1,6 @@
 // A core, and the progress of its daemons in their scripts.
 ghost use Rattle.std.specs.Prelude.{◌≡◌, ◌<◌, ◌≤◌, false, is_some, length, map, not, true};
+ghost use mathlib.Core.List.{IsPrefix};
 ghost use Rattle.sdr_core.specs.CoreKept.{IsRunOf, KeepsRun};
 ghost use Rattle.sdr_core.specs.Numbers.{numbers_done};
 ghost use Rattle.sdr_daemon.specs.Coming.{coming_at, is_over};
@@ -137,6 +138,13 @@ impl<T: Tells, J: Origin, S: Scripted> ScriptedRun<T, J, S> {
         }
     }
 
+    /// The entries so far.
+    pub fn journal(&self) -> &[Entry]
+        ensures { result.now ≡ self.now.core.log.journal }
+    {
+        self.core.journal()
+    }
+
     /// What the daemon at a place does in its next turn, if memory isn't wanting there. The call takes no memory. Where nothing comes, a
     /// leave is among the entries of the daemon at that place (`left`). All numbers that were drawn are done (`done`).
     pub fn coming(&self, place: usize) -> Coming
@@ -157,6 +165,7 @@ impl<T: Tells, J: Origin, S: Scripted> ScriptedRun<T, J, S> {
         ensures gone { is_gone place self.old ≡ true → self.new ≡ self.old }
         ensures turns { is_gone place self.old ≡ false →
             TurnsAt J.begins S.script place self.old self.new }
+        ensures grows { IsPrefix self.old.core.log.journal self.new.core.log.journal }
     {
         if self.is_gone(place) {
             return;
@@ -245,21 +254,29 @@ impl<T: Tells, J: Origin, S: Scripted> ScriptedRun<T, J, S> {
             .all(|own| roll.has_left(own.daemon))
     }
 
-    /// The daemons take turns, one after another, until all have left. The gate is called before each begin, look and leave. No
-    /// clause says that it returns.
+    // Each daemon takes a turn, unless it has left.
+    fn turn_each<G: Gate>(&mut self, gate: &G)
+        ensures { IsPrefix self.old.core.log.journal self.new.core.log.journal }
+    {
+        for place in 0..self.places() {
+            if let Coming::Comes { daemon, line } = self.coming(place) {
+                gate.before(daemon, line);
+            }
+            self.turn(place);
+        }
+    }
+
+    /// The daemons take turns, one after another, until all have left. The gate is called before each begin, look and leave. The
+    /// journal only grows. No clause says that it returns.
     pub fn take_turns<R: Wait, G: Gate>(&mut self, rt: &R, gate: &G)
         ensures left { have_left self.new.core.lock.roll self.new.progress ≡ true }
+        ensures grows { IsPrefix self.old.core.log.journal self.new.core.log.journal }
     {
         for _ in rt.forever() {
             if self.all_left() {
                 return;
             }
-            for place in 0..self.places() {
-                if let Coming::Comes { daemon, line } = self.coming(place) {
-                    gate.before(daemon, line);
-                }
-                self.turn(place);
-            }
+            self.turn_each(gate);
         }
         unreachable!()
     }

@@ -5,11 +5,9 @@ use Rattle.std.specs.Io.KnownBytes.{Appends}
 use Rattle.sdr_base.proofs.WrittenLemmas.{rose_later}
 use Rattle.sdr_base.specs.Causes.{Rose}
 use Rattle.sdr_base.specs.Written.{AppendsPart}
-use Rattle.sdr_core.specs.CoreKept.{RunStart, LoggedLock}
+use Rattle.sdr_core.specs.CoreKept.{RunStart}
 use Rattle.sdr_core.specs.Going.{GoesUnasked, MakesNext, NextCore, media_of}
-use Rattle.sdr_core.specs.Leaving.{LastsOn}
 use Rattle.sdr_core.specs.declared.has_run.HasRun.{Ghosts as RunGhosts}
-use Rattle.sdr_daemon.specs.Progressing.{IsFresh}
 use Rattle.sdr_core.proofs.CausedLemmas.{caused_by, caused_later, caused_more, failed_refl, stayed_by}
 use Rattle.sdr_run.proofs.ScheduleLemmas.{bindings_after-push, follows-push, outside_along-push, run_text-push, runs-push}
 use Rattle.sdr_core.specs.Caused.{IsCaused, from_to}
@@ -18,7 +16,6 @@ use Rattle.sdr_machine.specs.Asked.{outside_asked}
 use Rattle.sdr_machine.specs.Core.{Core, CoreStep}
 use Rattle.sdr_machine.specs.Leaving.{AllLeave}
 use Rattle.sdr_machine.specs.Machine.{Made}
-use Rattle.sdr_machine.specs.Roll.{first_roll}
 use Rattle.sdr_machine.specs.declared.came.Came.{Came}
 use Rattle.sdr_machine.specs.declared.has_ground.HasGround.{Ghosts}
 use Rattle.sdr_model.specs.declared.answer.Answer.{Answer}
@@ -61,16 +58,6 @@ pub printed_none : (p : Bool) (old : Output) (line : List ℕ) → p ≡ false �
 printed_none p old line is =
     subst (λ (b : Bool). PrintsMore b b old old line) (sym is)
     (λ first text below printed. (printed.0, part_more first.taken old.taken text line printed.1))
-
--- a core for daemons in threads, before any event
-pub fresh_core : {T : Type 0} (g : Ghosts T) (b : RunStart) (daemons : List ℕ) (base : T) (k : LoggedLock T) → daemons ≡ b.daemons → LastsOn g base
-    → k ≡ record { lock = record { roll = first_roll daemons; base = base }; log = record { works = []; journal = [] } } → IsFresh g b k
-fresh_core {T} g b daemons base k named lasts made = record {
-  roll = ap (λ (x : LoggedLock T). x.lock.roll) made ∙ ap first_roll named;
-  works = ap (λ (x : LoggedLock T). x.log.works) made;
-  journal = ap (λ (x : LoggedLock T). x.log.journal) made;
-  lasts = subst (λ (x : T). LastsOn g x) (sym (ap (λ (x : LoggedLock T). x.lock.base) made)) lasts;
-}
 
 -- nothing was made yet
 pub running_start : {R : Type 0} (r : RunGhosts R) (now : R) (first : Core) (script : List ScriptStep) (out : Output) → r.at now first

@@ -9,8 +9,6 @@ use Rattle.sdr_disk.specs.Told.{Both, IfTold}
 use Rattle.sdr_disk.specs.declared.disk.Disk.{Ghosts as DiskGhosts}
 use Rattle.sdr_core.specs.Caused.{EntriesAreCaused, SeenMedia, from_to, seen_media}
 use Rattle.sdr_words.specs.Daemons.{daemons_of}
-use Rattle.sdr_daemon.specs.Scripts.{KeepsToScripts}
-use Rattle.sdr_daemon.specs.declared.running.RanDaemons.{RanDaemons}
 use Rattle.sdr_image.specs.Opening.{MayBeOpened}
 use Rattle.sdr_machine.specs.Ground.{State}
 use Rattle.sdr_machine.specs.Legal.{IsLegal}
@@ -21,7 +19,6 @@ use Rattle.sdr_log.specs.Log.{put_back_of}
 use Rattle.sdr_log.specs.Logged.{GivesSame}
 use Rattle.sdr_model.specs.declared.journal.Entry.{Entry}
 use Rattle.sdr_model.specs.declared.script.ScriptStep.{ScriptStep}
-use Rattle.sdr_run.specs.Daemons.{RunsDaemons, RunsOn, RunsOnGround}
 use Rattle.sdr_run.specs.Handed.{HandedDisk, StaysAsHanded, handed_as}
 use Rattle.sdr_run.specs.Opening.{OpenedSo}
 use Rattle.sdr_run.specs.Playing.{Output}
@@ -199,7 +196,7 @@ module _ {D M : Type 0} (d : DiskGhosts D) (m : MediaGhosts M) (disk : D) (files
         subst (λ (w : HandedDisk). BeginsOn (ground_of d m condition) (begins_on m w script g) (daemons_of script) g) (sym handed) begins_now
 
     -- it was run on the heap, and left a disk that is as long and tells its bytes if it did
-    ran_opened : (journal : List Entry) (base : Grounded D M) (left : D) (P : State → Type 0)
+    pub ran_opened : (journal : List Entry) (base : Grounded D M) (left : D) (P : State → Type 0)
         → IsRunOf (ground_of d m condition) (begins_on m was script g) journal base → left ≡ base.heap.cells.disk → d.size left ≡ was.size
         → StaysAsHanded was.bytes (d.bytes left) base.heap.cells.frame → d.moment left ≡ base.moment → P (first_on g)
         → RanOn d m (daemons_of script) disk left files journal P
@@ -214,7 +211,7 @@ module _ {D M : Type 0} (d : DiskGhosts D) (m : MediaGhosts M) (disk : D) (files
         (subst (λ (x : D). d.moment x ≡ base.moment) on seen) tells
 
     -- what media show
-    abbrev shows : M → SeenMedia
+    abbrev pub shows : M → SeenMedia
     shows = seen_media m.told m.faults m.short
 
     -- what a schedule has come to
@@ -234,21 +231,3 @@ module _ {D M : Type 0} (d : DiskGhosts D) (m : MediaGhosts M) (disk : D) (files
               (subst (λ (x : M). RunsScript (from_to (shows g.media) (shows x)) (first_on g) script out out' came) (sym media_is) plays.replays));
           failed = plays.failed;
         })
-
-    -- what daemons have come to
-    pub daemons_ran : (ran : RanDaemons (Grounded D M)) (now : D × M)
-        → RunsOnGround (ground_of d m condition) (begins_on m was script g) script ran → now.0 ≡ ran.base.heap.cells.disk → d.size now.0 ≡ was.size
-        → StaysAsHanded was.bytes (d.bytes now.0) ran.base.heap.cells.frame → d.moment now.0 ≡ ran.base.moment → now.1 ≡ ran.base.media
-        → RunsOn d m disk files script (record { journal = ran.journal; base = now; failed = ran.failed; starved = ran.starved })
-    daemons_ran ran now out on size stays seen media_is =
-        record {
-          on_heap = ran_opened ran.journal ran.base now.0 (λ first. RunsDaemons (from_to (shows files) (shows now.1)) first script ran.journal ran.starved)
-              out.run on size stays seen
-              (record {
-                keeps = subst (λ (x : M). KeepsToScripts (m.told x) (first_on g) script ran.journal) o.with_media out.keeps;
-                caused = subst (λ (x : M). EntriesAreCaused ran.journal (from_to (shows x) (shows now.1))) o.with_media
-                    (subst (λ (x : M). EntriesAreCaused ran.journal (from_to (shows g.media) (shows x))) (sym media_is) out.run.caused);
-                wanting = out.wanting;
-              });
-          failed = out.failed;
-        }

@@ -7,7 +7,6 @@ pub mod Handed
 pub mod Playing
 pub mod Recording
 pub mod Replaying
-pub mod Daemons
 pub mod Opening
 pub mod Running
 pub mod Settled

@@ -1,5 +1,4 @@
-//! A script that runs, answer by answer: in memory (`dry`), or on the heap of a disk (`replay`); or each daemon's lines in a
-//! thread, on the heap of a disk (`run_daemons`).
+//! A script that runs, answer by answer: in memory (`dry`), or on the heap of a disk (`replay`).
 //!
 //! 1. Each step is an event of a daemon, under what the names hold, and its answer is printed as it is
 //!    made. Where the output fails, nothing more is printed, and the run goes on.
@@ -13,23 +12,21 @@
 //! 6. `replay` opens the heap of a disk and plays on it, with the media that its sources name. At each
 //!    moment of the call a crash leaves the state after some first entries, and all that are done, where the disk was settled as it was
 //!    handed in. All else holds for every disk. The media come back with the disk.
-//! 7. `run_daemons` opens the heap in the same way, and runs the daemons that the script names on it, at one lock.
+//! 7. Whoever runs daemons in threads opens the heap in the same way (`open_handed`, `HandedGround`).
 //!
 //! Proved: `play`: the steps are made in order, their answers printed, and all daemons leave, by one run of the machine (`Plays`). `dry`
-//! prints the text of such a run from the empty world, whole, or a part from the front if the sink failed, or that of some first steps if it
-//! ran out of memory. In it media are asked at most once for each extent that lies with them and of which a call that is made needs
-//! bytes, whatever it comes to (`IsDry`). `replay`: the printed
-//! answers and the journal are those of one run of the script on the heap that was opened (`ReplaysOn`), for every disk. `run_daemons`: the
-//! journal keeps to the scripts, and the answers in it that blame media are caused (`RunsOn`). Of both (`RanOn`): the journal is legal. If the
-//! disk was settled (`IsSettled`), a crash at any moment of the call leaves a disk that opens to the state after some first entries, all done
-//! ones among them (`any_moment`, `LeavesJournal`). Each entry is begun and done between the begin of the call and its return (`in_time`).
-//! No byte outside the regions changes (`outside`). A settled disk on whose heap no entry failed is settled again (`settled`), and so is one
-//! whose heap wasn't opened, unless it failed as its recovery closed the first gate (`again`).
+//! prints the text of such a run from the empty world, whole, or a part from the front if the sink failed, or that of some first steps if
+//! it ran out of memory. In it media are asked at most once for each extent that lies with them and of which a call that is made needs
+//! bytes, whatever it comes to (`IsDry`). `replay`: the printed answers and the journal are those of one run of the script on the heap that
+//! was opened (`ReplaysOn`), for every disk. Of any run on a heap (`RanOn`): the journal is legal. If the disk was settled (`IsSettled`), a
+//! crash at any moment of the call leaves a disk that opens to the state after some first entries, all done ones among them (`any_moment`,
+//! `LeavesJournal`). Each entry is begun and done between the begin of the call and its return (`in_time`). No byte outside the regions
+//! changes (`outside`). A settled disk on whose heap no entry failed is settled again (`settled`), and so is one whose heap wasn't opened,
+//! unless it failed as its recovery closed the first gate (`again`).
 //!
 //! Only tested: each call's answers (`tests/cases`).
 #![tactic(auto)]
 
-mod daemons;
 mod drying;
 mod handed;
 mod handed_ground;
@@ -40,9 +37,10 @@ mod replaying;
 mod sending;
 mod steps;
 
-pub use daemons::run_daemons;
 pub use drying::{DryRun, dry};
 pub use handed::{Handed, HandedIn};
+pub use handed_ground::HandedGround;
+pub use opening::{open_handed, shut_unrun};
 pub use playing::{Played, play};
 pub use recording::{Ran, play_recorded};
 pub use replaying::replay;

@@ -1,5 +1,5 @@
 -- What is answered to words of a form follows from what the form answers.
-use Rattle.std.proofs.Common.{◌≡◌, ◌≤◌, ◌+◌, ℕ, [], Option, None, Some, IfSome, length, is_some, refl, sym, ap, subst, inl, inr, true≢false, arith}
+use Rattle.std.proofs.Common.{◌≡◌, ◌≤◌, ◌+◌, ℕ, Bool, [], Option, None, Some, IfSome, length, is_some, refl, sym, ap, subst, inl, inr, true≢false, arith}
 use Rattle.std.specs.Prelude.{codes}
 use Rattle.sdr_base.specs.declared.media.Media.{Ghosts as MediaGhosts}
 use Rattle.sdr_base.specs.declared.sink.Sink.{Ghosts as SinkGhosts}
@@ -19,7 +19,7 @@ use Rattle.sdr_shell.specs.Answers.{AnswersDry, AnswersFormat, Seen, Wrote, chan
 use Rattle.sdr_shell.specs.Formatting.{HasFormatted, IsFormatStatus, LeavesDisk}
 use Rattle.sdr_shell.specs.Inspecting.{AnswersInspect}
 use Rattle.sdr_shell.specs.Recovering.{AnswersRecover}
-use Rattle.sdr_shell.specs.Running.{PrintsJournal}
+use Rattle.sdr_shell.specs.Running.{AnswersRun, PrintsJournal}
 use Rattle.sdr_shell.specs.Still.{IsDryStatus}
 use Rattle.sdr_shell.specs.Telling.{AnswersInput}
 use Rattle.sdr_shell.specs.Words.{AnswersForm}
@@ -100,7 +100,7 @@ module _ {D M S K : Type 0} (d : DiskGhosts D) (m : MediaGhosts M) (s : SourceGh
     counts = (omega arith, later, omega arith, omega arith);
     each = reads_none (s.left input) (s.reads input);
     replay = λ is. absurd (cc);
-    run = λ is. absurd (cc);
+    run = λ totals is. absurd (cc);
     recover = λ is. absurd (cc);
     inspect = λ is. absurd (cc);
     given = λ _ _. refl;
@@ -125,7 +125,7 @@ module _ {D M S K : Type 0} (d : DiskGhosts D) (m : MediaGhosts M) (s : SourceGh
     counts = (later.0, later.1, omega arith, reads);
     each = each;
     replay = λ is. absurd (cc);
-    run = λ is. absurd (cc);
+    run = λ totals is. absurd (cc);
     recover = λ is. absurd (cc);
     inspect = λ is. absurd (cc);
     given = λ _ _. refl;
@@ -152,7 +152,7 @@ module _ {D M S K : Type 0} (d : DiskGhosts D) (m : MediaGhosts M) (s : SourceGh
     counts = (omega arith, later.1, later.0, omega arith);
     each = reads_none (s.left input) (s.reads input);
     replay = λ is. absurd (cc);
-    run = λ is. absurd (cc);
+    run = λ totals is. absurd (cc);
     recover = λ is. absurd (cc);
     inspect = λ is. absurd (cc);
     given = λ _ _. refl;
@@ -179,7 +179,7 @@ module _ {D M S K : Type 0} (d : DiskGhosts D) (m : MediaGhosts M) (s : SourceGh
         counts = (e.later.0, e.later.1, e.later.2, e.reads);
         each = e.each;
         replay = λ is. e.answers;
-        run = λ is. absurd (cc);
+        run = λ totals is. absurd (cc);
         recover = λ is. absurd (cc);
         inspect = λ is. absurd (cc);
         given = λ other _. absurd (other refl);
@@ -189,12 +189,12 @@ module _ {D M S K : Type 0} (d : DiskGhosts D) (m : MediaGhosts M) (s : SourceGh
         told = (e.keeps.tells, e.keeps.size);
       }
 
-  -- to `run`
-  pub answers_run : (r : RunOutcome D M) → AnswersInput d m s k PrintsJournal disk files input input' output output' r
-      → AnswersForm d m s k (Some forms.Run) disk files input input' output output' r
-  answers_run r e =
+  -- to `run`, with totals or without
+  pub answers_run : (with_totals : Bool) (r : RunOutcome D M) → AnswersInput d m s k (PrintsJournal with_totals) disk files input input' output output' r
+      → AnswersForm d m s k (Some (forms.Run with_totals)) disk files input input' output output' r
+  answers_run with_totals r e =
       let never : r.status ≡ USAGE → ⊥ =
-      heap_run.never_usage d m PrintsJournal heap_run.run_tells (source input) (source input') (sink output) (sink output') disk r.disk files r.media r.journal
+      heap_run.never_usage d m (PrintsJournal with_totals) (heap_run.run_tells with_totals) (source input) (source input') (sink output) (sink output') disk r.disk files r.media r.journal
       r.status e.answers.comes in
       record {
         usage = (λ is. absurd (never is), λ none. absurd (cc));
@@ -206,12 +206,15 @@ module _ {D M S K : Type 0} (d : DiskGhosts D) (m : MediaGhosts M) (s : SourceGh
         counts = (e.later.0, e.later.1, e.later.2, e.reads);
         each = e.each;
         replay = λ is. absurd (cc);
-        run = λ is. e.answers;
+        run = λ totals is.
+            let same : with_totals ≡ totals = cc is in
+            subst (λ (b : Bool). AnswersRun b d m r.status (source input) (source input') disk r.disk files r.media r.journal (sink output) (sink output')) same
+            e.answers;
         recover = λ is. absurd (cc);
         inspect = λ is. absurd (cc);
-        given = λ _ other. absurd (other refl);
+        given = λ _ other. absurd (true≢false other);
         media = e.media;
-        unread = λ _ _ other. absurd (other refl);
+        unread = λ _ _ other. absurd (true≢false other);
         same = λ opens. absurd (true≢false opens);
         told = (e.keeps.tells, e.keeps.size);
       }
@@ -233,7 +236,7 @@ module _ {D M S K : Type 0} (d : DiskGhosts D) (m : MediaGhosts M) (s : SourceGh
         counts = (omega arith, later.0, later.1, omega arith);
         each = reads_none (s.left input) (s.reads input);
         replay = λ is. absurd (cc);
-        run = λ is. absurd (cc);
+        run = λ totals is. absurd (cc);
         recover = λ is. (refl, answers);
         inspect = λ is. absurd (cc);
         given = λ _ _. refl;
@@ -260,7 +263,7 @@ module _ {D M S K : Type 0} (d : DiskGhosts D) (m : MediaGhosts M) (s : SourceGh
         counts = (omega arith, later.0, later.1, omega arith);
         each = reads_none (s.left input) (s.reads input);
         replay = λ is. absurd (cc);
-        run = λ is. absurd (cc);
+        run = λ totals is. absurd (cc);
         recover = λ is. absurd (cc);
         inspect = λ is. (refl, answers);
         given = λ _ _. refl;

@@ -1,12 +1,12 @@
 -- Which form `live` and `still` answer.
-use Rattle.std.proofs.Common.{◌≡◌, List, [], ◌∷◌, ℕ, Bool, true, false, Option, None, Some, refl, sym, subst, true≢false}
+use Rattle.std.proofs.Common.{◌≡◌, ◌&&◌, List, [], ◌∷◌, ℕ, Bool, true, false, Option, None, Some, ap, refl, sym, subst, true≢false}
 use Rattle.std.specs.Prelude.{codes, nat_eq, if◌then◌else◌}
 use Rattle.std.specs.Cmp.Lexicographic.{bytes_decides, pointwise}
 use Rattle.std.specs.Rc.{rc_str_bytes}
 use Rattle.std.specs.declared.alloc.Global.{Global}
 use Rattle.std.specs.declared.rc.RcStr.{RcStr}
 use Rattle.sdr_log.specs.declared.frame.Frame.{Frame}
-use Rattle.sdr_shell.specs.Form.{asks_live, form_of, format_of, is_live, is_word, live_form, still_form}
+use Rattle.sdr_shell.specs.Form.{asks_live, form_of, format_of, is_word, live_form, live_totals, still_form}
 use Rattle.sdr_shell.specs.declared.form.Form.{Form}
 use Rattle.sdr_shell.specs.declared.form.Form.TheVariants as forms
 
@@ -17,7 +17,7 @@ run_is_not_format word is =
 
 -- a form that is told first is `run`
 live_first : (first : Bool) (other : Option Form) → first ≡ true
-    → live_form (if first then Some forms.Run else other) ≡ (if first then Some forms.Run else other)
+    → live_form (if first then Some (forms.Run false) else other) ≡ (if first then Some (forms.Run false) else other)
 live_first true other is = refl
 live_first false other is = absurd (true≢false (sym is))
 
@@ -26,19 +26,26 @@ live_none : (later : Bool) (other : Option Form) → later ≡ false → live_fo
 live_none true other is = absurd (true≢false is)
 live_none false other is = refl
 
+-- two words are `run` or no form
+live_two : (first second : Bool)
+    → live_form (if first && second then Some (forms.Run true) else None) ≡ (if first && second then Some (forms.Run true) else None)
+live_two true true = refl
+live_two true false = refl
+live_two false second = refl
+
 -- `live` answers words that are for it by their form
 pub live_words : (words : List (RcStr Global)) → asks_live words ≡ true → live_form (form_of words) ≡ form_of words
 live_words [] is = refl
 live_words (word ∷ []) is = live_first (is_word word (codes "run")) _ is
-live_words (word ∷ second ∷ []) is = refl
+live_words (word ∷ second ∷ []) is = live_two (is_word word (codes "run")) (is_word second (codes "totals"))
 live_words (word ∷ log ∷ heap ∷ []) is = live_none (is_word word (codes "format")) _ (run_is_not_format word is)
 live_words (word ∷ second ∷ third ∷ fourth ∷ words) is = refl
 
 -- no other form of one word is `run`
 still_first : (first dry replay recover inspect : Bool) → first ≡ false
-    → still_form (if first then Some forms.Run else (if dry then Some forms.Dry else (if replay then Some forms.Replay
+    → still_form (if first then Some (forms.Run false) else (if dry then Some forms.Dry else (if replay then Some forms.Replay
     else (if recover then Some forms.Recover else (if inspect then Some forms.Inspect else None)))))
-    ≡ (if first then Some forms.Run else (if dry then Some forms.Dry else (if replay then Some forms.Replay
+    ≡ (if first then Some (forms.Run false) else (if dry then Some forms.Dry else (if replay then Some forms.Replay
     else (if recover then Some forms.Recover else (if inspect then Some forms.Inspect else None)))))
 still_first true dry replay recover inspect is = absurd (true≢false is)
 still_first false true replay recover inspect is = refl
@@ -46,6 +53,12 @@ still_first false false true recover inspect is = refl
 still_first false false false true inspect is = refl
 still_first false false false false true is = refl
 still_first false false false false false is = refl
+
+-- nor one of two
+still_two : (first second : Bool) → first ≡ false
+    → still_form (if first && second then Some (forms.Run true) else None) ≡ (if first && second then Some (forms.Run true) else None)
+still_two true second is = absurd (true≢false is)
+still_two false second is = refl
 
 -- nor one of three
 still_format : (format : Bool) (frame : Option Frame)
@@ -60,23 +73,23 @@ still_words [] is = refl
 still_words (word ∷ []) is =
     still_first (is_word word (codes "run")) (is_word word (codes "dry")) (is_word word (codes "replay")) (is_word word (codes "recover"))
     (is_word word (codes "inspect")) is
-still_words (word ∷ second ∷ []) is = refl
+still_words (word ∷ second ∷ []) is = still_two (is_word word (codes "run")) (is_word second (codes "totals")) is
 still_words (word ∷ log ∷ heap ∷ []) is = still_format (is_word word (codes "format")) _
 still_words (word ∷ second ∷ third ∷ fourth ∷ words) is = refl
 
 -- the form that is `run` is the one that `live` answers
-pub live_known : (form : Option Form) → is_live form ≡ true → live_form form ≡ Some forms.Run
-live_known (Some forms.Run) is = refl
-live_known (Some forms.Dry) is = absurd (true≢false (sym is))
-live_known (Some forms.Replay) is = absurd (true≢false (sym is))
-live_known (Some forms.Recover) is = absurd (true≢false (sym is))
-live_known (Some forms.Inspect) is = absurd (true≢false (sym is))
-live_known (Some (forms.Format frame)) is = absurd (true≢false (sym is))
-live_known None is = absurd (true≢false (sym is))
+pub live_known : (form : Option Form) (totals : Bool) → live_totals form ≡ Some totals → live_form form ≡ Some (forms.Run totals)
+live_known (Some (forms.Run asked)) totals is = ap (λ (b : Bool). Some (forms.Run b)) (cc is)
+live_known (Some forms.Dry) totals is = absurd (cc is)
+live_known (Some forms.Replay) totals is = absurd (cc is)
+live_known (Some forms.Recover) totals is = absurd (cc is)
+live_known (Some forms.Inspect) totals is = absurd (cc is)
+live_known (Some (forms.Format frame)) totals is = absurd (cc is)
+live_known None totals is = absurd (cc is)
 
 -- and there is no other
-pub live_unknown : (form : Option Form) → is_live form ≡ false → live_form form ≡ None
-live_unknown (Some forms.Run) is = absurd (true≢false is)
+pub live_unknown : (form : Option Form) → live_totals form ≡ None → live_form form ≡ None
+live_unknown (Some (forms.Run asked)) is = absurd (cc is)
 live_unknown (Some forms.Dry) is = refl
 live_unknown (Some forms.Replay) is = refl
 live_unknown (Some forms.Recover) is = refl

@@ -1,5 +1,5 @@
 -- What a form answers that runs a script on the heap of the disk follows from what it came to.
-use Rattle.std.proofs.Common.{◌≡◌, ◌≤◌, ◌⊎◌, ℕ, List, ◌++◌, Bool, true, false, not, Some, IsOk, IsErr, refl, sym, subst, inl, inr, arith}
+use Rattle.std.proofs.Common.{◌≡◌, ◌∙◌, ◌≤◌, ◌⊎◌, ℕ, List, ◌++◌, Bool, true, false, not, Some, IsOk, IsErr, ap, append-nil, refl, sym, subst, inl, inr, arith}
 use Rattle.std.specs.Prelude.{codes}
 use Rattle.std.specs.Io.KnownBytes.{Appends, IsAtEnd}
 use Rattle.sdr_stands.specs.Standing.{StandsForWhole}
@@ -7,6 +7,8 @@ use Rattle.sdr_base.specs.Causes.{Rose}
 use Rattle.sdr_base.specs.Pools.{Pools}
 use Rattle.sdr_base.specs.Written.{AppendsPart}
 use Rattle.sdr_base.specs.declared.media.Media.{Ghosts as MediaGhosts}
+use Rattle.sdr_board.specs.Totals.{totals}
+use Rattle.sdr_board.specs.declared.totals.Totals.{Totals}
 use Rattle.sdr_disk.specs.declared.disk.Disk.{Ghosts as DiskGhosts}
 use Rattle.sdr_core.specs.Caused.{MediaChange}
 use Rattle.sdr_machine.specs.Crash.{is_sound}
@@ -15,8 +17,8 @@ use Rattle.sdr_log.specs.Log.{put_back_of}
 use Rattle.sdr_model.specs.World.{World}
 use Rattle.sdr_model.specs.declared.journal.Entry.{Entry}
 use Rattle.sdr_model.specs.declared.script.ScriptStep.{ScriptStep}
-use Rattle.sdr_daemon.specs.declared.running.RanDaemons.{RanDaemons}
-use Rattle.sdr_run.specs.Daemons.{RunsOn}
+use Rattle.sdr_live.specs.declared.daemons.RanTotals.{RanTotals}
+use Rattle.sdr_live.specs.Daemons.{RunsOn}
 use Rattle.sdr_run.specs.Playing.{IsPrinted, ReplaysSteps}
 use Rattle.sdr_run.specs.Replaying.{RanOn}
 use Rattle.sdr_run.specs.Schedule.{run_text}
@@ -24,7 +26,7 @@ use Rattle.sdr_shell.proofs.ShutLemmas.{by_shut, shut_status}
 use Rattle.sdr_shell.proofs.StillLemmas.{none_refused, spells_none, writes_behind}
 use Rattle.sdr_shell.specs.Answers.{Seen, Wrote, change_of, output_of}
 use Rattle.sdr_shell.specs.OnHeap.{AnswersOnHeap, ComesTo, HadOnHeap, HowRun, IsUntouched}
-use Rattle.sdr_shell.specs.Running.{PrintsJournal}
+use Rattle.sdr_shell.specs.Running.{PrintsJournal, line_asked, printed_journal}
 use Rattle.sdr_shell.specs.Telling.{Telling}
 use Rattle.sdr_shell.specs.Still.{NamesBadLine, Tells}
 use Rattle.sdr_shell.specs.declared.status.TheConstants.{DONE, USAGE, INPUT_FAULT, NOT_FORMATTED, DAMAGED, REFUSED_LINE, NO_MEMORY}
@@ -78,23 +80,33 @@ replay_tells = record {
   tells = λ media first script journal starved P h. (run_text h.made, h.printed.1);
 }
 
--- and what is told of daemons that ran
-pub run_tells : TellsText PrintsJournal
-run_tells = record {
-  weaker = λ media first script journal starved P Q more h. record { runs = h.runs; text = more (journal_text journal) h.text };
-  tells = λ media first script journal starved P h. (journal_text journal, h.text);
+-- and what is told of daemons that ran, with totals or without
+pub run_tells : (with_totals : Bool) → TellsText (PrintsJournal with_totals)
+run_tells with_totals = record {
+  weaker = λ media first script journal starved P Q more h. record { runs = h.runs; text = more (printed_journal with_totals journal) h.text };
+  tells = λ media first script journal starved P h. (printed_journal with_totals journal, h.text);
 }
 
--- daemons ran on the heap of the disk, and of the journal's text this was told
-pub ran_printed : {D M : Type 0} (d : DiskGhosts D) (m : MediaGhosts M) (disk : D) (files : M) (script : List ScriptStep) (ran : RanDaemons (D × M))
-    (printing : Bool) (sink mid : Seen) → RunsOn d m disk files script ran → IsPrinted printing (output_of sink) (output_of mid) (journal_text ran.journal)
+-- a journal's text with the line of its totals behind it, where that is asked, is what is printed of the journal
+printed_is : (asked : Bool) (journal : List Entry) → journal_text journal ++ line_asked asked (totals journal) ≡ printed_journal asked journal
+printed_is true journal = refl
+printed_is false journal = append-nil (journal_text journal)
+
+-- daemons ran on the heap of the disk, and of the journal's text, and of the line of its totals where that is asked, this was told
+pub ran_printed : {D M : Type 0} (d : DiskGhosts D) (m : MediaGhosts M) (disk : D) (files : M) (script : List ScriptStep) (ran : RanTotals (D × M))
+    (asked printing : Bool) (sink mid : Seen) → RunsOn d m disk files script ran
+    → IsPrinted printing (output_of sink) (output_of mid) (journal_text ran.journal ++ line_asked asked ran.totals)
     → RanOn d m (daemons_of script) disk ran.base.0 files ran.journal
-    (λ first. PrintsJournal (change_of m files ran.base.1) first script ran.journal ran.starved (IsPrinted printing (output_of sink) (output_of mid)))
-ran_printed d m disk files script ran printing sink mid on printed = record {
+    (λ first. PrintsJournal asked (change_of m files ran.base.1) first script ran.journal ran.starved (IsPrinted printing (output_of sink) (output_of mid)))
+ran_printed d m disk files script ran asked printing sink mid on printed = record {
   ground = on.on_heap.ground;
   with_media = on.on_heap.with_media;
   open_so = on.on_heap.open_so;
-  runs = record { runs = on.on_heap.runs; text = printed };
+  runs = record {
+    runs = on.on_heap.runs;
+    text = subst (λ (text : List ℕ). IsPrinted printing (output_of sink) (output_of mid) text)
+        (ap (λ (t : Totals). journal_text ran.journal ++ line_asked asked t) on.totals_are ∙ printed_is asked ran.journal) printed;
+  };
   legal = on.on_heap.legal;
   leaves = on.on_heap.leaves;
 }

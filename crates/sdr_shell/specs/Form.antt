@@ -1,5 +1,5 @@
 -- The forms that the words of a command line have.
-use Rattle.std.specs.Prelude.{ℕ, Bool, true, false, List, [], ◌∷◌, Option, Some, None, codes, nat_eq, if◌then◌else◌, ⊤}
+use Rattle.std.specs.Prelude.{◌&&◌, ℕ, Bool, true, false, List, [], ◌∷◌, Option, Some, None, codes, nat_eq, if◌then◌else◌, ⊤}
 use Rattle.std.specs.declared.rc.RcStr.{RcStr}
 use Rattle.std.specs.declared.alloc.Global.{Global}
 use Rattle.std.specs.Cmp.Lexicographic.{pointwise}
@@ -31,11 +31,13 @@ is_word word text = pointwise nat_eq (rc_str_bytes word) text
 -- the form that the words are, if they are one
 abbrev pub form_of : List (RcStr Global) → Option Form
 form_of (word ∷ []) =
-    if is_word word (codes "run") then Some forms.Run
+    if is_word word (codes "run") then Some (forms.Run false)
     else (if is_word word (codes "dry") then Some forms.Dry
     else (if is_word word (codes "replay") then Some forms.Replay
     else (if is_word word (codes "recover") then Some forms.Recover
     else (if is_word word (codes "inspect") then Some forms.Inspect else None))))
+form_of (word ∷ more ∷ []) =
+    if is_word word (codes "run") && is_word more (codes "totals") then Some (forms.Run true) else None
 form_of (word ∷ log ∷ heap ∷ []) =
     if is_word word (codes "format")
     then format_of (frame_from (as_number (rc_str_bytes log)) (as_number (rc_str_bytes heap)))
@@ -50,7 +52,7 @@ OnFormat form P = ⊤
 -- whether the form opens the heap of the disk
 abbrev pub opens_heap : Option Form → Bool
 opens_heap (Some forms.Replay) = true
-opens_heap (Some forms.Run) = true
+opens_heap (Some (forms.Run totals)) = true
 opens_heap (Some forms.Recover) = true
 opens_heap (Some forms.Inspect) = true
 opens_heap form = false
@@ -60,17 +62,22 @@ abbrev pub asks_live : List (RcStr Global) → Bool
 asks_live [] = false
 asks_live (word ∷ words) = is_word word (codes "run")
 
--- whether it is the form `run`
+-- whether it is the form `run`, with totals or without
 abbrev pub is_live : Option Form → Bool
-is_live (Some forms.Run) = true
+is_live (Some (forms.Run totals)) = true
 is_live form = false
+
+-- whether totals are asked, where it is the form `run`
+abbrev pub live_totals : Option Form → Option Bool
+live_totals (Some (forms.Run totals)) = Some totals
+live_totals form = None
 
 -- the form that `live` answers: `run`, and no other
 abbrev pub live_form : Option Form → Option Form
-live_form (Some forms.Run) = Some forms.Run
+live_form (Some (forms.Run totals)) = Some (forms.Run totals)
 live_form form = None
 
 -- the form that `still` answers: any, but not `run`
 abbrev pub still_form : Option Form → Option Form
-still_form (Some forms.Run) = None
+still_form (Some (forms.Run totals)) = None
 still_form form = form

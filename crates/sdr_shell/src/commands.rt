@@ -16,11 +16,11 @@ use crate::form::{Form, form_of};
 use crate::formatting::format_disk;
 use crate::inspecting::inspect_disk;
 use crate::last_line::last_line;
-use crate::outcome::without_journal;
+use crate::outcome::{no_form, without_journal};
 use crate::recovering::{Recovered, recover_disk};
 use crate::replaying::{RunEnd, replay_input, tell_ran};
 use crate::status::{
-    DISK_FAULT, DONE, INPUT_FAULT, NO_MEMORY, OUTPUT_FAULT, REFUSED_LINE, TOO_SMALL, USAGE,
+    DISK_FAULT, DONE, INPUT_FAULT, NO_MEMORY, OUTPUT_FAULT, REFUSED_LINE, TOO_SMALL,
 };
 use sdr_base::{Media, Sink, Source};
 use sdr_disk::Disk;
@@ -181,9 +181,7 @@ pub fn still<D: Disk, M: Media, S: Source, K: Sink>(
             let status = format_disk(frame, &mut disk, output);
             without_journal(alloc, status, disk, media)
         }
-        Some(Form::Run) | None => {
-            last_line(output, b"usage\n");
-            without_journal(alloc, USAGE, disk, media)
-        }
+        Some(Form::Run { .. }) => no_form(alloc, disk, media, output),
+        None => no_form(alloc, disk, media, output),
     }
 }

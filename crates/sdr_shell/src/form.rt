@@ -16,8 +16,9 @@ pub enum Form {
     Dry,
     /// `replay`: runs the schedule of the input on the heap of the disk.
     Replay,
-    /// `run`: runs the daemons of the input's scripts on the heap of the disk, each in a thread.
-    Run,
+    /// `run`: runs the daemons of the input's scripts on the heap of the disk, each in a thread. `run totals` prints the totals
+    /// of the journal behind it.
+    Run { totals: bool },
     /// `recover`: puts back the heap of the disk.
     Recover,
     /// `inspect`: prints the world of the heap; the disk is only read.
@@ -50,11 +51,14 @@ pub fn form_of(words: &[RcStr]) -> Option<Form>
     ensures limits { OnFormat result IsInLimits }
 {
     match words {
-        [word] if word.as_str() == "run" => Some(Form::Run),
+        [word] if word.as_str() == "run" => Some(Form::Run { totals: false }),
         [word] if word.as_str() == "dry" => Some(Form::Dry),
         [word] if word.as_str() == "replay" => Some(Form::Replay),
         [word] if word.as_str() == "recover" => Some(Form::Recover),
         [word] if word.as_str() == "inspect" => Some(Form::Inspect),
+        [word, more] if word.as_str() == "run" && more.as_str() == "totals" => {
+            Some(Form::Run { totals: true })
+        }
         [word, log, heap] if word.as_str() == "format" => {
             let frame = frame_of(log.as_bytes(), heap.as_bytes())?;
             Some(Form::Format { frame })

@@ -1,14 +1,12 @@
 // The call that may wait.
 ghost use Rattle.std.specs.Prelude.{◌≡◌};
-ghost use Rattle.sdr_shell.specs.Form.{is_live};
+ghost use Rattle.sdr_shell.specs.Form.{live_totals};
 ghost use Rattle.sdr_shell.specs.Words.{AnswersLive};
 
 use crate::RunOutcome;
 use crate::form::{Form, form_of};
-use crate::last_line::last_line;
-use crate::outcome::without_journal;
+use crate::outcome::no_form;
 use crate::running::run_input;
-use crate::status::USAGE;
 use sdr_base::{Gate, Media, Sink, Source};
 use sdr_disk::Disk;
 use std::alloc::Global;
@@ -16,14 +14,17 @@ use std::rc::RcStr;
 use std::sync::Wait;
 use std::thread::Threads;
 
-// Whether it is the form `run`.
-fn is_live(form: Option<Form>) -> bool
-    ensures { result ≡ is_live form }
+// Whether totals are asked, where it is the form `run`.
+fn live_totals(form: Option<Form>) -> Option<bool>
+    ensures { result ≡ live_totals form }
 {
-    matches!(form, Some(Form::Run))
+    match form {
+        Some(Form::Run { totals }) => Some(totals),
+        _ => None,
+    }
 }
 
-/// Answers the words `run`, with the daemons of the input's scripts in threads, and all other words as words that are no form. It
+/// Answers the words `run` and `run totals`, with the daemons of the input's scripts in threads, and all other words as words that are no form. It
 /// may wait for daemons; what it answers holds if it returns.
 pub fn live<
     R: Threads + Wait + Sync,
@@ -45,9 +46,8 @@ pub fn live<
     ensures { AnswersLive D.Disk M.Media S.Source K.Sink words.now disk media
         input.old input.new output.old output.new result }
 {
-    if is_live(form_of(words)) {
-        return run_input(rt, alloc, disk, media, input, output, gate);
+    match live_totals(form_of(words)) {
+        Some(totals) => run_input(rt, alloc, totals, disk, media, input, output, gate),
+        None => no_form(alloc, disk, media, output),
     }
-    last_line(output, b"usage\n");
-    without_journal(alloc, USAGE, disk, media)
 }

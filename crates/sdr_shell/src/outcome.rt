@@ -1,6 +1,10 @@
 // What the top call gives back.
-ghost use Rattle.std.specs.Prelude.{◌≡◌, []};
+ghost use Rattle.std.specs.Prelude.{◌≡◌, ◌≤◌, [], codes};
+ghost use Rattle.sdr_shell.specs.Answers.{Wrote, seen};
 
+use crate::last_line::last_line;
+use crate::status::USAGE;
+use sdr_base::Sink;
 use sdr_model::Journal;
 use std::alloc::Global;
 
@@ -25,4 +29,15 @@ pub fn without_journal<D, M>(alloc: Global, status: u8, disk: D, media: M) -> Ru
         disk,
         media,
     }
+}
+
+/// Tells that the words are no form. All is given back as it was handed in.
+pub fn no_form<D, M, K: Sink>(alloc: Global, disk: D, media: M, output: &mut K) -> RunOutcome<D, M>
+    ensures outcome { result ≡ record { status = USAGE; journal = []; disk = disk; media = media } }
+    ensures written { Wrote (seen K.taken K.faults output.old) (seen K.taken K.faults output.new)
+        (codes "usage\n") }
+    ensures later { K.faults output.old ≤ K.faults output.new }
+{
+    last_line(output, b"usage\n");
+    without_journal(alloc, USAGE, disk, media)
 }

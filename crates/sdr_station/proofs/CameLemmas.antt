@@ -26,10 +26,10 @@ use Rattle.sdr_model.specs.declared.call.Call.{Call}
 use Rattle.sdr_station.proofs.GivingLemmas.{gives_shown}
 use Rattle.sdr_station.proofs.GroundLemmas.{lapses_of, ground_brought, heap_ground, keeps_read}
 use Rattle.sdr_station.proofs.MediaLemmas.{answered_gap, answered_reads, refused_gap, refused_reads}
-use Rattle.sdr_station.proofs.ServingLemmas.{AsksIn, WorksIn, answers_no_doom, brings_answered, brings_missed, brings_quiet, brings_refused, going_ground, good_in, image_heap, leaves_quiet, no_fault, quiet_of, refused_ground, served_in}
-use Rattle.step_things.specs.Answering.{ComesInEach, IsReady, dooms}
+use Rattle.sdr_station.proofs.ServingLemmas.{AsksIn, WorksIn, answers_no_doom, brings_answered, brings_missed, brings_quiet, brings_refused, going_ground, image_heap, leaves_quiet, no_fault, quiet_of, refused_ground, served_in, stands_in}
+use Rattle.step_things.specs.Answering.{ComesInEach, HeapStands, IsReady, dooms}
 use Rattle.step_calls.specs.Giving.{TellsInEach}
-use Rattle.step_calls.specs.Serving.{IsGood, call_lines}
+use Rattle.step_calls.specs.Serving.{call_lines}
 use Rattle.zco_wire.specs.Asking.{AsksFor}
 use Rattle.zco_wire.specs.Stopping.{KeepsTold, past_media, past_stop}
 use Rattle.sdr_station.specs.Closing.{moves_left}
@@ -220,12 +220,12 @@ module _ {D M : Type 0} (moment : D → ℕ) (old : Grounded D M) (ground : IsGr
       let w = some.holds.now going in
       subst (λ (h : Held (Opened D)). KeepsSome (KeepsRegion h.size h.cells.bytes)) (sym from) (record { pools = w.pools; keeps = w.keeps })
 
-  -- what is of a kind is kept in it
-  pub good_before : IsGood (heap_in before)
-  good_before =
+  -- it stands for a world
+  pub stands_before : HeapStands (heap_in before)
+  stands_before =
       let some = ground.stands (ground.sound going) in
       let w = some.holds.now going in
-      subst (λ (h : Held (Opened D)). IsGood (heap_in h)) (sym from) (good_in old.heap before.spare w)
+      subst (λ (h : Held (Opened D)). HeapStands (heap_in h)) (sym from) (stands_in old.heap before.spare w)
 
   -- no call on it meets a disk fault
   pub faults_never : (faults : D → ℕ) (call : Call) (new : Held (Opened D)) (stop : Stop)

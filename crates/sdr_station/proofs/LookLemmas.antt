@@ -24,8 +24,8 @@ use Rattle.sdr_log.specs.declared.frame.Frame.{Frame}
 use Rattle.sdr_station.proofs.GroundLemmas.{heap_ground}
 use Rattle.sdr_station.proofs.ServingLemmas.{image_heap}
 use Rattle.sdr_station.specs.Grounded.{Grounded, HasStood, HoldsWorld, IsBefore, IsGround, Leaves, StandsAtRest, StandsForBoth, StandsInMemory, StandsWithin, heap_in, HasNoCalls}
-use Rattle.step_zco.proofs.AccountGoodLemmas.{good_of}
-use Rattle.step_zco.specs.AccountAnswering.{IsGood, Sees}
+use Rattle.step_things.specs.Answering.{HeapStands}
+use Rattle.step_zco.specs.AccountAnswering.{Sees}
 
 -- what stands within a transaction holds its world
 within_holds : {D : Type 0} {h : Held (Opened D)} {shown : List ℕ} {s : State} → StandsWithin h shown s → HoldsWorld h s.world
@@ -44,11 +44,11 @@ pub keeps_before_look : {D M : Type 0} (g : Grounded D M) → IsBefore g → Kee
 keeps_before_look g before =
     let h = before.holds before.some.for before.some.holds in record { pools = h.pools; keeps = h.keeps }
 
--- and its queues are kept
-pub queues_before_look : {D M : Type 0} (g : Grounded D M) → IsBefore g → IsGood (heap_in g.heap)
-queues_before_look g before =
+-- and it stands for a world
+pub stands_before_look : {D M : Type 0} (g : Grounded D M) → IsBefore g → HeapStands (heap_in g.heap)
+stands_before_look g before =
     let h = before.holds before.some.for before.some.holds in
-    good_of (heap_in g.heap) before.some.for.before.world h.heap (record { whole = h.whole; fits = h.fits })
+    record { world = before.some.for.before.world; stands = h.heap; ready = record { whole = h.whole; fits = h.fits } }
 
 -- A look that read the heap of a ground.
 module _ {D M T : Type 0} (faults : D → ℕ) (old : Grounded D M) (heap : Held (Opened D)) (result : Result T Stop)

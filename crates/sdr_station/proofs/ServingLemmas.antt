@@ -41,15 +41,14 @@ use Rattle.sdr_model.specs.declared.answer.Reply.TheVariants as replies
 use Rattle.sdr_model.specs.declared.event.Event.TheVariants as events
 use Rattle.step_calls.proofs.DemandLemmas.{asks_more, enough, reading_lines}
 use Rattle.step_calls.proofs.GivingLemmas.{media_lines}
-use Rattle.step_calls.proofs.GoodLemmas.{good_of}
 use Rattle.step_keyed.proofs.NextLemmas.{next_kept}
 use Rattle.sdr_station.proofs.StoodLemmas.{small_in, stood_of}
 use Rattle.sdr_station.proofs.GroundLemmas.{heap_ground}
 use Rattle.sdr_station.proofs.MediaLemmas.{answered_misses, refused_misses}
 use Rattle.sdr_station.specs.CrashNow.{crash_now}
-use Rattle.step_things.specs.Answering.{Aim, Answered, ComesInEach, IsReady, dooms}
+use Rattle.step_things.specs.Answering.{Aim, Answered, ComesInEach, HeapStands, IsReady, dooms}
 use Rattle.step_calls.specs.Giving.{TellsInEach}
-use Rattle.step_calls.specs.Serving.{IsGood, call_lines}
+use Rattle.step_calls.specs.Serving.{call_lines}
 use Rattle.zco_wire.specs.Stopping.{past_media, past_stop}
 use Rattle.sdr_station.specs.Closing.{moves_left}
 use Rattle.sdr_station.specs.Grounded.{Grounded, HasStood, Leaves, StandsAtRest, StandsForBoth, StandsInMemory, StandsWithin, heap_in}
@@ -68,14 +67,16 @@ image_heap faults = record {
 pub served_in : {D : Type 0} {h : Held (Opened D)} {shown : List ℕ} {s : State} → StandsWithin h shown s → IsReady s.world
 served_in w = record { whole = w.whole; fits = w.fits }
 
--- what is of a kind is kept before a call
-pub good_in : {D : Type 0} (h : Held (Opened D)) (spare : ℕ) {shown : List ℕ} {s : State} → StandsWithin h shown s
-    → IsGood (heap_in (record h { moves = []; spare = spare }))
-good_in h spare {shown} {s} w =
+-- so the heap stands for one before a call
+pub stands_in : {D : Type 0} (h : Held (Opened D)) (spare : ℕ) {shown : List ℕ} {s : State} → StandsWithin h shown s
+    → HeapStands (heap_in (record h { moves = []; spare = spare }))
+stands_in h spare {shown} {s} w =
     let stands = w.heap in
-    good_of (heap_in (record h { moves = []; spare = spare })) s.world
-    (record { blocks = stands.blocks; roots = stands.roots; marks = stands.marks }) (served_in w)
-    (small_in (record h { moves = []; spare = spare }) w.keeps)
+    record {
+      world = s.world;
+      stands = record { blocks = stands.blocks; roots = stands.roots; marks = stands.marks };
+      ready = served_in w;
+    }
 
 -- a reply that answers tells of no want of log room
 not_full : (room : ℕ) (d : Demand) (w : World) (call : Call) (reply : Reply) → is_answer reply ≡ true → MayFillLog room d w call reply

@@ -1,3 +1,4 @@
 pub mod Refused
 pub mod Text
 pub mod JournalText
+pub mod TotalsText

@@ -96,7 +96,7 @@ TakesFile word form = (word ≢ codes "-") × (form ≢ forms.Dry)
 -- whether a form runs a script on a disk
 abbrev pub runs_on_disk : Form → Bool
 runs_on_disk forms.Replay = true
-runs_on_disk forms.Run = true
+runs_on_disk (forms.Run totals) = true
 runs_on_disk form = false
 
 -- How a form comes to its status, by the word that names the disk: on an empty disk in memory for `-` and for `dry`, else on a file, and

@@ -20,6 +20,8 @@ puts it back after a power loss.
     sdrtool DISK replay < SCRIPT runs the script on the heap of the disk
     sdrtool DISK run < SCRIPT    runs the daemons of the script side by side on the
                                  heap of the disk, and prints the journal
+    sdrtool DISK run totals < SCRIPT
+                                 the same, and a line of totals behind the journal
     sdrtool DISK inspect         prints the world that the disk keeps: accounts,
                                  tickets, names and things; the disk is only read
     sdrtool DISK recover         puts back what a power loss cut short, and says
@@ -81,6 +83,7 @@ sdrtool: the words are none of these forms:
     sdrtool DISK format L H        L is 2 to 65536, H is 32 to 262144
     sdrtool DISK replay < SCRIPT
     sdrtool DISK run < SCRIPT
+    sdrtool DISK run totals < SCRIPT
     sdrtool DISK inspect
     sdrtool DISK recover
     sdrtool DISK dry < SCRIPT

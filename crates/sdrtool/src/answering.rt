@@ -162,7 +162,7 @@ fn spells_script(alloc: Global, held: &Held) -> Result<bool, ScriptError>
 fn runs_on_disk(form: Form) -> bool
     ensures { result ≡ runs_on_disk form }
 {
-    matches!(form, Form::Replay | Form::Run)
+    matches!(form, Form::Replay | Form::Run { .. })
 }
 
 // The status of a form that runs a script on the file of a path. The input is read whole before the file is opened, and

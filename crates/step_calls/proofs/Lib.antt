@@ -1,4 +1,4 @@
-pub mod GoodLemmas
+pub mod KeptLemmas
 pub mod CutLemmas
 pub mod DemandLemmas
 pub mod GivingLemmas

@@ -1,13 +1,13 @@
 // The answer of each call, with the media that the heap's sources name.
 ghost use Rattle.std.specs.Prelude.{◌≡◌, ◌≤◌, ◌+◌, ◌/◌, [], false};
-ghost use Rattle.step_things.specs.Answering.{ComesInEach, IsReady, LeavesLines};
+ghost use Rattle.step_things.specs.Answering.{ComesInEach, HeapStands, IsReady, LeavesLines};
 ghost use Rattle.sdr_stands.specs.Standing.{HeapStandsFor};
 ghost use Rattle.sdr_base.specs.Moves.{KeepsSome};
 ghost use Rattle.sdr_base.specs.Works.{Spends};
 ghost use Rattle.sdr_model.specs.Fields.{FitsCall};
 ghost use Rattle.sdr_model.specs.World.{World};
 ghost use Rattle.step_calls.specs.Giving.{TellsInEach};
-ghost use Rattle.step_calls.specs.Serving.{IsGood, call_lines};
+ghost use Rattle.step_calls.specs.Serving.{call_lines};
 ghost use Rattle.step_zco_parts.specs.Giving.{AsksInEach, may_read};
 ghost use Rattle.zco_wire.specs.Stopping.{KeepsTold, past_media};
 
@@ -30,7 +30,7 @@ pub fn answer<O: Objects, M: Media, F: Notify>(
 ) -> Result<Reply, Stop>
     requires kept { KeepsSome (O.keeps o.old) }
     requires room { (O.heap o.old).size / 4 + 4 ≤ (O.heap o.old).spare }
-    requires good { IsGood (O.heap o.old) }
+    requires stands { HeapStands (O.heap o.old) }
     requires unmoved { (O.heap o.old).moves ≡ [] }
     ensures comes { ComesInEach call.now (O.heap o.old) (O.heap o.new) page.old page.new result }
     ensures works { (w : World) → HeapStandsFor (O.heap o.old) w → IsReady w →

@@ -2,8 +2,8 @@
 //!
 //! 1. Each call is a step of the machine on the world that the blocks stand for. Those that ask an object's bytes read media, and no
 //!    other does.
-//! 2. What is of a kind is kept wherever a heap stands for a world in which calls are served, and a call that its row answers
-//!    touches no more lines than its transaction may by what it has asked.
+//! 2. What the functions below ask of a heap holds wherever it stands for a world in which calls are served, and a call that its row
+//!    answers touches no more lines than its transaction may by what it has asked.
 //!
 //! Proved: `answer`: each call, on blocks that stand for a whole world, is a step of the machine (`comes`), or is
 //! refused as its row has it, or for want of a block or of log room. It touches at most the lines of `call_lines`
@@ -14,8 +14,6 @@
 #![tactic(auto)]
 
 mod answering;
-mod bonding;
-mod cutting;
 mod giving;
 
 pub use giving::answer;

@@ -1,19 +1,19 @@
 // The calls on hashes, as steps of the machine.
-ghost use Rattle.std.specs.Prelude.{[], length, true, ◌*◌, ◌+◌, ◌/◌, ◌≡◌, ◌≤◌};
-ghost use Rattle.step_things.specs.Answering.{ComesInEach, IsGood, LeavesLines, call_lines, is_hash_call};
+ghost use Rattle.std.specs.Prelude.{[], length, ◌*◌, ◌+◌, ◌/◌, ◌≡◌, ◌≤◌};
+ghost use Rattle.step_things.specs.Answering.{ComesInEach};
 ghost use Rattle.sdr_base.specs.Moves.{KeepsSome};
 ghost use Rattle.sdr_base.specs.Works.{Spends};
 ghost use Rattle.sdr_hash.specs.Destroying.{entries_in};
 ghost use Rattle.sdr_hash.specs.Kept.{IsHash};
-ghost use Rattle.sdr_model.specs.Fields.{AreBytes, FitsCall, IsWord};
+ghost use Rattle.sdr_model.specs.Fields.{AreBytes, IsWord};
 ghost use Rattle.sdr_model.specs.declared.call.Call.TheVariants as calls;
 
 use sdr_base::{Addr, Objects, Stop};
-use sdr_model::{Call, Reply};
+use sdr_model::Reply;
 use step_things::Page;
 
-// Makes a hash.
-fn hash<O: Objects>(
+/// Makes a hash.
+pub fn hash<O: Objects>(
     o: &mut O,
     key_length: u64,
     buckets: u64,
@@ -31,8 +31,8 @@ fn hash<O: Objects>(
     Ok(Reply::At { addr })
 }
 
-// Puts a new key with its value into a hash.
-fn insert<O: Objects>(
+/// Puts a new key with its value into a hash.
+pub fn insert<O: Objects>(
     o: &mut O,
     hash: Addr,
     key: &[u8],
@@ -54,8 +54,13 @@ fn insert<O: Objects>(
     Ok(Reply::Done)
 }
 
-// The value of a key.
-fn retrieve<O: Objects>(o: &mut O, hash: Addr, key: &[u8], page: &mut Page) -> Result<Reply, Stop>
+/// The value of a key.
+pub fn retrieve<O: Objects>(
+    o: &mut O,
+    hash: Addr,
+    key: &[u8],
+    page: &mut Page,
+) -> Result<Reply, Stop>
     requires kept { KeepsSome (O.keeps o.old) }
     requires hash { IsHash (O.heap o.old).blocks hash }
     requires unmoved { (O.heap o.old).moves ≡ [] }
@@ -69,8 +74,8 @@ fn retrieve<O: Objects>(o: &mut O, hash: Addr, key: &[u8], page: &mut Page) -> R
     Ok(Reply::Value { value })
 }
 
-// Sets the value of a key.
-fn revise<O: Objects>(
+/// Sets the value of a key.
+pub fn revise<O: Objects>(
     o: &mut O,
     hash: Addr,
     key: &[u8],
@@ -91,8 +96,8 @@ fn revise<O: Objects>(
     Ok(Reply::Done)
 }
 
-// Takes a key out of a hash.
-fn remove<O: Objects>(o: &mut O, hash: Addr, key: &[u8], page: &mut Page) -> Result<Reply, Stop>
+/// Takes a key out of a hash.
+pub fn remove<O: Objects>(o: &mut O, hash: Addr, key: &[u8], page: &mut Page) -> Result<Reply, Stop>
     requires kept { KeepsSome (O.keeps o.old) }
     requires spare { 1 ≤ (O.heap o.old).spare }
     requires hash { IsHash (O.heap o.old).blocks hash }
@@ -106,8 +111,8 @@ fn remove<O: Objects>(o: &mut O, hash: Addr, key: &[u8], page: &mut Page) -> Res
     Ok(Reply::Done)
 }
 
-// How many entries a hash has.
-fn count<O: Objects>(o: &mut O, hash: Addr, page: &mut Page) -> Result<Reply, Stop>
+/// How many entries a hash has.
+pub fn count<O: Objects>(o: &mut O, hash: Addr, page: &mut Page) -> Result<Reply, Stop>
     requires kept { KeepsSome (O.keeps o.old) }
     requires hash { IsHash (O.heap o.old).blocks hash }
     requires unmoved { (O.heap o.old).moves ≡ [] }
@@ -121,8 +126,8 @@ fn count<O: Objects>(o: &mut O, hash: Addr, page: &mut Page) -> Result<Reply, St
     Ok(Reply::Value { value })
 }
 
-// Gives a hash back with its entries.
-fn hash_destroy<O: Objects>(o: &mut O, hash: Addr, page: &mut Page) -> Result<Reply, Stop>
+/// Gives a hash back with its entries.
+pub fn hash_destroy<O: Objects>(o: &mut O, hash: Addr, page: &mut Page) -> Result<Reply, Stop>
     requires kept { KeepsSome (O.keeps o.old) }
     requires spare { (O.heap o.old).size / 4 + 4 ≤ (O.heap o.old).spare }
     requires hash { IsHash (O.heap o.old).blocks hash }
@@ -135,28 +140,4 @@ fn hash_destroy<O: Objects>(o: &mut O, hash: Addr, page: &mut Page) -> Result<Re
     sdr_hash::destroy(o, hash)?;
     page.clear();
     Ok(Reply::Done)
-}
-
-// Answers a call on hashes.
-pub fn answer<O: Objects>(o: &mut O, call: &Call, page: &mut Page) -> Result<Reply, Stop>
-    requires kept { KeepsSome (O.keeps o.old) }
-    requires room { (O.heap o.old).size / 4 + 4 ≤ (O.heap o.old).spare }
-    requires good { IsGood (O.heap o.old) }
-    requires unmoved { (O.heap o.old).moves ≡ [] }
-    requires one { is_hash_call call.now ≡ true }
-    ensures comes { ComesInEach call.now (O.heap o.old) (O.heap o.new) page.old page.new result }
-    ensures works { Spends O.HasHeap (call_lines (O.heap o.old) call.now) o.old o.new result }
-    ensures lines { LeavesLines O.HasHeap call.now o.old o.new }
-    ensures fits { FitsCall call.now }
-{
-    match call {
-        Call::Hash(key_length, buckets) => hash(o, *key_length, *buckets, page),
-        Call::HashInsert(hash, key, value) => insert(o, *hash, key.as_slice(), *value, page),
-        Call::HashRetrieve(hash, key) => retrieve(o, *hash, key.as_slice(), page),
-        Call::HashRevise(hash, key, value) => revise(o, *hash, key.as_slice(), *value, page),
-        Call::HashRemove(hash, key) => remove(o, *hash, key.as_slice(), page),
-        Call::HashCount(hash) => count(o, *hash, page),
-        Call::HashDestroy(hash) => hash_destroy(o, *hash, page),
-        _ => unreachable!(),
-    }
 }

@@ -1,18 +1,18 @@
 // The calls on the catalogue, as steps of the machine.
-ghost use Rattle.std.specs.Prelude.{[], true, ◌+◌, ◌/◌, ◌<◌, ◌^◌, ◌≡◌, ◌≤◌};
-ghost use Rattle.step_things.specs.Answering.{ComesInEach, IsGood, LeavesLines, call_lines, is_name_call};
+ghost use Rattle.std.specs.Prelude.{[], ◌<◌, ◌^◌, ◌≡◌, ◌≤◌};
+ghost use Rattle.step_things.specs.Answering.{ComesInEach};
 ghost use Rattle.sdr_base.specs.Moves.{KeepsSome};
 ghost use Rattle.sdr_base.specs.Works.{Spends};
 ghost use Rattle.sdr_cat.specs.Kept.{SomeNames};
-ghost use Rattle.sdr_model.specs.Fields.{AreBytes, FitsCall, IsWord};
+ghost use Rattle.sdr_model.specs.Fields.{AreBytes, IsWord};
 ghost use Rattle.sdr_model.specs.declared.call.Call.TheVariants as calls;
 
 use sdr_base::{Objects, Stop};
-use sdr_model::{Call, Reply};
+use sdr_model::Reply;
 use step_things::Page;
 
-// Puts a new name at the end of the catalogue.
-fn catlg<O: Objects>(
+/// Puts a new name at the end of the catalogue.
+pub fn catlg<O: Objects>(
     o: &mut O,
     name: &[u8],
     kind: u32,
@@ -35,8 +35,8 @@ fn catlg<O: Objects>(
     Ok(Reply::Done)
 }
 
-// The type and the object of a name.
-fn find<O: Objects>(o: &mut O, name: &[u8], page: &mut Page) -> Result<Reply, Stop>
+/// The type and the object of a name.
+pub fn find<O: Objects>(o: &mut O, name: &[u8], page: &mut Page) -> Result<Reply, Stop>
     requires kept { KeepsSome (O.keeps o.old) }
     requires names { SomeNames (O.heap o.old) }
     requires unmoved { (O.heap o.old).moves ≡ [] }
@@ -53,8 +53,8 @@ fn find<O: Objects>(o: &mut O, name: &[u8], page: &mut Page) -> Result<Reply, St
     })
 }
 
-// Takes a name out of the catalogue.
-fn uncatlg<O: Objects>(o: &mut O, name: &[u8], page: &mut Page) -> Result<Reply, Stop>
+/// Takes a name out of the catalogue.
+pub fn uncatlg<O: Objects>(o: &mut O, name: &[u8], page: &mut Page) -> Result<Reply, Stop>
     requires kept { KeepsSome (O.keeps o.old) }
     requires spare { 1 ≤ (O.heap o.old).spare }
     requires names { SomeNames (O.heap o.old) }
@@ -68,8 +68,8 @@ fn uncatlg<O: Objects>(o: &mut O, name: &[u8], page: &mut Page) -> Result<Reply,
     Ok(Reply::Done)
 }
 
-// The entry at a place, counted from 0.
-fn entry<O: Objects>(o: &mut O, place: u64, page: &mut Page) -> Result<Reply, Stop>
+/// The entry at a place, counted from 0.
+pub fn entry<O: Objects>(o: &mut O, place: u64, page: &mut Page) -> Result<Reply, Stop>
     requires kept { KeepsSome (O.keeps o.old) }
     requires names { SomeNames (O.heap o.old) }
     requires unmoved { (O.heap o.old).moves ≡ [] }
@@ -82,25 +82,4 @@ fn entry<O: Objects>(o: &mut O, place: u64, page: &mut Page) -> Result<Reply, St
     let (count, kind, addr) = sdr_cat::entry(o, place, &mut name)?;
     page.show(&name[..count as usize]);
     Ok(Reply::Named { count, kind, addr })
-}
-
-// Answers a call on the catalogue.
-pub fn answer<O: Objects>(o: &mut O, call: &Call, page: &mut Page) -> Result<Reply, Stop>
-    requires kept { KeepsSome (O.keeps o.old) }
-    requires room { (O.heap o.old).size / 4 + 4 ≤ (O.heap o.old).spare }
-    requires good { IsGood (O.heap o.old) }
-    requires unmoved { (O.heap o.old).moves ≡ [] }
-    requires one { is_name_call call.now ≡ true }
-    ensures comes { ComesInEach call.now (O.heap o.old) (O.heap o.new) page.old page.new result }
-    ensures works { Spends O.HasHeap (call_lines (O.heap o.old) call.now) o.old o.new result }
-    ensures lines { LeavesLines O.HasHeap call.now o.old o.new }
-    ensures fits { FitsCall call.now }
-{
-    match call {
-        Call::Catlg(name, kind, object) => { catlg(o, name.as_slice(), *kind, *object, page) }
-        Call::Find(name) => find(o, name.as_slice(), page),
-        Call::Uncatlg(name) => uncatlg(o, name.as_slice(), page),
-        Call::Entry(place) => entry(o, *place, page),
-        _ => unreachable!(),
-    }
 }

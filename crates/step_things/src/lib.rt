@@ -4,7 +4,7 @@
 //!    their order, and the blocks stand for the world after it; or it is refused, as its row or the want of a block or of log
 //!    room has it.
 //! 2. It touches no more lines than its transaction may by what it has asked.
-//! 3. What a call is on, and how many lines it may touch, stands here for the crates above too.
+//! 3. What such a step is, and when a heap stands for a world in which calls are served, stands here for the crates above too.
 //!
 //! Proved: each call on raw objects (but `free`), strings, lists and tables is a step of the machine on the world that
 //! the blocks stand for (`comes`), within its lines (`works`). Searches and ordered insertions go by the order
@@ -13,15 +13,10 @@
 //! Only tested: each call's answers (`tests/cases`).
 #![tactic(auto)]
 
-mod kinds;
 pub mod lists;
 mod page;
 pub mod raws;
 pub mod strings;
 pub mod tables;
 
-pub use kinds::{
-    is_free_call, is_hash_call, is_list_call, is_name_call, is_raw_call, is_string_call,
-    is_table_call,
-};
 pub use page::{PAGE, Page};

@@ -1,17 +1,17 @@
 // The calls on lists and on their elements, as steps of the machine.
-ghost use Rattle.std.specs.Prelude.{[], true, ◌*◌, ◌+◌, ◌/◌, ◌≡◌, ◌≤◌};
-ghost use Rattle.step_things.specs.Answering.{ComesInEach, IsGood, LeavesLines, call_lines, is_list_call};
+ghost use Rattle.std.specs.Prelude.{[], ◌*◌, ◌+◌, ◌/◌, ◌≡◌, ◌≤◌};
+ghost use Rattle.step_things.specs.Answering.{ComesInEach};
 ghost use Rattle.step_things.specs.Sorting.{Sorts};
 ghost use Rattle.sdr_base.specs.Moves.{KeepsSome};
 ghost use Rattle.sdr_base.specs.Works.{Spends};
 ghost use Rattle.sdr_list.specs.Kept.{IsElement, IsList, elements_in};
-ghost use Rattle.sdr_model.specs.Fields.{FitsCall, IsWord};
+ghost use Rattle.sdr_model.specs.Fields.{IsWord};
 ghost use Rattle.sdr_model.specs.declared.call.Call.TheVariants as calls;
 
 use crate::page::Page;
 use sdr_base::{Addr, Objects, Stop};
 use sdr_list::Collation;
-use sdr_model::{Call, Keys, Reply};
+use sdr_model::{Keys, Reply};
 
 // The order that a call names, with the fact that it is one.
 fn collation(keys: Keys) -> Collation<sdr_list::ListKeys>
@@ -23,8 +23,8 @@ fn collation(keys: Keys) -> Collation<sdr_list::ListKeys>
     }
 }
 
-// Makes a list.
-fn list<O: Objects>(o: &mut O, user: u64, page: &mut Page) -> Result<Reply, Stop>
+/// Makes a list.
+pub fn list<O: Objects>(o: &mut O, user: u64, page: &mut Page) -> Result<Reply, Stop>
     requires kept { KeepsSome (O.keeps o.old) }
     requires spare { 1 ≤ (O.heap o.old).spare }
     requires unmoved { (O.heap o.old).moves ≡ [] }
@@ -37,8 +37,8 @@ fn list<O: Objects>(o: &mut O, user: u64, page: &mut Page) -> Result<Reply, Stop
     Ok(Reply::At { addr })
 }
 
-// Gives a list back with its elements.
-fn list_destroy<O: Objects>(o: &mut O, list: Addr, page: &mut Page) -> Result<Reply, Stop>
+/// Gives a list back with its elements.
+pub fn list_destroy<O: Objects>(o: &mut O, list: Addr, page: &mut Page) -> Result<Reply, Stop>
     requires kept { KeepsSome (O.keeps o.old) }
     requires spare { (O.heap o.old).size / 4 + 4 ≤ (O.heap o.old).spare }
     requires list { IsList (O.heap o.old).blocks list }
@@ -53,8 +53,8 @@ fn list_destroy<O: Objects>(o: &mut O, list: Addr, page: &mut Page) -> Result<Re
     Ok(Reply::Done)
 }
 
-// How many elements a list has.
-fn list_length<O: Objects>(o: &mut O, list: Addr, page: &mut Page) -> Result<Reply, Stop>
+/// How many elements a list has.
+pub fn list_length<O: Objects>(o: &mut O, list: Addr, page: &mut Page) -> Result<Reply, Stop>
     requires kept { KeepsSome (O.keeps o.old) }
     requires list { IsList (O.heap o.old).blocks list }
     requires unmoved { (O.heap o.old).moves ≡ [] }
@@ -68,8 +68,8 @@ fn list_length<O: Objects>(o: &mut O, list: Addr, page: &mut Page) -> Result<Rep
     Ok(Reply::Value { value })
 }
 
-// The user's number of a list.
-fn list_user<O: Objects>(o: &mut O, list: Addr, page: &mut Page) -> Result<Reply, Stop>
+/// The user's number of a list.
+pub fn list_user<O: Objects>(o: &mut O, list: Addr, page: &mut Page) -> Result<Reply, Stop>
     requires kept { KeepsSome (O.keeps o.old) }
     requires list { IsList (O.heap o.old).blocks list }
     requires unmoved { (O.heap o.old).moves ≡ [] }
@@ -83,8 +83,8 @@ fn list_user<O: Objects>(o: &mut O, list: Addr, page: &mut Page) -> Result<Reply
     Ok(Reply::Value { value })
 }
 
-// Sets the user's number of a list.
-fn set_list_user<O: Objects>(
+/// Sets the user's number of a list.
+pub fn set_list_user<O: Objects>(
     o: &mut O,
     list: Addr,
     user: u64,
@@ -103,8 +103,8 @@ fn set_list_user<O: Objects>(
     Ok(Reply::Done)
 }
 
-// Makes a new first element of a list.
-fn insert_first<O: Objects>(
+/// Makes a new first element of a list.
+pub fn insert_first<O: Objects>(
     o: &mut O,
     list: Addr,
     datum: u64,
@@ -124,8 +124,8 @@ fn insert_first<O: Objects>(
     Ok(Reply::At { addr })
 }
 
-// Makes a new last element of a list.
-fn insert_last<O: Objects>(
+/// Makes a new last element of a list.
+pub fn insert_last<O: Objects>(
     o: &mut O,
     list: Addr,
     datum: u64,
@@ -145,8 +145,8 @@ fn insert_last<O: Objects>(
     Ok(Reply::At { addr })
 }
 
-// Makes a new element before another.
-fn insert_before<O: Objects>(
+/// Makes a new element before another.
+pub fn insert_before<O: Objects>(
     o: &mut O,
     element: Addr,
     datum: u64,
@@ -166,8 +166,8 @@ fn insert_before<O: Objects>(
     Ok(Reply::At { addr })
 }
 
-// Makes a new element behind another.
-fn insert_after<O: Objects>(
+/// Makes a new element behind another.
+pub fn insert_after<O: Objects>(
     o: &mut O,
     element: Addr,
     datum: u64,
@@ -187,8 +187,8 @@ fn insert_after<O: Objects>(
     Ok(Reply::At { addr })
 }
 
-// Makes a new element where its key has its place in order.
-fn insert_ordered<O: Objects>(
+/// Makes a new element where its key has its place in order.
+pub fn insert_ordered<O: Objects>(
     o: &mut O,
     list: Addr,
     datum: u64,
@@ -209,8 +209,8 @@ fn insert_ordered<O: Objects>(
     Ok(Reply::At { addr })
 }
 
-// The first element of an equal key.
-fn search<O: Objects>(
+/// The first element of an equal key.
+pub fn search<O: Objects>(
     o: &mut O,
     list: Addr,
     datum: u64,
@@ -230,8 +230,8 @@ fn search<O: Objects>(
     Ok(Reply::At { addr })
 }
 
-// Takes an element out of its list.
-fn delete<O: Objects>(o: &mut O, element: Addr, page: &mut Page) -> Result<Reply, Stop>
+/// Takes an element out of its list.
+pub fn delete<O: Objects>(o: &mut O, element: Addr, page: &mut Page) -> Result<Reply, Stop>
     requires kept { KeepsSome (O.keeps o.old) }
     requires spare { 1 ≤ (O.heap o.old).spare }
     requires element { IsElement (O.heap o.old).blocks element }
@@ -245,8 +245,8 @@ fn delete<O: Objects>(o: &mut O, element: Addr, page: &mut Page) -> Result<Reply
     Ok(Reply::Done)
 }
 
-// The first element of a list.
-fn first<O: Objects>(o: &mut O, list: Addr, page: &mut Page) -> Result<Reply, Stop>
+/// The first element of a list.
+pub fn first<O: Objects>(o: &mut O, list: Addr, page: &mut Page) -> Result<Reply, Stop>
     requires kept { KeepsSome (O.keeps o.old) }
     requires list { IsList (O.heap o.old).blocks list }
     requires unmoved { (O.heap o.old).moves ≡ [] }
@@ -260,8 +260,8 @@ fn first<O: Objects>(o: &mut O, list: Addr, page: &mut Page) -> Result<Reply, St
     Ok(Reply::At { addr })
 }
 
-// The last element of a list.
-fn last<O: Objects>(o: &mut O, list: Addr, page: &mut Page) -> Result<Reply, Stop>
+/// The last element of a list.
+pub fn last<O: Objects>(o: &mut O, list: Addr, page: &mut Page) -> Result<Reply, Stop>
     requires kept { KeepsSome (O.keeps o.old) }
     requires list { IsList (O.heap o.old).blocks list }
     requires unmoved { (O.heap o.old).moves ≡ [] }
@@ -274,8 +274,8 @@ fn last<O: Objects>(o: &mut O, list: Addr, page: &mut Page) -> Result<Reply, Sto
     Ok(Reply::At { addr })
 }
 
-// The element behind another.
-fn next<O: Objects>(o: &mut O, element: Addr, page: &mut Page) -> Result<Reply, Stop>
+/// The element behind another.
+pub fn next<O: Objects>(o: &mut O, element: Addr, page: &mut Page) -> Result<Reply, Stop>
     requires kept { KeepsSome (O.keeps o.old) }
     requires element { IsElement (O.heap o.old).blocks element }
     requires unmoved { (O.heap o.old).moves ≡ [] }
@@ -289,8 +289,8 @@ fn next<O: Objects>(o: &mut O, element: Addr, page: &mut Page) -> Result<Reply, 
     Ok(Reply::At { addr })
 }
 
-// The element before another.
-fn prev<O: Objects>(o: &mut O, element: Addr, page: &mut Page) -> Result<Reply, Stop>
+/// The element before another.
+pub fn prev<O: Objects>(o: &mut O, element: Addr, page: &mut Page) -> Result<Reply, Stop>
     requires kept { KeepsSome (O.keeps o.old) }
     requires element { IsElement (O.heap o.old).blocks element }
     requires unmoved { (O.heap o.old).moves ≡ [] }
@@ -304,8 +304,8 @@ fn prev<O: Objects>(o: &mut O, element: Addr, page: &mut Page) -> Result<Reply, 
     Ok(Reply::At { addr })
 }
 
-// An element's datum.
-fn datum<O: Objects>(o: &mut O, element: Addr, page: &mut Page) -> Result<Reply, Stop>
+/// An element's datum.
+pub fn datum<O: Objects>(o: &mut O, element: Addr, page: &mut Page) -> Result<Reply, Stop>
     requires kept { KeepsSome (O.keeps o.old) }
     requires element { IsElement (O.heap o.old).blocks element }
     requires unmoved { (O.heap o.old).moves ≡ [] }
@@ -319,8 +319,8 @@ fn datum<O: Objects>(o: &mut O, element: Addr, page: &mut Page) -> Result<Reply,
     Ok(Reply::Value { value })
 }
 
-// Sets an element's datum.
-fn set_datum<O: Objects>(
+/// Sets an element's datum.
+pub fn set_datum<O: Objects>(
     o: &mut O,
     element: Addr,
     datum: u64,
@@ -337,39 +337,4 @@ fn set_datum<O: Objects>(
     sdr_list::set_datum(o, element, datum)?;
     page.clear();
     Ok(Reply::Done)
-}
-
-// Answers a call on lists or their elements.
-pub fn answer<O: Objects>(o: &mut O, call: &Call, page: &mut Page) -> Result<Reply, Stop>
-    requires kept { KeepsSome (O.keeps o.old) }
-    requires room { (O.heap o.old).size / 4 + 4 ≤ (O.heap o.old).spare }
-    requires good { IsGood (O.heap o.old) }
-    requires unmoved { (O.heap o.old).moves ≡ [] }
-    requires one { is_list_call call.now ≡ true }
-    ensures comes { ComesInEach call.now (O.heap o.old) (O.heap o.new) page.old page.new result }
-    ensures works { Spends O.HasHeap (call_lines (O.heap o.old) call.now) o.old o.new result }
-    ensures lines { LeavesLines O.HasHeap call.now o.old o.new }
-    ensures fits { FitsCall call.now }
-{
-    match call {
-        Call::List(user) => list(o, *user, page),
-        Call::ListDestroy(list) => list_destroy(o, *list, page),
-        Call::ListLength(list) => list_length(o, *list, page),
-        Call::ListUser(list) => list_user(o, *list, page),
-        Call::SetListUser(list, user) => set_list_user(o, *list, *user, page),
-        Call::InsertFirst(list, datum) => insert_first(o, *list, *datum, page),
-        Call::InsertLast(list, datum) => insert_last(o, *list, *datum, page),
-        Call::InsertBefore(element, datum) => insert_before(o, *element, *datum, page),
-        Call::InsertAfter(element, datum) => insert_after(o, *element, *datum, page),
-        Call::InsertOrdered(list, datum, keys) => { insert_ordered(o, *list, *datum, *keys, page) }
-        Call::Search(list, datum, keys) => search(o, *list, *datum, *keys, page),
-        Call::Delete(element) => delete(o, *element, page),
-        Call::First(list) => first(o, *list, page),
-        Call::Last(list) => last(o, *list, page),
-        Call::Next(element) => next(o, *element, page),
-        Call::Prev(element) => prev(o, *element, page),
-        Call::Datum(element) => datum(o, *element, page),
-        Call::SetDatum(element, datum) => set_datum(o, *element, *datum, page),
-        _ => unreachable!(),
-    }
 }

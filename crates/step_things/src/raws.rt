@@ -1,19 +1,19 @@
 // The calls on raw objects, as steps of the machine.
-ghost use Rattle.std.specs.Prelude.{IfErr, OnOk, [], length, true, ℕ, ◌+◌, ◌/◌, ◌<◌, ◌≡◌, ◌≤◌};
+ghost use Rattle.std.specs.Prelude.{IfErr, OnOk, [], length, ℕ, ◌+◌, ◌/◌, ◌<◌, ◌≡◌, ◌≤◌};
 ghost use Rattle.sdr_base.specs.Moves.{KeepsSome};
 ghost use Rattle.sdr_base.specs.Works.{Looks, Spends};
 ghost use Rattle.sdr_heap.specs.Raw.{HasSourceWord, ReadStops};
-ghost use Rattle.sdr_model.specs.Fields.{AreBytes, FitsCall};
+ghost use Rattle.sdr_model.specs.Fields.{AreBytes};
 ghost use Rattle.sdr_model.specs.declared.call.Call.TheVariants as calls;
-ghost use Rattle.step_things.specs.Answering.{ComesInEach, IsGood, LeavesLines, call_lines, is_raw_call};
+ghost use Rattle.step_things.specs.Answering.{ComesInEach};
 
 use crate::page::{PAGE, Page};
 use sdr_base::limits::LONGEST_READ;
 use sdr_base::{Addr, Kind, Objects, Refusal, Stop, expect_kind};
-use sdr_model::{Call, Reply};
+use sdr_model::Reply;
 
-// Makes a raw object.
-fn malloc<O: Objects>(o: &mut O, bytes: u64, page: &mut Page) -> Result<Reply, Stop>
+/// Makes a raw object.
+pub fn malloc<O: Objects>(o: &mut O, bytes: u64, page: &mut Page) -> Result<Reply, Stop>
     requires kept { KeepsSome (O.keeps o.old) }
     requires spare { 1 ≤ (O.heap o.old).spare }
     requires unmoved { (O.heap o.old).moves ≡ [] }
@@ -26,8 +26,8 @@ fn malloc<O: Objects>(o: &mut O, bytes: u64, page: &mut Page) -> Result<Reply, S
     Ok(Reply::At { addr })
 }
 
-// The length of a thing.
-fn length<O: Objects>(o: &mut O, addr: Addr, page: &mut Page) -> Result<Reply, Stop>
+/// The length of a thing.
+pub fn length<O: Objects>(o: &mut O, addr: Addr, page: &mut Page) -> Result<Reply, Stop>
     requires kept { KeepsSome (O.keeps o.old) }
     requires unmoved { (O.heap o.old).moves ≡ [] }
     ensures comes { ComesInEach (calls.Length addr) (O.heap o.old) (O.heap o.new) page.old page.new
@@ -80,8 +80,8 @@ fn read_into<O: Objects>(
     Ok(Reply::Bytes { count })
 }
 
-// Reads bytes of a raw object from a place on.
-fn read<O: Objects>(
+/// Reads bytes of a raw object from a place on.
+pub fn read<O: Objects>(
     o: &mut O,
     addr: Addr,
     place: u64,
@@ -126,8 +126,8 @@ fn stage_into<O: Objects>(
     Ok(Reply::Bytes { count })
 }
 
-// Reads the first bytes of a raw object, which may be written in this transaction from now on.
-fn stage<O: Objects>(o: &mut O, addr: Addr, count: u64, page: &mut Page) -> Result<Reply, Stop>
+/// Reads the first bytes of a raw object, which may be written in this transaction from now on.
+pub fn stage<O: Objects>(o: &mut O, addr: Addr, count: u64, page: &mut Page) -> Result<Reply, Stop>
     requires kept { KeepsSome (O.keeps o.old) }
     requires whole { HasSourceWord ((O.heap o.old).blocks addr) }
     requires unmoved { (O.heap o.old).moves ≡ [] }
@@ -143,8 +143,8 @@ fn stage<O: Objects>(o: &mut O, addr: Addr, count: u64, page: &mut Page) -> Resu
     stage_into(o, addr, count, &mut bytes[..count as usize], page)
 }
 
-// Writes bytes into a raw object from a place on.
-fn write<O: Objects>(
+/// Writes bytes into a raw object from a place on.
+pub fn write<O: Objects>(
     o: &mut O,
     addr: Addr,
     place: u64,
@@ -162,26 +162,4 @@ fn write<O: Objects>(
     sdr_heap::write(o, addr, place, from)?;
     page.clear();
     Ok(Reply::Done)
-}
-
-// Answers a call on raw objects that leaves their sources alone.
-pub fn answer<O: Objects>(o: &mut O, call: &Call, page: &mut Page) -> Result<Reply, Stop>
-    requires kept { KeepsSome (O.keeps o.old) }
-    requires room { (O.heap o.old).size / 4 + 4 ≤ (O.heap o.old).spare }
-    requires good { IsGood (O.heap o.old) }
-    requires unmoved { (O.heap o.old).moves ≡ [] }
-    requires one { is_raw_call call.now ≡ true }
-    ensures comes { ComesInEach call.now (O.heap o.old) (O.heap o.new) page.old page.new result }
-    ensures works { Spends O.HasHeap (call_lines (O.heap o.old) call.now) o.old o.new result }
-    ensures lines { LeavesLines O.HasHeap call.now o.old o.new }
-    ensures fits { FitsCall call.now }
-{
-    match call {
-        Call::Malloc(bytes) => malloc(o, *bytes, page),
-        Call::Length(addr) => length(o, *addr, page),
-        Call::Read(addr, place, count) => read(o, *addr, *place, *count, page),
-        Call::Write(addr, place, bytes) => write(o, *addr, *place, bytes.as_slice(), page),
-        Call::Stage(addr, count) => stage(o, *addr, *count, page),
-        _ => unreachable!(),
-    }
 }

@@ -1,18 +1,18 @@
 // The calls on tables, as steps of the machine.
-ghost use Rattle.std.specs.Prelude.{[], length, true, ◌*◌, ◌+◌, ◌/◌, ◌≡◌, ◌≤◌};
-ghost use Rattle.step_things.specs.Answering.{ComesInEach, IsGood, LeavesLines, call_lines, is_table_call};
+ghost use Rattle.std.specs.Prelude.{[], length, ◌*◌, ◌+◌, ◌/◌, ◌≡◌, ◌≤◌};
+ghost use Rattle.step_things.specs.Answering.{ComesInEach};
 ghost use Rattle.sdr_base.specs.Moves.{KeepsSome};
 ghost use Rattle.sdr_base.specs.Works.{Spends};
-ghost use Rattle.sdr_model.specs.Fields.{AreBytes, FitsCall, IsWord};
+ghost use Rattle.sdr_model.specs.Fields.{AreBytes, IsWord};
 ghost use Rattle.sdr_model.specs.declared.call.Call.TheVariants as calls;
 ghost use Rattle.sdr_table.specs.Kept.{IsTable};
 
 use crate::{PAGE, Page};
 use sdr_base::{Addr, Objects, Stop};
-use sdr_model::{Call, Reply};
+use sdr_model::Reply;
 
-// Makes a table.
-fn table<O: Objects>(
+/// Makes a table.
+pub fn table<O: Objects>(
     o: &mut O,
     rows: u64,
     size: u64,
@@ -32,8 +32,8 @@ fn table<O: Objects>(
     Ok(Reply::At { addr })
 }
 
-// Reads a row of a table.
-fn row<O: Objects>(o: &mut O, table: Addr, row: u64, page: &mut Page) -> Result<Reply, Stop>
+/// Reads a row of a table.
+pub fn row<O: Objects>(o: &mut O, table: Addr, row: u64, page: &mut Page) -> Result<Reply, Stop>
     requires kept { KeepsSome (O.keeps o.old) }
     requires table { IsTable ((O.heap o.old).blocks table) }
     requires unmoved { (O.heap o.old).moves ≡ [] }
@@ -48,8 +48,8 @@ fn row<O: Objects>(o: &mut O, table: Addr, row: u64, page: &mut Page) -> Result<
     Ok(Reply::Bytes { count })
 }
 
-// Sets a row of a table.
-fn set_row<O: Objects>(
+/// Sets a row of a table.
+pub fn set_row<O: Objects>(
     o: &mut O,
     table: Addr,
     row: u64,
@@ -69,8 +69,8 @@ fn set_row<O: Objects>(
     Ok(Reply::Done)
 }
 
-// How many rows a table has, and the bytes of a row.
-fn dimensions<O: Objects>(o: &mut O, table: Addr, page: &mut Page) -> Result<Reply, Stop>
+/// How many rows a table has, and the bytes of a row.
+pub fn dimensions<O: Objects>(o: &mut O, table: Addr, page: &mut Page) -> Result<Reply, Stop>
     requires kept { KeepsSome (O.keeps o.old) }
     requires table { IsTable ((O.heap o.old).blocks table) }
     requires unmoved { (O.heap o.old).moves ≡ [] }
@@ -84,8 +84,8 @@ fn dimensions<O: Objects>(o: &mut O, table: Addr, page: &mut Page) -> Result<Rep
     Ok(Reply::Pair { first, second })
 }
 
-// The user's number of a table.
-fn table_user<O: Objects>(o: &mut O, table: Addr, page: &mut Page) -> Result<Reply, Stop>
+/// The user's number of a table.
+pub fn table_user<O: Objects>(o: &mut O, table: Addr, page: &mut Page) -> Result<Reply, Stop>
     requires kept { KeepsSome (O.keeps o.old) }
     requires table { IsTable ((O.heap o.old).blocks table) }
     requires unmoved { (O.heap o.old).moves ≡ [] }
@@ -99,8 +99,8 @@ fn table_user<O: Objects>(o: &mut O, table: Addr, page: &mut Page) -> Result<Rep
     Ok(Reply::Value { value })
 }
 
-// Gives a table back.
-fn table_destroy<O: Objects>(o: &mut O, table: Addr, page: &mut Page) -> Result<Reply, Stop>
+/// Gives a table back.
+pub fn table_destroy<O: Objects>(o: &mut O, table: Addr, page: &mut Page) -> Result<Reply, Stop>
     requires kept { KeepsSome (O.keeps o.old) }
     requires spare { 1 ≤ (O.heap o.old).spare }
     requires table { IsTable ((O.heap o.old).blocks table) }
@@ -112,27 +112,4 @@ fn table_destroy<O: Objects>(o: &mut O, table: Addr, page: &mut Page) -> Result<
     sdr_table::destroy(o, table)?;
     page.clear();
     Ok(Reply::Done)
-}
-
-// Answers a call on tables.
-pub fn answer<O: Objects>(o: &mut O, call: &Call, page: &mut Page) -> Result<Reply, Stop>
-    requires kept { KeepsSome (O.keeps o.old) }
-    requires room { (O.heap o.old).size / 4 + 4 ≤ (O.heap o.old).spare }
-    requires good { IsGood (O.heap o.old) }
-    requires unmoved { (O.heap o.old).moves ≡ [] }
-    requires one { is_table_call call.now ≡ true }
-    ensures comes { ComesInEach call.now (O.heap o.old) (O.heap o.new) page.old page.new result }
-    ensures works { Spends O.HasHeap (call_lines (O.heap o.old) call.now) o.old o.new result }
-    ensures lines { LeavesLines O.HasHeap call.now o.old o.new }
-    ensures fits { FitsCall call.now }
-{
-    match call {
-        Call::Table(rows, size, user) => table(o, *rows, *size, *user, page),
-        Call::Row(table, place) => row(o, *table, *place, page),
-        Call::SetRow(table, row, bytes) => { set_row(o, *table, *row, bytes.as_slice(), page) }
-        Call::Dimensions(table) => dimensions(o, *table, page),
-        Call::TableUser(table) => table_user(o, *table, page),
-        Call::TableDestroy(table) => table_destroy(o, *table, page),
-        _ => unreachable!(),
-    }
 }

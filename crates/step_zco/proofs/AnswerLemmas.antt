@@ -1,29 +1,25 @@
 -- What a call on accounts and tickets leaves that its row answers.
-use Rattle.std.proofs.Common.{◌≡◌, ◌∙◌, ◌≤◌, ◌+◌, ◌==◌, ◌++◌, ℕ, List, [], ◌∷◌, Bool, true, false, true≢false, length, nat_lt, refl, sym, ap, arith}
+use Rattle.std.proofs.Common.{◌≡◌, ◌∙◌, ◌==◌, ◌++◌, ℕ, List, [], ◌∷◌, Bool, true, false, true≢false, length, nat_lt, refl, sym, ap}
 use Rattle.std.specs.Option.{option_map_or}
 use Rattle.std.specs.Prelude.{Option, None, Some}
 use Rattle.sdr_base.specs.declared.account.Acct.{Acct}
-use Rattle.sdr_base.specs.declared.account.Acct.TheVariants as accts
 use Rattle.sdr_base.specs.declared.account.Amounts.{Amounts}
 use Rattle.sdr_base.specs.declared.kind.Space.{Space}
 use Rattle.sdr_base.specs.declared.moves.Move.{Move}
 use Rattle.sdr_base.specs.declared.moves.Move.TheVariants.{Took}
 use Rattle.sdr_base.specs.declared.refusal.Refusal.{Refusal}
 use Rattle.sdr_base.specs.declared.refusal.Refusal.TheVariants as refusals
-use Rattle.sdr_model.specs.AccountSteps.{Awarded, Request, Shred, is_granted, new_ticket, pending_of, with_request, without_ticket}
+use Rattle.sdr_model.specs.AccountSteps.{Request, Shred, is_granted, new_ticket, pending_of, with_request, without_ticket}
 use Rattle.sdr_model.specs.Accounts.{account_of, most_amount, pending_in, ticket_need}
 use Rattle.sdr_model.specs.Amounts.{amount, first_above}
 use Rattle.sdr_model.specs.Rows.{ByRow}
 use Rattle.sdr_model.specs.Step.{is_answer}
-use Rattle.sdr_model.specs.Steps.{Does, Outcome, ReadsBytes, RefusedFor, RefusedIf, RefusedUnless, RefusedWithout, Refuses, Takes, TakesOne, gave}
+use Rattle.sdr_model.specs.Steps.{Does, Outcome, RefusedFor, RefusedIf, RefusedWithout, Refuses, Takes, TakesOne, gave}
 use Rattle.sdr_model.specs.World.{World}
 use Rattle.sdr_model.specs.declared.accounts.Pending.{Pending}
-use Rattle.sdr_model.specs.declared.accounts.Ticket.{Ticket}
 use Rattle.sdr_model.specs.declared.answer.Reply.TheVariants as replies
-use Rattle.sdr_model.specs.declared.call.Call.{Call}
 use Rattle.sdr_model.specs.declared.call.Call.TheVariants as calls
-use Rattle.step_zco.proofs.FoundLemmas.{pending_at}
-use Rattle.step_zco.specs.AccountAnswering.{is_account_call, world_granted}
+use Rattle.step_zco.specs.AccountAnswering.{world_granted}
 
 -- what is refused is no answer
 unrefused : {w : World} {o : Outcome} {refusal : Refusal} → Refuses w o refusal → is_answer o.reply ≡ true → ⊥
@@ -80,9 +76,7 @@ has_requested w acct asked coarse fine o row answered =
 
 -- a ticket went
 pub record HasShredded (w : World) (number : ℕ) (o : Outcome) : Type 0 where
-  pub pending : Pending
   pub one : length o.moves ≡ 1
-  pub gone : o.after ≡ record (without_ticket w pending) { shown = [] }
   pub after : o.after ≡ record (world_granted w (calls.Shred number)) { shown = [] }
 
 pub has_shredded : (w : World) (number : ℕ) (o : Outcome) → Shred w o number → is_answer o.reply ≡ true →
@@ -93,65 +87,6 @@ has_shredded w number o row answered = by (pending_of w number) refl row
         (λ p. Does o (gave (p.ticket.block ∷ [])) (without_ticket w p) replies.Done) → HasShredded w number o
     by None is r = absurd (unrefused r answered)
     by (Some p) is r = record {
-      pending = p;
       one = ap (λ (ms : List Move). length ms) r.0;
-      gone = r.1;
       after = r.1 ∙ ap (λ (q : Option Pending). record (option_map_or (without_ticket w) q w) { shown = [] }) (sym is);
     }
-
--- a ticket is awarded
-has_seen : (w : World) (number : ℕ) (o : Outcome) → Awarded w o number → is_answer o.reply ≡ true →
-    o.after ≡ record w { shown = [] }
-has_seen w number o row answered = by (pending_of w number) row
-  where
-    granted : (p : Pending) (b : Bool) → RefusedUnless w o b (refusals.NotAwarded number)
-        (ReadsBytes w o [] replies.Done) →
-        o.after ≡ record w { shown = [] }
-    granted p true r = r.1
-    granted p false r = absurd (unrefused r answered)
-
-    by : (p : Option Pending) → RefusedWithout w o p (refusals.BadTicket number)
-        (λ p. RefusedUnless w o p.ticket.granted (refusals.NotAwarded number) (ReadsBytes w o [] replies.Done)) →
-        o.after ≡ record w { shown = [] }
-    by None r = absurd (unrefused r answered)
-    by (Some p) r = granted p p.ticket.granted r
-
--- the next number of tickets doesn't fall
-set_next : (w : World) (acct : Acct) (space : Space) (value : ℕ) →
-    (world_granted w (calls.SetMaximum acct space value)).accounts.next ≡ w.accounts.next
-set_next w accts.Inbound space value = refl
-set_next w accts.Outbound space value = refl
-
-request_next : (w : World) (acct : Acct) (t : Ticket) → (with_request w acct t).accounts.next ≡ t.number + 1
-request_next w accts.Inbound t = refl
-request_next w accts.Outbound t = refl
-
-gone_next : (w : World) (acct : Acct) (place : ℕ) (t : Ticket) →
-    (without_ticket w (pending_at acct place t)).accounts.next ≡ w.accounts.next
-gone_next w accts.Inbound place t = refl
-gone_next w accts.Outbound place t = refl
-
-pub later_next : (w : World) (call : Call) (o : Outcome) → is_account_call call ≡ true → ByRow w o call →
-    is_answer o.reply ≡ true →
-    w.accounts.next ≤ o.after.accounts.next
-later_next w (calls.SetMaximum acct space value) o is row answered =
-    let same = ap (λ (v : World). v.accounts.next) (has_set w acct space value o row answered)
-    ∙ set_next w acct space value in
-    omega (arith, same)
-later_next w (calls.Request acct file bulk heap coarse fine) o is row answered =
-    let asked : Amounts = record { file = file; bulk = bulk; heap = heap } in
-    let r = has_requested w acct asked coarse fine o row answered in
-    let more = ap (λ (v : World). v.accounts.next) r.after
-    ∙ request_next w acct (new_ticket w.accounts.next r.addr asked coarse fine) in
-    omega (arith, more)
-later_next w (calls.Shred number) o is row answered =
-    let r = has_shredded w number o row answered in
-    let p = r.pending in
-    let same = ap (λ (v : World). v.accounts.next) r.gone ∙ gone_next w p.acct p.place p.ticket in omega (arith, same)
-later_next w (calls.Occupancy acct space) o is row answered =
-    let same = ap (λ (v : World). v.accounts.next) row.1 in omega (arith, same)
-later_next w (calls.Maximum acct space) o is row answered =
-    let same = ap (λ (v : World). v.accounts.next) row.1 in omega (arith, same)
-later_next w (calls.Awarded ticket) o is row answered =
-    let same = ap (λ (v : World). v.accounts.next) (has_seen w ticket o row answered) in omega (arith, same)
-later_next w call o is row answered = absurd (true≢false (sym is))

@@ -55,7 +55,7 @@ use Rattle.step_zco.proofs.MovedLemmas.{moved_stands}
 use Rattle.step_zco.proofs.MovingLemmas.{both_alike, moved}
 use Rattle.step_zco.proofs.ObjectLemmas.{IsObjectAt, no_object, object_is_at, object_kept}
 use Rattle.step_zco.proofs.PayingLemmas.{freed_occupied}
-use Rattle.step_zco.specs.ObjectAnswering.{call_lines, grants_of}
+use Rattle.step_zco.specs.ObjectAnswering.{destroy_lines, grants_of}
 use Rattle.step_zco.proofs.AccountLemmas.{unmarked}
 use Rattle.step_zco.proofs.ComingLemmas.{log_full}
 use Rattle.step_zco.specs.AccountAnswering.{KeepsTickets, Grants}
@@ -180,7 +180,7 @@ module _ (old : Heap) (w : World) (unmoved : old.moves ≡ []) (s : HeapStandsFo
 
     -- so the lines are enough for all of it
     pub lines_enough : {acct : Acct} → Tells old.blocks addr (λ r. r.account) acct →
-        27 + parts_lines (object_row z) rows + 32 * grants_between lost (with_served lost acct) ≤ call_lines w (calls.Destroy addr)
+        27 + parts_lines (object_row z) rows + 32 * grants_between lost (with_served lost acct) ≤ destroy_lines w addr
     lines_enough {acct} told =
         let row = object_row z in
         let gone = gone_blocks rows row.extents row.extents in

@@ -18,7 +18,6 @@ mod AppendCalls
 pub mod LosingLemmas
 pub mod DropLemmas
 mod DiscardCalls
-pub mod ObjectGoodLemmas
 pub mod ObjectDemandLemmas
 pub mod GoneMaps
 pub mod GoneUses
@@ -39,18 +38,16 @@ pub mod AccountLemmas
 pub mod FoundLemmas
 pub mod GrantLemmas
 pub mod ComingLemmas
-pub mod AccountGoodLemmas
 mod AccountCalls
 mod RequestCalls
 pub mod AnswerLemmas
-pub mod AccountDemandLemmas
+pub mod RequestedAlike
 mod AwardCalls
 mod ShredCalls
 pub mod RetiedLemmas
 pub mod NamedLemmas
 pub mod UsesLemmas
 pub mod SourceLemmas
-pub mod SourceGoodLemmas
 mod StepLemmas
 mod MakingCalls
 pub mod NamingCalls

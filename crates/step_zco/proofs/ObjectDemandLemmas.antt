@@ -1,41 +1,35 @@
--- How many lines a call may touch by what it asks.
-use Rattle.std.proofs.Common.{◌≡◌, ◌∙◌, ◌≤◌, ◌+◌, ℕ, List, [], true, true≢false, length, inl, refl, sym, ap, arith}
-use Rattle.std.proofs.lemmas.List.{length-map}
+-- What a call on an object leaves that its row answers, and how many lines an append may touch by what it asks.
+use Rattle.std.proofs.Common.{◌≡◌, ◌∙◌, ◌≤◌, ◌+◌, ℕ, List, [], true, true≢false, length, refl, sym, ap, arith}
 use Rattle.std.specs.Option.{option_map_or}
-use Rattle.std.specs.Prelude.{Option, None, Some, is_some, slice_get, slice_index, if◌then◌else◌}
+use Rattle.std.specs.Prelude.{Option, None, Some, is_some, if◌then◌else◌}
 use Rattle.sdr_base.specs.declared.moves.Move.{Move}
-use Rattle.sdr_base.specs.declared.moves.Move.TheVariants.{Gave}
 use Rattle.sdr_base.specs.declared.refusal.Refusal.{Refusal}
-use Rattle.law_steps.proofs.StepLemmas.{moves_are_the_rows}
-use Rattle.sdr_machine.specs.Demand.{Demand, bytes_taken, bytes_written, demand_after, grants_between, most_lines}
+use Rattle.sdr_machine.specs.Demand.{Demand, bytes_taken, bytes_written, demand_after, most_lines}
 use Rattle.sdr_model.specs.Gone.{gone_things, without_things}
 use Rattle.sdr_model.specs.ObjectSteps as object
 use Rattle.sdr_model.specs.Queue.{with_served}
-use Rattle.sdr_model.specs.Reading.{is_reading}
-use Rattle.sdr_model.specs.RowMoves.{append_moves, destroyed_blocks, row_moves}
-use Rattle.sdr_model.specs.Rows.{ByRow}
+use Rattle.sdr_model.specs.RowMoves.{append_moves}
 use Rattle.sdr_model.specs.Step.{is_answer}
-use Rattle.sdr_model.specs.Steps.{Does, On, Outcome, Refuses, gave, taken_addresses, without_thing}
+use Rattle.sdr_model.specs.Steps.{Does, On, Outcome, Refuses, gave, without_thing}
 use Rattle.sdr_model.specs.World.{World}
-use Rattle.sdr_model.specs.Zco.{object_at, source_at}
+use Rattle.sdr_model.specs.Zco.{object_at}
 use Rattle.sdr_model.specs.declared.answer.Reply.TheVariants as replies
 use Rattle.sdr_model.specs.declared.call.Call.{Call}
-use Rattle.sdr_model.specs.declared.call.Call.TheVariants as calls
 use Rattle.sdr_model.specs.declared.zco.Capsule.{Capsule}
 use Rattle.sdr_model.specs.declared.zco.ZcoObject.{ZcoObject}
 use Rattle.sdr_model.specs.declared.zco.ZcoSource.{ZcoSource}
-use Rattle.step_zco.specs.ObjectAnswering.{call_lines, is_object_call, left_with, left_without}
+use Rattle.step_zco.specs.ObjectAnswering.{left_with, left_without}
 
 -- what is refused is no answer
 unrefused : {w : World} {o : Outcome} {refusal : Refusal} → Refuses w o refusal → is_answer o.reply ≡ true → ⊥
 unrefused r answered = let no = sym (ap is_answer r.2) ∙ answered in true≢false (sym no)
 
 -- a header or trailer went
-record HasLost (w : World) (addr : ℕ) (without : ZcoObject → ZcoObject) (o : Outcome) : Type 0 where
-  one : length o.moves ≡ 1
-  after : o.after ≡ record (left_with w addr without) { shown = [] }
+pub record HasLost (w : World) (addr : ℕ) (without : ZcoObject → ZcoObject) (o : Outcome) : Type 0 where
+  pub one : length o.moves ≡ 1
+  pub after : o.after ≡ record (left_with w addr without) { shown = [] }
 
-has_lost : (w : World) (addr : ℕ) (pick : ZcoObject → Option Capsule) (without : ZcoObject → ZcoObject) (o : Outcome) →
+pub has_lost : (w : World) (addr : ℕ) (pick : ZcoObject → Option Capsule) (without : ZcoObject → ZcoObject) (o : Outcome) →
     On w o addr (object_at w addr) (λ z. object.Discards w o addr z (pick z) (without z)) → is_answer o.reply ≡ true →
     HasLost w addr without o
 has_lost w addr pick without o row answered = by (object_at w addr) refl row
@@ -57,7 +51,7 @@ has_lost w addr pick without o row answered = by (object_at w addr) refl row
     by (Some z) is row = picked z is (pick z) row
 
 -- an object went
-has_gone : (w : World) (addr : ℕ) (o : Outcome) → object.Destroy w o addr → is_answer o.reply ≡ true →
+pub has_gone : (w : World) (addr : ℕ) (o : Outcome) → object.Destroy w o addr → is_answer o.reply ≡ true →
     o.after ≡ record (left_without w addr) { shown = [] }
 has_gone w addr o row answered = by (object_at w addr) refl row
   where
@@ -74,7 +68,7 @@ has_gone w addr o row answered = by (object_at w addr) refl row
     by (Some z) is row = row.1 ∙ ap (λ (x : Option ZcoObject). record (left x) { shown = [] }) (sym is)
 
 -- one block or two were taken for an extent
-append_enough : (d : Demand) (w : World) (call : Call) (o : Outcome) (named : Option ZcoSource) (at : ℕ → ℕ) →
+pub append_enough : (d : Demand) (w : World) (call : Call) (o : Outcome) (named : Option ZcoSource) (at : ℕ → ℕ) →
     bytes_written call ≡ 0 → o.moves ≡ append_moves named at →
     most_lines d + (if is_some named then 42 else 73) ≤ most_lines (demand_after d w call o)
 append_enough d w call o None at none moves =
@@ -83,51 +77,3 @@ append_enough d w call o None at none moves =
 append_enough d w call o (Some source) at none moves =
     let one : length o.moves ≡ 1 = ap (λ (ms : List Move). length ms) moves in
     let need : bytes_taken o.moves ≡ 32 = ap bytes_taken moves in omega (arith, one, need, none)
-
--- a call that is answered by its row asks for as many lines as it touches
-pub enough : (d : Demand) (w : World) (call : Call) (o : Outcome) → is_object_call call ≡ true → ByRow w o call →
-    is_answer o.reply ≡ true → most_lines d + call_lines w call ≤ most_lines (demand_after d w call o)
-enough d w call o is row answered = by call is row (moves_are_the_rows w o.after call o.moves o.reply (inl row) answered)
-  where
-    at : ℕ → ℕ
-    at = slice_index (taken_addresses o.moves)
-
-    by : (c : Call) → is_object_call c ≡ true → ByRow w o c → o.moves ≡ row_moves w c at →
-        most_lines d + call_lines w c ≤ most_lines (demand_after d w c o)
-    by (calls.Create acct ticket) is row moves =
-        let one : length o.moves ≡ 1 = ap (λ (ms : List Move). length ms) moves in omega (arith, one)
-    by (calls.AppendExtent addr ticket named offset bytes) is row moves =
-        append_enough d w (calls.AppendExtent addr ticket named offset bytes) o (source_at w named) at refl moves
-    by (calls.PrependHeader addr ticket text) is row moves =
-        let one : length o.moves ≡ 1 = ap (λ (ms : List Move). length ms) moves in
-        let need : bytes_taken o.moves ≡ 8 + length text + 0 = ap bytes_taken moves in omega (arith, one, need)
-    by (calls.AppendTrailer addr ticket text) is row moves =
-        let one : length o.moves ≡ 1 = ap (λ (ms : List Move). length ms) moves in
-        let need : bytes_taken o.moves ≡ 8 + length text + 0 = ap bytes_taken moves in omega (arith, one, need)
-    by (calls.DiscardFirstHeader addr) is row moves =
-        let l = has_lost w addr (λ z. slice_get z.headers 0) object.without_header o row answered in
-        let one = l.one in
-        let grants = ap (grants_between w) l.after in omega (arith, one, grants)
-    by (calls.DiscardLastTrailer addr) is row moves =
-        let l = has_lost w addr (λ z. object.last_capsule z.trailers) object.without_trailer o row answered in
-        let one = l.one in
-        let grants = ap (grants_between w) l.after in omega (arith, one, grants)
-    by (calls.ZcoLength addr) is row moves = omega arith
-    by (calls.SourceLength addr) is row moves = omega arith
-    by (calls.Destroy addr) is row moves =
-        let blocks = destroyed_blocks w addr (object_at w addr) in
-        let many : length o.moves ≡ length (gave blocks) = ap (λ (ms : List Move). length ms) moves in
-        let same = length-map blocks (λ (a : ℕ). Gave a) in
-        let grants = ap (grants_between w) (has_gone w addr o row answered) in omega (arith, many, same, grants)
-    by c is row moves = absurd (true≢false (sym is))
-
--- a call that reads touches none
-pub reading_lines : (w : World) (call : Call) → is_reading call ≡ true → call_lines w call ≡ 0
-reading_lines w (calls.Create acct ticket) reads = absurd (true≢false (sym reads))
-reading_lines w (calls.AppendExtent addr ticket named offset bytes) reads = absurd (true≢false (sym reads))
-reading_lines w (calls.PrependHeader addr ticket text) reads = absurd (true≢false (sym reads))
-reading_lines w (calls.AppendTrailer addr ticket text) reads = absurd (true≢false (sym reads))
-reading_lines w (calls.DiscardFirstHeader addr) reads = absurd (true≢false (sym reads))
-reading_lines w (calls.DiscardLastTrailer addr) reads = absurd (true≢false (sym reads))
-reading_lines w (calls.Destroy addr) reads = absurd (true≢false (sym reads))
-reading_lines w call reads = refl

@@ -1,4 +1,3 @@
 pub mod ObjectAnswering
 pub mod Destroying
 pub mod AccountAnswering
-pub mod SourceAnswering

@@ -10,7 +10,7 @@ ghost use Rattle.sdr_model.specs.Queue.{with_served};
 ghost use Rattle.sdr_model.specs.World.{World};
 ghost use Rattle.sdr_model.specs.declared.call.Call.TheVariants as calls;
 ghost use Rattle.zco_acct.specs.Kept.{SomeQueue};
-ghost use Rattle.step_zco.specs.AccountAnswering.{KeepsTickets, Grants, call_lines};
+ghost use Rattle.step_zco.specs.AccountAnswering.{KeepsTickets, Grants, grants_of};
 
 use sdr_base::{Acct, Objects, Space, Stop};
 use sdr_model::Reply;
@@ -31,7 +31,7 @@ pub fn serve<O: Objects, F: Notify>(o: &mut O, acct: Acct, notice: &Notice<F>) -
     Ok(())
 }
 
-// How many bytes of a space are occupied.
+/// How many bytes of a space are occupied.
 pub fn occupancy<O: Objects>(
     o: &mut O,
     acct: Acct,
@@ -50,7 +50,7 @@ pub fn occupancy<O: Objects>(
     Ok(Reply::Value { value })
 }
 
-// How many bytes of a space may be occupied at most.
+/// How many bytes of a space may be occupied at most.
 pub fn maximum<O: Objects>(
     o: &mut O,
     acct: Acct,
@@ -69,7 +69,7 @@ pub fn maximum<O: Objects>(
     Ok(Reply::Value { value })
 }
 
-// Sets the maximum of a space, and serves the account's queue.
+/// Sets the maximum of a space, and serves the account's queue.
 pub fn set_maximum<O: Objects, F: Notify>(
     o: &mut O,
     acct: Acct,
@@ -84,7 +84,7 @@ pub fn set_maximum<O: Objects, F: Notify>(
     ensures comes { ComesInEach (calls.SetMaximum acct space value)
         (O.heap o.old) (O.heap o.new) page.old page.new result }
     ensures works { (w : World) → HeapStandsFor (O.heap o.old) w → IsReady w →
-        Spends O.HasHeap (call_lines w (calls.SetMaximum acct space value)) o.old o.new result }
+        Spends O.HasHeap (1 + 32 * grants_of w (calls.SetMaximum acct space value)) o.old o.new result }
 {
     zco_acct::set_maximum(o, acct, space, value)?;
     serve(o, acct, notice)?;

@@ -7,15 +7,15 @@ ghost use Rattle.sdr_base.specs.Works.{Spends};
 ghost use Rattle.sdr_model.specs.Fields.{IsWord};
 ghost use Rattle.sdr_model.specs.World.{World};
 ghost use Rattle.sdr_model.specs.declared.call.Call.TheVariants as calls;
-ghost use Rattle.step_zco.specs.ObjectAnswering.{call_lines};
+ghost use Rattle.step_zco.specs.ObjectAnswering.{append_lines};
 ghost use Rattle.zco_obj.specs.Beside.{IsWithRaw, IsWithSource};
 
 use sdr_base::{Addr, Objects, Stop};
 use sdr_model::Reply;
 use step_things::Page;
 
-// Puts a part of a source, or of a raw object that a new source takes over, behind an object's
-// extents.
+/// Puts a part of a source, or of a raw object that a new source takes over, behind an object's
+/// extents.
 pub fn append_extent<O: Objects>(
     o: &mut O,
     object: Addr,
@@ -33,8 +33,7 @@ pub fn append_extent<O: Objects>(
     ensures comes { ComesInEach (calls.AppendExtent object ticket named offset bytes)
         (O.heap o.old) (O.heap o.new) page.old page.new result }
     ensures works { (w : World) → HeapStandsFor (O.heap o.old) w → IsReady w →
-        Spends O.HasHeap (call_lines w (calls.AppendExtent object ticket named offset bytes))
-        o.old o.new result }
+        Spends O.HasHeap (append_lines w named) o.old o.new result }
     ensures word { IsWord named }
 {
     zco_obj::append_extent(o, object, ticket, named, offset, bytes)?;

@@ -1,5 +1,5 @@
 // The calls on headers and trailers, as steps of the machine.
-ghost use Rattle.std.specs.Prelude.{[], length, ◌+◌, ◌/◌, ◌≡◌, ◌≤◌};
+ghost use Rattle.std.specs.Prelude.{[], length, ◌*◌, ◌+◌, ◌/◌, ◌≡◌, ◌≤◌};
 ghost use Rattle.step_things.specs.Answering.{ComesInEach, IsReady};
 ghost use Rattle.sdr_stands.specs.Standing.{HeapStandsFor};
 ghost use Rattle.sdr_base.specs.Moves.{KeepsSome};
@@ -7,7 +7,7 @@ ghost use Rattle.sdr_base.specs.Works.{Spends};
 ghost use Rattle.sdr_model.specs.Fields.{AreBytes};
 ghost use Rattle.sdr_model.specs.World.{World};
 ghost use Rattle.sdr_model.specs.declared.call.Call.TheVariants as calls;
-ghost use Rattle.step_zco.specs.ObjectAnswering.{call_lines};
+ghost use Rattle.step_zco.specs.ObjectAnswering.{grants_of};
 ghost use Rattle.zco_obj.specs.Kept.{IsWithQueue};
 
 use crate::serve;
@@ -16,7 +16,7 @@ use sdr_model::Reply;
 use step_things::Page;
 use zco_acct::{Notice, Notify};
 
-// Puts a header in front of an object's others.
+/// Puts a header in front of an object's others.
 pub fn prepend_header<O: Objects>(
     o: &mut O,
     object: Addr,
@@ -38,7 +38,7 @@ pub fn prepend_header<O: Objects>(
     Ok(Reply::Done)
 }
 
-// Puts a trailer behind an object's others.
+/// Puts a trailer behind an object's others.
 pub fn append_trailer<O: Objects>(
     o: &mut O,
     object: Addr,
@@ -60,7 +60,7 @@ pub fn append_trailer<O: Objects>(
     Ok(Reply::Done)
 }
 
-// Gives the first header of an object back, and serves the queue of its account.
+/// Gives the first header of an object back, and serves the queue of its account.
 pub fn discard_first_header<O: Objects, F: Notify>(
     o: &mut O,
     object: Addr,
@@ -74,7 +74,7 @@ pub fn discard_first_header<O: Objects, F: Notify>(
     ensures comes { ComesInEach (calls.DiscardFirstHeader object)
         (O.heap o.old) (O.heap o.new) page.old page.new result }
     ensures works { (w : World) → HeapStandsFor (O.heap o.old) w → IsReady w →
-        Spends O.HasHeap (call_lines w (calls.DiscardFirstHeader object)) o.old o.new result }
+        Spends O.HasHeap (31 + 32 * grants_of w (calls.DiscardFirstHeader object)) o.old o.new result }
 {
     zco_obj::discard_first_header(o, object)?;
     let acct = zco_obj::account(o, object)?;
@@ -83,7 +83,7 @@ pub fn discard_first_header<O: Objects, F: Notify>(
     Ok(Reply::Done)
 }
 
-// Gives the last trailer of an object back, and serves the queue of its account.
+/// Gives the last trailer of an object back, and serves the queue of its account.
 pub fn discard_last_trailer<O: Objects, F: Notify>(
     o: &mut O,
     object: Addr,
@@ -97,7 +97,7 @@ pub fn discard_last_trailer<O: Objects, F: Notify>(
     ensures comes { ComesInEach (calls.DiscardLastTrailer object)
         (O.heap o.old) (O.heap o.new) page.old page.new result }
     ensures works { (w : World) → HeapStandsFor (O.heap o.old) w → IsReady w →
-        Spends O.HasHeap (call_lines w (calls.DiscardLastTrailer object)) o.old o.new result }
+        Spends O.HasHeap (31 + 32 * grants_of w (calls.DiscardLastTrailer object)) o.old o.new result }
 {
     zco_obj::discard_last_trailer(o, object)?;
     let acct = zco_obj::account(o, object)?;

@@ -6,7 +6,7 @@ ghost use Rattle.sdr_base.specs.Moves.{KeepsSome};
 ghost use Rattle.sdr_base.specs.Works.{Spends};
 ghost use Rattle.sdr_model.specs.World.{World};
 ghost use Rattle.sdr_model.specs.declared.call.Call.TheVariants as calls;
-ghost use Rattle.step_zco.specs.ObjectAnswering.{call_lines};
+ghost use Rattle.step_zco.specs.ObjectAnswering.{destroy_lines};
 ghost use Rattle.step_zco.specs.Destroying.{IsWithAll};
 
 use crate::serve;
@@ -15,8 +15,8 @@ use sdr_model::Reply;
 use step_things::Page;
 use zco_acct::{Notice, Notify};
 
-// Gives an object back with all that goes with it, and serves the queue of its account, which is
-// read before the object goes.
+/// Gives an object back with all that goes with it, and serves the queue of its account, which is
+/// read before the object goes.
 pub fn destroy<O: Objects, F: Notify>(
     o: &mut O,
     object: Addr,
@@ -30,7 +30,7 @@ pub fn destroy<O: Objects, F: Notify>(
     ensures comes { ComesInEach (calls.Destroy object)
         (O.heap o.old) (O.heap o.new) page.old page.new result }
     ensures works { (w : World) → HeapStandsFor (O.heap o.old) w → IsReady w →
-        Spends O.HasHeap (call_lines w (calls.Destroy object)) o.old o.new result }
+        Spends O.HasHeap (destroy_lines w object) o.old o.new result }
 {
     expect_kind(o, object, Kind::Object)?;
     let acct = zco_obj::account(o, object)?;

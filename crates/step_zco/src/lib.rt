@@ -14,15 +14,13 @@
 //! Only tested: each call's answers (`tests/cases`).
 #![tactic(auto)]
 
-pub mod account_calls;
-mod accounts;
-mod appending;
-mod capsules;
-mod destroying;
-pub mod object_calls;
-mod objects;
+pub mod accounts;
+pub mod appending;
+pub mod capsules;
+pub mod destroying;
+pub mod objects;
 pub mod sources;
-mod tickets;
+pub mod tickets;
 
 pub use accounts::serve;
 pub use tickets::look;

@@ -11,7 +11,7 @@ use sdr_base::{Acct, Addr, Objects, Stop};
 use sdr_model::Reply;
 use step_things::Page;
 
-// Makes an object with nothing in it.
+/// Makes an object with nothing in it.
 pub fn create<O: Objects>(
     o: &mut O,
     acct: Acct,
@@ -31,7 +31,7 @@ pub fn create<O: Objects>(
     Ok(Reply::At { addr })
 }
 
-// How many bytes an object has on the wire.
+/// How many bytes an object has on the wire.
 pub fn length<O: Objects>(o: &mut O, object: Addr, page: &mut Page) -> Result<Reply, Stop>
     requires kept { KeepsSome (O.keeps o.old) }
     requires object { IsObject (O.heap o.old).blocks object }
@@ -46,7 +46,7 @@ pub fn length<O: Objects>(o: &mut O, object: Addr, page: &mut Page) -> Result<Re
     Ok(Reply::Value { value })
 }
 
-// How many bytes the part of an object has.
+/// How many bytes the part of an object has.
 pub fn source_length<O: Objects>(o: &mut O, object: Addr, page: &mut Page) -> Result<Reply, Stop>
     requires kept { KeepsSome (O.keeps o.old) }
     requires object { IsObject (O.heap o.old).blocks object }

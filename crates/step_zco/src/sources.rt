@@ -1,19 +1,23 @@
 // The calls on sources, as steps of the machine.
-ghost use Rattle.std.specs.Prelude.{[], length, true, ◌+◌, ◌/◌, ◌≡◌, ◌≤◌};
-ghost use Rattle.step_things.specs.Answering.{ComesInEach, LeavesLines};
+ghost use Rattle.std.specs.Prelude.{[], length, ◌+◌, ◌/◌, ◌≡◌, ◌≤◌};
+ghost use Rattle.step_things.specs.Answering.{ComesInEach};
 ghost use Rattle.sdr_base.specs.Moves.{KeepsSome};
 ghost use Rattle.sdr_base.specs.Works.{Spends};
-ghost use Rattle.sdr_model.specs.Fields.{AreBytes, FitsCall, IsWord};
+ghost use Rattle.sdr_model.specs.Fields.{AreBytes, IsWord};
 ghost use Rattle.sdr_model.specs.declared.call.Call.TheVariants as calls;
 ghost use Rattle.zco_ref.specs.Kept.{IsFew, IsRaw, IsTied};
-ghost use Rattle.step_zco.specs.SourceAnswering.{IsGood, call_lines, is_source_call};
 
 use sdr_base::{Addr, Objects, Stop};
-use sdr_model::{Call, Reply};
+use sdr_model::Reply;
 use step_things::Page;
 
-// Makes a source of a file.
-fn file_ref<O: Objects>(o: &mut O, path: &[u8], bytes: u64, page: &mut Page) -> Result<Reply, Stop>
+/// Makes a source of a file.
+pub fn file_ref<O: Objects>(
+    o: &mut O,
+    path: &[u8],
+    bytes: u64,
+    page: &mut Page,
+) -> Result<Reply, Stop>
     requires kept { KeepsSome (O.keeps o.old) }
     requires spare { 1 ≤ (O.heap o.old).spare }
     requires unmoved { (O.heap o.old).moves ≡ [] }
@@ -27,8 +31,13 @@ fn file_ref<O: Objects>(o: &mut O, path: &[u8], bytes: u64, page: &mut Page) -> 
     Ok(Reply::At { addr })
 }
 
-// Makes a source of an item.
-fn bulk_ref<O: Objects>(o: &mut O, item: u64, bytes: u64, page: &mut Page) -> Result<Reply, Stop>
+/// Makes a source of an item.
+pub fn bulk_ref<O: Objects>(
+    o: &mut O,
+    item: u64,
+    bytes: u64,
+    page: &mut Page,
+) -> Result<Reply, Stop>
     requires kept { KeepsSome (O.keeps o.old) }
     requires spare { 1 ≤ (O.heap o.old).spare }
     requires unmoved { (O.heap o.old).moves ≡ [] }
@@ -42,8 +51,8 @@ fn bulk_ref<O: Objects>(o: &mut O, item: u64, bytes: u64, page: &mut Page) -> Re
     Ok(Reply::At { addr })
 }
 
-// Makes a source of a raw object.
-fn obj_ref<O: Objects>(o: &mut O, raw: Addr, page: &mut Page) -> Result<Reply, Stop>
+/// Makes a source of a raw object.
+pub fn obj_ref<O: Objects>(o: &mut O, raw: Addr, page: &mut Page) -> Result<Reply, Stop>
     requires kept { KeepsSome (O.keeps o.old) }
     requires spare { 1 ≤ (O.heap o.old).spare }
     requires raw { IsRaw (O.heap o.old).blocks raw }
@@ -57,8 +66,8 @@ fn obj_ref<O: Objects>(o: &mut O, raw: Addr, page: &mut Page) -> Result<Reply, S
     Ok(Reply::At { addr })
 }
 
-// Gives a source back, or flags it.
-fn destroy_ref<O: Objects>(o: &mut O, source: Addr, page: &mut Page) -> Result<Reply, Stop>
+/// Gives a source back, or flags it.
+pub fn destroy_ref<O: Objects>(o: &mut O, source: Addr, page: &mut Page) -> Result<Reply, Stop>
     requires kept { KeepsSome (O.keeps o.old) }
     requires spare { 1 ≤ (O.heap o.old).spare }
     requires source { IsTied (O.heap o.old).blocks source }
@@ -72,8 +81,8 @@ fn destroy_ref<O: Objects>(o: &mut O, source: Addr, page: &mut Page) -> Result<R
     Ok(Reply::Done)
 }
 
-// How many extents name a source.
-fn count<O: Objects>(o: &mut O, source: Addr, page: &mut Page) -> Result<Reply, Stop>
+/// How many extents name a source.
+pub fn count<O: Objects>(o: &mut O, source: Addr, page: &mut Page) -> Result<Reply, Stop>
     requires kept { KeepsSome (O.keeps o.old) }
     requires source { IsFew ((O.heap o.old).blocks source) }
     requires unmoved { (O.heap o.old).moves ≡ [] }
@@ -85,40 +94,4 @@ fn count<O: Objects>(o: &mut O, source: Addr, page: &mut Page) -> Result<Reply, 
     let value = zco_ref::count(o, source)?;
     page.clear();
     Ok(Reply::Value { value })
-}
-
-/// Whether the call is one on sources.
-pub fn is_source_call(call: &Call) -> bool
-    ensures { result ≡ is_source_call call.now }
-{
-    matches!(
-        call,
-        Call::FileRef(_, _)
-            | Call::BulkRef(_, _)
-            | Call::ObjRef(_)
-            | Call::DestroyRef(_)
-            | Call::Count(_)
-    )
-}
-
-/// Answers a call on sources.
-pub fn answer<O: Objects>(o: &mut O, call: &Call, page: &mut Page) -> Result<Reply, Stop>
-    requires kept { KeepsSome (O.keeps o.old) }
-    requires spare { 1 ≤ (O.heap o.old).spare }
-    requires good { IsGood (O.heap o.old) }
-    requires unmoved { (O.heap o.old).moves ≡ [] }
-    requires one { is_source_call call.now ≡ true }
-    ensures comes { ComesInEach call.now (O.heap o.old) (O.heap o.new) page.old page.new result }
-    ensures works { Spends O.HasHeap (call_lines call.now) o.old o.new result }
-    ensures lines { LeavesLines O.HasHeap call.now o.old o.new }
-    ensures fits { FitsCall call.now }
-{
-    match call {
-        Call::FileRef(path, bytes) => file_ref(o, path.as_slice(), *bytes, page),
-        Call::BulkRef(item, bytes) => bulk_ref(o, *item, *bytes, page),
-        Call::ObjRef(raw) => obj_ref(o, *raw, page),
-        Call::DestroyRef(source) => destroy_ref(o, *source, page),
-        Call::Count(source) => count(o, *source, page),
-        _ => unreachable!(),
-    }
 }

@@ -1,14 +1,15 @@
 // The calls on tickets, as steps of the machine.
-ghost use Rattle.std.specs.Prelude.{[], ◌≡◌, ◌≤◌, IfErr, IfOk};
-ghost use Rattle.step_things.specs.Answering.{ComesInEach, IsReady};
+ghost use Rattle.std.specs.Prelude.{[], ◌≡◌, ◌≤◌, ◌+◌, ◌*◌, IfErr, IfOk};
+ghost use Rattle.step_things.specs.Answering.{ComesInEach, HeapStands, IsReady};
 ghost use Rattle.sdr_stands.specs.Standing.{HeapStandsFor};
 ghost use Rattle.sdr_base.specs.Moves.{KeepsSome};
 ghost use Rattle.sdr_base.specs.Objects.{OnlyFault};
 ghost use Rattle.sdr_base.specs.Works.{Looks, Spends};
+ghost use Rattle.sdr_base.specs.declared.account.Acct.{Acct};
 ghost use Rattle.sdr_model.specs.World.{World};
 ghost use Rattle.sdr_model.specs.declared.call.Call.TheVariants as calls;
 ghost use Rattle.zco_acct.specs.Kept.{SomeQueue};
-ghost use Rattle.step_zco.specs.AccountAnswering.{IsGood, Sees, call_lines};
+ghost use Rattle.step_zco.specs.AccountAnswering.{Sees, grants_of};
 
 use sdr_base::{Acct, Amounts, Objects, Stop};
 use sdr_model::Reply;
@@ -25,7 +26,7 @@ pub struct Asking {
     pub fine: u8,
 }
 
-// Asks an account for space.
+/// Asks an account for space.
 pub fn request<O: Objects, F: Notify>(
     o: &mut O,
     asking: &Asking,
@@ -40,7 +41,7 @@ pub fn request<O: Objects, F: Notify>(
         asking.now.asked.heap asking.now.coarse asking.now.fine)
         (O.heap o.old) (O.heap o.new) page.old page.new result }
     ensures works { (w : World) → HeapStandsFor (O.heap o.old) w → IsReady w →
-        Spends O.HasHeap (call_lines w (calls.Request asking.now.acct asking.now.asked.file
+        Spends O.HasHeap (33 + 32 * grants_of w (calls.Request asking.now.acct asking.now.asked.file
         asking.now.asked.bulk asking.now.asked.heap asking.now.coarse asking.now.fine))
         o.old o.new result }
 {
@@ -55,10 +56,10 @@ pub fn request<O: Objects, F: Notify>(
     Ok(Reply::Ticket { number, granted })
 }
 
-// Whether a ticket is granted.
+/// Whether a ticket is granted.
 pub fn awarded<O: Objects>(o: &mut O, ticket: u64, page: &mut Page) -> Result<Reply, Stop>
     requires kept { KeepsSome (O.keeps o.old) }
-    requires good { IsGood (O.heap o.old) }
+    requires queues { (acct : Acct) → SomeQueue (O.heap o.old) acct }
     requires unmoved { (O.heap o.old).moves ≡ [] }
     ensures comes { ComesInEach (calls.Awarded ticket)
         (O.heap o.old) (O.heap o.new) page.old page.new result }
@@ -70,7 +71,7 @@ pub fn awarded<O: Objects>(o: &mut O, ticket: u64, page: &mut Page) -> Result<Re
     Ok(Reply::Done)
 }
 
-// Ends a ticket.
+/// Ends a ticket.
 pub fn shred<O: Objects, F: Notify>(
     o: &mut O,
     ticket: u64,
@@ -79,12 +80,12 @@ pub fn shred<O: Objects, F: Notify>(
 ) -> Result<Reply, Stop>
     requires kept { KeepsSome (O.keeps o.old) }
     requires spare { 1 ≤ (O.heap o.old).spare }
-    requires good { IsGood (O.heap o.old) }
+    requires queues { (acct : Acct) → SomeQueue (O.heap o.old) acct }
     requires unmoved { (O.heap o.old).moves ≡ [] }
     ensures comes { ComesInEach (calls.Shred ticket)
         (O.heap o.old) (O.heap o.new) page.old page.new result }
     ensures works { (w : World) → HeapStandsFor (O.heap o.old) w → IsReady w →
-        Spends O.HasHeap (call_lines w (calls.Shred ticket)) o.old o.new result }
+        Spends O.HasHeap (30 + 32 * grants_of w (calls.Shred ticket)) o.old o.new result }
 {
     zco_space::shred(o, ticket, notice)?;
     page.clear();
@@ -94,7 +95,7 @@ pub fn shred<O: Objects, F: Notify>(
 /// Whether the ticket of this number, of either account, is there, and granted.
 pub fn look<O: Objects>(o: &mut O, ticket: u64) -> Result<Option<bool>, Stop>
     requires kept { KeepsSome (O.keeps o.old) }
-    requires good { IsGood (O.heap o.old) }
+    requires stands { HeapStands (O.heap o.old) }
     ensures seen { IfOk result (Sees ticket (O.heap o.old)) }
     ensures refused { IfErr result OnlyFault }
     ensures looks { Looks O.HasHeap o.old o.new result }

@@ -15,12 +15,10 @@ pub mod CutWorlds
 pub mod StripLosses
 pub mod StripCalls
 pub mod StripLeft
-pub mod StripGoodLemmas
 pub mod StrippedFew
 pub mod WireKeptLemmas
 pub mod GivenCalls
 pub mod AskedLemmas
-pub mod WireGoodLemmas
 mod DelimitCalls
 pub mod PieceLemmas
 pub mod PartFreshLemmas
@@ -28,6 +26,5 @@ pub mod PartKeptLemmas
 pub mod CloneTies
 pub mod CloneCharges
 mod CloneCalls
-pub mod PartGoodLemmas
 pub mod PartDemandLemmas
 pub mod ClonedFew

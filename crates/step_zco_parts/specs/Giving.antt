@@ -28,12 +28,8 @@ use Rattle.sdr_model.specs.declared.call.Call.TheVariants as calls
 use Rattle.sdr_model.specs.declared.event.Event.TheVariants as events
 use Rattle.sdr_model.specs.declared.piece.Piece.{Piece}
 use Rattle.zco_wire.specs.Asking.{AsksFor}
-use Rattle.zco_wire.specs.Naming.{IsWire, KeepsWire}
+use Rattle.zco_wire.specs.Naming.{KeepsWire}
 use Rattle.zco_wire.specs.Reading.{asked_headers, asked_source, asked_trailers, asked_wire}
-
--- what is of the kind of objects is kept, with what its extents name
-pub record IsGood (heap : Heap) : Type 0 where
-  pub wires : (addr : ℕ) → IsWire heap.blocks addr
 
 -- the place from which a call reads
 abbrev pub place_of : Call → ℕ

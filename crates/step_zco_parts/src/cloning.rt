@@ -6,13 +6,15 @@ ghost use Rattle.sdr_base.specs.Moves.{KeepsSome};
 ghost use Rattle.sdr_base.specs.Works.{Spends};
 ghost use Rattle.sdr_model.specs.World.{World};
 ghost use Rattle.sdr_model.specs.declared.call.Call.TheVariants as calls;
-ghost use Rattle.step_zco_parts.specs.PartAnswering.{IsCountable, call_lines};
+ghost use Rattle.step_zco_parts.specs.PartAnswering.{IsCountable, clone_lines};
 
 use sdr_base::{Addr, Objects, Stop};
 use sdr_model::Reply;
 use step_things::Page;
 
-// Makes an object of so many bytes of an object's part, from a place in it on.
+/// Makes an object of so many bytes of an object's part, from a place in it on. It is refused for the
+/// address, for the range that the part hasn't, for what the account says to the charge, and for want of a
+/// block or of log room, in this order.
 pub fn clone_part<O: Objects>(
     o: &mut O,
     object: Addr,
@@ -28,8 +30,7 @@ pub fn clone_part<O: Objects>(
     ensures comes { ComesInEach (calls.ClonePart object ticket offset bytes)
         (O.heap o.old) (O.heap o.new) page.old page.new result }
     ensures works { (w : World) → HeapStandsFor (O.heap o.old) w → IsReady w →
-        Spends O.HasHeap (call_lines w (calls.ClonePart object ticket offset bytes))
-        o.old o.new result }
+        Spends O.HasHeap (clone_lines w object offset bytes) o.old o.new result }
 {
     let addr = zco_part::clone_part(o, object, ticket, offset, bytes)?;
     page.clear();

@@ -20,10 +20,11 @@
 
 mod bonding;
 mod cloning;
-pub mod part_calls;
 mod parts;
 mod stripping;
 pub mod wire_calls;
 
 pub use bonding::bond;
+pub use cloning::clone_part;
+pub use parts::delimit;
 pub use stripping::strip;

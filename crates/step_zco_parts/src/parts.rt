@@ -10,7 +10,8 @@ use sdr_base::{Addr, Objects, Stop};
 use sdr_model::Reply;
 use step_things::Page;
 
-// Sets the part of an object to so many bytes of its extents, from a place on.
+/// Sets the part of an object to so many bytes of its extents, from a place on. It is refused for the
+/// address, and for a range that these haven't.
 pub fn delimit<O: Objects>(
     o: &mut O,
     object: Addr,

@@ -6,7 +6,7 @@ ghost use Rattle.sdr_base.specs.Works.{Looks};
 ghost use Rattle.sdr_model.specs.Limits.{longest_read};
 ghost use Rattle.sdr_model.specs.Pieces.{asked_addr, asked_count};
 ghost use Rattle.sdr_model.specs.Reading.{reads_media};
-ghost use Rattle.step_zco_parts.specs.Giving.{AgreesIn, AsksInEach, CountStops, HasMediaCause, IsGood, ReadsCall, asked_by, may_read, place_of};
+ghost use Rattle.step_zco_parts.specs.Giving.{AgreesIn, AsksInEach, CountStops, HasMediaCause, ReadsCall, asked_by, may_read, place_of};
 ghost use Rattle.zco_wire.specs.Asking.{AsksOnce};
 ghost use Rattle.zco_wire.specs.Naming.{IsWire};
 ghost use Rattle.zco_wire.specs.Stopping.{KeepsTold, ReadStops, past_media};
@@ -83,7 +83,7 @@ fn give<O: Objects, M: Media>(
     page: &mut Page,
 ) -> Result<Reply, Stop>
     requires kept { KeepsSome (O.keeps o.old) }
-    requires good { IsGood (O.heap o.old) }
+    requires wire { IsWire (O.heap o.old).blocks (asked_addr call.now) }
     requires unmoved { (O.heap o.old).moves ≡ [] }
     requires reads { reads_media call.now ≡ true }
     requires object { reader.object ≡ asked_addr call.now }
@@ -133,7 +133,7 @@ pub fn answer<O: Objects, M: Media>(
     page: &mut Page,
 ) -> Result<Reply, Stop>
     requires kept { KeepsSome (O.keeps o.old) }
-    requires good { IsGood (O.heap o.old) }
+    requires wire { IsWire (O.heap o.old).blocks (asked_addr call.now) }
     requires unmoved { (O.heap o.old).moves ≡ [] }
     requires reads { reads_media call.now ≡ true }
     ensures comes { ComesInEach call.now (O.heap o.old) (O.heap o.new) page.old page.new result }

@@ -53,8 +53,8 @@ fn a_pass_reads_what_was_published(rt: HostRuntime) -> Result<(), Fail> {
     let (board, mut writer, mut pass) = Board::new(rt.alloc())?;
     assert_eq!(rt; board.read(&mut pass), totals_of_first(0));
     let journal = first_entries(rt.alloc(), 8)?;
-    board.publish(&mut writer, &journal);
-    board.publish(&mut writer, &journal);
+    board.publish(&mut writer, journal.as_slice());
+    board.publish(&mut writer, journal.as_slice());
     let mut split = board.split(&mut writer);
     assert_eq!(rt; board.read(&mut split), totals_of_first(8));
     assert_eq!(rt; board.read(&mut pass), totals_of_first(8));
@@ -64,7 +64,7 @@ fn a_pass_reads_what_was_published(rt: HostRuntime) -> Result<(), Fail> {
 #[test]
 fn a_joined_pass_reads_no_less_than_either(rt: HostRuntime) -> Result<(), Fail> {
     let (board, mut writer, mut pass) = Board::new(rt.alloc())?;
-    board.publish(&mut writer, &first_entries(rt.alloc(), 3)?);
+    board.publish(&mut writer, first_entries(rt.alloc(), 3)?.as_slice());
     let latest = board.split(&mut writer);
     board.join(&mut pass, latest);
     assert_eq!(rt; board.read(&mut pass), totals_of_first(3));

@@ -92,7 +92,7 @@ pub fn write_often<R: Clock>(
         let Ok(()) = journal.push(entry) else {
             return None;
         };
-        board.publish(&mut writer, &journal);
+        board.publish(&mut writer, journal.as_slice());
         if place % 64 == 0 {
             yield_now();
             if bounds.is_over(rt) {

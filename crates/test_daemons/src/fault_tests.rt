@@ -1,4 +1,4 @@
-// A disk that fails at any call, while two daemons are at work: both leave, and the status tells of it.
+// A disk that fails at any call, while two daemons are at work: both leave, the status tells of it, and the totals stand behind the journal.
 use crate::runs::{has, status_of};
 use sdr_base::{MemorySink, NoGate};
 use sdr_shell::{DISK_FAULT, DONE};
@@ -10,7 +10,7 @@ const SCRIPT: &[u8] =
     b"1: begin\n1: string \"hello\"\n1: end\n2: begin\n2: list 7\n2: end\n1: begin\n1: end\n";
 
 // What the run on a disk whose call of this number fails, 0 for none, is told by: the status, how many calls were made, and whether each
-// daemon left so.
+// daemon left so, and the totals are told.
 fn told<R: Threads + Wait + Sync>(
     rt: &R,
     alloc: Global,
@@ -18,16 +18,17 @@ fn told<R: Threads + Wait + Sync>(
     leaves: [&[u8]; 2],
 ) -> Option<(u8, u64, bool)> {
     let mut output = MemorySink::new(alloc, Vec::new(alloc));
-    let (status, calls) = status_of(rt, alloc, SCRIPT, failing, &mut output, &NoGate)?;
+    let (status, calls) = status_of(rt, alloc, true, SCRIPT, failing, &mut output, &NoGate)?;
     let have_left = leaves.iter().all(|leave| has(output.taken(), leave));
-    Some((status, calls, have_left))
+    let totals = has(output.taken(), b"\ntotals ");
+    Some((status, calls, have_left && totals))
 }
 
 // The calls of an opening, and the first call behind them whose failure comes to something else than a disk fault behind which both
 // daemons leave.
 fn wrong_fault<R: Threads + Wait + Sync>(rt: &R, alloc: Global) -> Option<Option<u64>> {
     let mut output = MemorySink::new(alloc, Vec::new(alloc));
-    let (_, opening) = status_of(rt, alloc, b"", 0, &mut output, &NoGate)?;
+    let (_, opening) = status_of(rt, alloc, true, b"", 0, &mut output, &NoGate)?;
     let (status, calls, _) = told(rt, alloc, 0, [b" 1 leaves done\n", b" 2 leaves done\n"])?;
     if status != DONE || calls != opening.checked_add(20)? {
         return Some(Some(0));

@@ -66,15 +66,18 @@ impl Gate for EachForTheOther {
 
 #[test]
 fn daemons_run_side_by_side(rt: HostRuntime) {
-    let gate = EachForTheOther::new();
-    let mut output = MemorySink::new(rt.alloc(), Vec::new(rt.alloc()));
-    let status = status_of(&rt, rt.alloc(), SCRIPT, 0, &mut output, &gate).map(|(
-        status,
-        _,
-    )| status);
-    assert_eq!(rt; status, Some(DONE));
-    assert!(rt; !gate.gave_up.load(Ordering::SeqCst));
-    assert!(rt; has(output.taken(), b" 2 awarded 2\n"));
-    assert!(rt; has(output.taken(), b" 1 leaves done\n"));
-    assert!(rt; has(output.taken(), b" 2 leaves done\n"));
+    for totals in [false, true] {
+        let gate = EachForTheOther::new();
+        let mut output = MemorySink::new(rt.alloc(), Vec::new(rt.alloc()));
+        let status = status_of(&rt, rt.alloc(), totals, SCRIPT, 0, &mut output, &gate).map(|(
+            status,
+            _,
+        )| status);
+        assert_eq!(rt; status, Some(DONE));
+        assert!(rt; !gate.gave_up.load(Ordering::SeqCst));
+        assert!(rt; has(output.taken(), b" 2 awarded 2\n"));
+        assert!(rt; has(output.taken(), b" 1 leaves done\n"));
+        assert!(rt; has(output.taken(), b" 2 leaves done\n"));
+        assert_eq!(rt; has(output.taken(), b"\ntotals "), totals);
+    }
 }

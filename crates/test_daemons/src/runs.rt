@@ -22,11 +22,12 @@ fn formatted(alloc: Global) -> Option<Vec<u8>> {
     disk.image_at(disk.now(), Torn::New).ok()
 }
 
-/// The status of a run of this script on an empty heap, and how many calls of its disk were made, whose call of this number
-/// fails, 0 for none.
+/// The status of a run of this script on an empty heap, with totals or without, and how many calls of its disk were made, whose
+/// call of this number fails, 0 for none.
 pub fn status_of<R: Threads + Wait + Sync, G: Gate + Sync>(
     rt: &R,
     alloc: Global,
+    totals: bool,
     script: &[u8],
     failing: u64,
     output: &mut MemorySink,
@@ -34,6 +35,9 @@ pub fn status_of<R: Threads + Wait + Sync, G: Gate + Sync>(
 ) -> Option<(u8, u64)> {
     let mut words = Vec::new(alloc);
     words.push(RcStr::from_str(alloc, "run").ok()?).ok()?;
+    if totals {
+        words.push(RcStr::from_str(alloc, "totals").ok()?).ok()?;
+    }
     let mut source = MemorySource::new(Bytes::copied(alloc, script).ok()?, Vec::new(alloc));
     let disk = MemoryDisk::new(formatted(alloc)?, vec![in alloc; failing; 1].ok()?);
     let outcome = top(

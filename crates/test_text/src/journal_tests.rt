@@ -1,7 +1,8 @@
 // What is printed of a journal, by literals from outside.
 use sdr_base::{Bytes, Items, MemorySink, NoMemory, Reason};
+use sdr_board::Totals;
 use sdr_model::{Answer, Close, Entry, Event, Leave, Reply, Said, What};
-use sdr_text::write_journal;
+use sdr_text::{write_journal, write_totals};
 use std::alloc::Global;
 
 /// An answer in a transaction, and the bytes that its call gave.
@@ -146,4 +147,25 @@ fn is_printed(alloc: Global) -> Result<bool, NoMemory> {
 #[test]
 fn a_journal_has_a_line_for_each_entry_and_each_answer_within(rt: HostRuntime) {
     assert!(rt; is_printed(rt.alloc()).is_ok_and(|printed| printed));
+}
+
+const TOTALS: Totals = Totals {
+    entries: 21,
+    number: 18_446_744_073_709_551_615,
+    ended: 1,
+    cancelled: 2,
+    exited: 3,
+    faulted: 4,
+    looks: 5,
+    left: 6,
+    taken: 8,
+    given: 7,
+};
+
+#[test]
+fn totals_are_a_word_and_ten_numbers(rt: HostRuntime) {
+    let mut out = MemorySink::new(rt.alloc(), Vec::new(rt.alloc()));
+    assert!(rt; write_totals(&mut out, &TOTALS).is_ok());
+    let want: &[u8] = b"totals 21 18446744073709551615 1 2 3 4 5 6 8 7\n";
+    assert_eq!(rt; out.taken(), want);
 }

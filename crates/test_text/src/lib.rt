@@ -1,4 +1,4 @@
-//! Tests of `sdr_text` and `sdr_words`, what is printed and what is read, as rows of literals.
+//! Tests of `sdr_text`, `sdr_words` and `sdr_load`, what is printed, read and made, as rows of literals.
 //!
 //! 1. A row is what is read or printed, and what comes of it. Its literals come from the grammar and from
 //!    the table of answers, and not from the code.
@@ -16,6 +16,8 @@ mod event_tests;
 mod grammar_tests;
 #[cfg(test)]
 mod journal_tests;
+#[cfg(test)]
+mod load_tests;
 #[cfg(test)]
 mod name_tests;
 #[cfg(test)]

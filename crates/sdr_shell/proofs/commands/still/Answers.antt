@@ -1,4 +1,4 @@
-use Rattle.std.proofs.Common.{rules, ◌≡◌, ◌⊎◌, None, Some, ap, inl, inr, refl}
+use Rattle.std.proofs.Common.{rules, ◌≡◌, Bool, None, Some, ap, refl}
 use Rattle.sdr_shell.proofs.AnsweringLemmas.{answers_dry, answers_format, answers_inspect, answers_recover, answers_replay, answers_usage, form_at, unrun}
 use Rattle.sdr_shell.proofs.StillLemmas.{dry_completes, format_completes, not_run, spells_none}
 use Rattle.sdr_shell.specs.Answers.{AnswersDry, AnswersFormat, seen}
@@ -94,11 +94,16 @@ returns-in-Some-Inspect g c =
 
 pub returns-in-Some-Run : goal.returns-in-Some-Run
 returns-in-Some-Run g c =
-    let form : still_form (form_of c.args.words.now) ≡ None =
-    (let known : (form_of c.args.words.now ≡ Some Run) ⊎ (form_of c.args.words.now ≡ None) = search rules in
-    elim known [ inl is ↦ ap still_form is | inr is ↦ ap still_form is ]) in
     form_at g.D.Disk g.M.Media g.S.Source g.K.Sink c.args.disk c.args.media c.args.input.now c.args.input.now c.args.output.now
-    c.last_line.new.output (still_form (form_of c.args.words.now)) None c.without_journal-in-Some-Run.result (unrun USAGE c.args.disk c.args.media) form
-    c.without_journal-in-Some-Run.ensures
+    c.no_form.new.output (still_form (form_of c.args.words.now)) None c.no_form.result (unrun USAGE c.args.disk c.args.media)
+    (let known : (totals : Bool) × (form_of c.args.words.now ≡ Some (Run totals)) = search rules in ap still_form known.1) c.no_form.ensures.outcome
     (answers_usage g.D.Disk g.M.Media g.S.Source g.K.Sink c.args.disk c.args.media c.args.input.now c.args.input.now c.args.output.now
-    c.last_line.new.output c.last_line.ensures.written c.last_line.ensures.later)
+    c.no_form.new.output c.no_form.ensures.written c.no_form.ensures.later)
+
+pub returns-in-None : goal.returns-in-None
+returns-in-None g c =
+    form_at g.D.Disk g.M.Media g.S.Source g.K.Sink c.args.disk c.args.media c.args.input.now c.args.input.now c.args.output.now
+    c.no_form-in-None.new.output (still_form (form_of c.args.words.now)) None c.no_form-in-None.result (unrun USAGE c.args.disk c.args.media)
+    (let known : form_of c.args.words.now ≡ None = search rules in ap still_form known) c.no_form-in-None.ensures.outcome
+    (answers_usage g.D.Disk g.M.Media g.S.Source g.K.Sink c.args.disk c.args.media c.args.input.now c.args.input.now c.args.output.now
+    c.no_form-in-None.new.output c.no_form-in-None.ensures.written c.no_form-in-None.ensures.later)

@@ -1,4 +1,5 @@
 use Rattle.std.proofs.Common.{◌≡◌, ◌∙◌, ◌==◌, true, List, sym, ap, arith, eq-eqb, length, subst}
+use Rattle.std.specs.Prelude.{⊤}
 use Rattle.std.specs.Prelude.{MatchBool}
 use Rattle.std.proofs.lemmas.Bool.Decides.{nat_tests}
 use Rattle.atomic_table.specs.Table.{Me}
@@ -10,7 +11,7 @@ use Rattle.sdr_board.proofs.board.Board.look.Goals as goal
 use Rattle.sdr_model.specs.declared.journal.Entry.{Entry}
 
 abbrev Mine : Type 0
-Mine = Me (List Entry) View
+Mine = Me ⊤ View
 
 pub load-entries-requires : goal.load-entries-requires
 load-entries-requires c =

@@ -1,6 +1,6 @@
 use Rattle.std.proofs.Common.{◌≡◌, ◌∙◌, ◌+◌, ℕ, List, [], ap, arith, length, refl, sym}
 use Rattle.std.proofs.lemmas.List.{length-set, take_all}
-use Rattle.std.specs.Prelude.{slice_index}
+use Rattle.std.specs.Prelude.{⊤, slice_index}
 use Rattle.atomic_table.specs.Table.{Me}
 use Rattle.sdr_board.specs.Posted.{board_words}
 use Rattle.sdr_board.specs.Totals.{totals, words_of}
@@ -11,7 +11,7 @@ use Rattle.sdr_board.proofs.board.Board.peek.Goals as goal
 use Rattle.sdr_model.specs.declared.journal.Entry.{Entry}
 
 abbrev Mine : Type 0
-Mine = Me (List Entry) View
+Mine = Me ⊤ View
 
 pub load-requires : goal.load-requires
 load-requires c =

@@ -1,7 +1,6 @@
-use Rattle.std.proofs.Common.{◌≡◌, ◌∙◌, ◌==◌, List, sym, ap, subst, arith}
-use mathlib.Core.Option.{some}
-use prog.Atomic.{either}
-use Rattle.atomic_table.specs.Table.{Allows, Me, step}
+use Rattle.std.proofs.Common.{◌≡◌, ◌∙◌, sym, ap, subst, arith}
+use Rattle.std.specs.Prelude.{⊤}
+use Rattle.atomic_table.specs.Table.{Allows, Me}
 use Rattle.sdr_board.specs.Plays.{Beginning, Ending}
 use Rattle.sdr_board.specs.Posted.{IsPosted}
 use Rattle.sdr_board.specs.Totals.{words_of}
@@ -10,30 +9,28 @@ use Rattle.sdr_board.specs.declared.totals.Totals.{Totals}
 use Rattle.sdr_board.specs.declared.view.View.{View}
 use Rattle.sdr_board.proofs.WriterSteps.{begins, ends}
 use Rattle.sdr_board.proofs.board.Board.post.Goals as goal
-use Rattle.sdr_model.specs.declared.journal.Entry.{Entry}
 
 abbrev Mine : Type 0
-Mine = Me (List Entry) View
+Mine = Me ⊤ View
 
 pub store-requires : goal.store-requires
-store-requires c =
+store-requires g c =
     let place = c.args.place.now in
     let new = c.args.last.entries in
     let slots = c.self.inside.table.shared.table_id.slots in (
       c.requires.board ∙ sym c.self.view_is,
       omega (arith, c.self.invariant),
-      subst (λ (v : View). Allows (IsPosted {S = List Entry}) slots place.id (v, place.me.1) 1 (λ _. new) (λ _. Beginning (v, place.me.1) new)) (sym c.requires.writer.0)
-          (begins slots place.id new place.me.0.seen place.me.1 (omega (arith, c.requires.writer.1, c.requires.totals.1))),
+      subst (λ (v : View). Allows (IsPosted {S = ⊤}) slots place.id (v, place.me.1) 1 (λ _. new) (λ _. Beginning (v, place.me.1) new)) (sym c.requires.writer)
+          (begins slots place.id new place.me.0.seen place.me.1 c.requires.totals.1),
     )
 
-pub compare_exchange_with-requires : goal.compare_exchange_with-requires
-compare_exchange_with-requires c =
+pub store-requires-2 : goal.store-requires-2
+store-requires-2 g c =
     let place = c.args.place.now in
     let seen = place.me.0.seen in
-    let old = c.args.before in
     let last = c.args.last in
     let new = last.entries in
-    let journal = c.args.journal.now in
+    let journal = g.N.Naming.journal in
     let slots = c.self.inside.table.shared.table_id.slots in
     let seat = c.write.new.place in
     let counted = ap (λ (t : Totals). t.entries) c.requires.totals.0 in
@@ -41,6 +38,6 @@ compare_exchange_with-requires c =
     c.write.ensures.written ∙ ap (λ (m : Mine). (writing_view m.0.seen m.0.begun (words_of last), m.1)) c.store.ensures.2 in (
       c.write.ensures.board ∙ sym c.self.view_is,
       omega (arith, c.self.invariant),
-      subst (λ (m : Mine). Allows (IsPosted {S = List Entry}) slots seat.id m 0 (λ n. either (n == old) new n) (Ending (step slots 0 old new (some journal)) m)) (sym all)
-          (ends slots seat.id old new new seen journal (words_of last) place.me.1 (sym c.requires.writer.1) counted counted (ap words_of c.requires.totals.0) c.requires.begins),
+      subst (λ (m : Mine). Allows (IsPosted {S = ⊤}) slots seat.id m 0 (λ _. new) (λ _. Ending journal m new)) (sym all)
+          (ends slots seat.id new new seen journal (words_of last) place.me.1 counted counted (ap words_of c.requires.totals.0) c.requires.begins),
     )

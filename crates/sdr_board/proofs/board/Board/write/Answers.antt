@@ -1,16 +1,15 @@
-use Rattle.std.proofs.Common.{◌≡◌, ◌∙◌, ◌+◌, List, sym, ap, subst, arith, take, length}
+use Rattle.std.proofs.Common.{◌≡◌, ◌∙◌, ◌+◌, sym, ap, subst, arith, take, length}
 use Rattle.std.proofs.lemmas.List.{length-take-le}
-use Rattle.std.specs.Prelude.{slice_index}
+use Rattle.std.specs.Prelude.{⊤, slice_index}
 use Rattle.atomic_table.specs.Table.{Allows, Me}
 use Rattle.sdr_board.specs.Plays.{Writing}
 use Rattle.sdr_board.specs.Posted.{IsPosted}
 use Rattle.sdr_board.specs.declared.view.View.{View}
 use Rattle.sdr_board.proofs.WriterSteps.{writes_word}
 use Rattle.sdr_board.proofs.board.Board.write.Goals as goal
-use Rattle.sdr_model.specs.declared.journal.Entry.{Entry}
 
 abbrev Mine : Type 0
-Mine = Me (List Entry) View
+Mine = Me ⊤ View
 
 pub store-requires : goal.store-requires
 store-requires c =
@@ -24,6 +23,6 @@ store-requires c =
     let long : length (take i words) ≡ i = length-take-le i words (omega (arith, nine, c.loop-i-test.true)) in (
       c.loop-i.invariant.0 ∙ c.requires.board ∙ sym c.self.view_is,
       omega (arith, c.self.invariant, c.loop-i-test.true),
-      subst (λ (m : Mine). Allows (IsPosted {S = List Entry}) slots seat.id m (2 + i) (λ _. x) (λ _. Writing m x)) (sym c.loop-i.invariant.1)
+      subst (λ (m : Mine). Allows (IsPosted {S = ⊤}) slots seat.id m (2 + i) (λ _. x) (λ _. Writing m x)) (sym c.loop-i.invariant.1)
           (writes_word slots seat.id (2 + i) x place.me.0.begun place.me.0.seen (take i words) place.me.1 (omega (arith, long, c.loop-i-test.true)) c.requires.more (omega (arith, long))),
     )

@@ -3,6 +3,7 @@ use Rattle.std.specs.Prelude.{is_some, length, slice_set}
 use Rattle.arrayvec.specs.ArrayVec.{with_items}
 use Rattle.sdr_core.specs.CoreKept.{KeepsRun}
 use Rattle.sdr_machine.specs.Crash.{is_sound}
+use Rattle.sdr_turn.proofs.EntryLemmas.{prefix_self}
 use Rattle.sdr_daemon.proofs.RunLemmas.{drawn_few, turned_at}
 use Rattle.sdr_daemon.specs.Progressing.{ScriptedCore}
 use Rattle.sdr_daemon.specs.TakingTurns.{TurnsAt, is_gone}
@@ -23,6 +24,13 @@ returns-clause-turns g c stays =
     c.self.invariant.0
     (subst (λ (v : ScriptedCore g.row.T.Denot). is_gone c.args.place v ≡ false) (sym c.self.view_is) stays)
     c.as_mut_slice.ensures.value c.turn.ensures.ends c.turn.ensures.lasts).1
+
+pub returns-clause-grows : goal.returns-clause-grows
+returns-clause-grows g c =
+    let turn = returns-clause-turns g c (sym c.is_gone.ensures.gone ∙ c.if-is_gone.false) in (turn.ends.entries, sym turn.ends.over.journal_is)
+
+pub returns-then-is_gone-clause-grows : goal.returns-then-is_gone-clause-grows
+returns-then-is_gone-clause-grows g c = prefix_self _
 
 pub invariant_of-self : goal.invariant_of-self
 invariant_of-self g c = (

@@ -5,7 +5,7 @@ use Rattle.sdr_machine.specs.Crash.{LeavesBefore}
 use Rattle.sdr_machine.specs.Serving.{Brings, KeepsGround, Shows}
 use Rattle.sdr_station.proofs.GroundLemmas.{heap_ground, keeps_later}
 use Rattle.sdr_station.proofs.InsideLemmas.{inside_quiet}
-use Rattle.sdr_station.proofs.LookLemmas.{before_idle, keeps_before_look, looked_ground, looked_quiet, looks_never, queues_before_look, shows_seen}
+use Rattle.sdr_station.proofs.LookLemmas.{before_idle, keeps_before_look, looked_ground, looked_quiet, looks_never, stands_before_look, shows_seen}
 use Rattle.sdr_station.proofs.ServingLemmas.{brings_quiet, leaves_quiet}
 use Rattle.sdr_station.specs.Grounded.{Grounded, StandsForBoth, StandsInMemory, StaysInside}
 use Rattle.sdr_station.proofs.ground.HeapGround.look.Goals as goal
@@ -26,8 +26,8 @@ look-requires-clause-kept g c =
     let before = before_idle g.D.Disk.moment old c.self.invariant (ap (λ (o : Grounded D M). o.idle) c.self.view_is ∙ c.requires.idle) in
     keeps_before_look old before
 
-pub look-requires-clause-good : goal.look-requires-clause-good
-look-requires-clause-good g c =
+pub look-requires-clause-stands : goal.look-requires-clause-stands
+look-requires-clause-stands g c =
     let D = g.row.D.Denot in
     let M = g.row.M.Denot in
     let old : Grounded D M = record {
@@ -40,7 +40,7 @@ look-requires-clause-good g c =
       restored = c.self.inside.restored;
     } in
     let before = before_idle g.D.Disk.moment old c.self.invariant (ap (λ (o : Grounded D M). o.idle) c.self.view_is ∙ c.requires.idle) in
-    queues_before_look old before
+    stands_before_look old before
 
 pub unreachable-requires : goal.unreachable-requires
 unreachable-requires g c =

@@ -2,7 +2,7 @@ use Rattle.std.proofs.Common.{◌∙◌, ap, inl, inr, not, subst, false}
 use Rattle.sdr_heap.specs.Noted.{Held}
 use Rattle.sdr_image.specs.Opened.{Opened}
 use Rattle.sdr_model.specs.declared.answer.Reply.TheVariants as replies
-use Rattle.sdr_station.proofs.CameLemmas.{CameTo, came_answered, came_missed, came_refused, faults_never, good_before, keeps_before, lines_left}
+use Rattle.sdr_station.proofs.CameLemmas.{CameTo, came_answered, came_missed, came_refused, faults_never, keeps_before, lines_left, stands_before}
 use Rattle.sdr_station.proofs.InsideLemmas.{inside_quiet}
 use Rattle.sdr_station.specs.Grounded.{Grounded}
 use Rattle.sdr_station.proofs.ground.HeapGround.serve.Goals as goal
@@ -11,9 +11,9 @@ pub answer-requires-clause-kept : goal.answer-requires-clause-kept
 answer-requires-clause-kept g c =
     keeps_before g.D.Disk.moment _ c.self.invariant (ap (λ (o : Grounded g.row.D.Denot g.row.M.Denot). o.stopped) c.self.view_is ∙ c.requires.going) c.clear_moves.new.self c.clear_moves.ensures.none
 
-pub answer-requires-clause-good : goal.answer-requires-clause-good
-answer-requires-clause-good g c =
-    good_before g.D.Disk.moment _ c.self.invariant (ap (λ (o : Grounded g.row.D.Denot g.row.M.Denot). o.stopped) c.self.view_is ∙ c.requires.going) c.clear_moves.new.self c.clear_moves.ensures.none
+pub answer-requires-clause-stands : goal.answer-requires-clause-stands
+answer-requires-clause-stands g c =
+    stands_before g.D.Disk.moment _ c.self.invariant (ap (λ (o : Grounded g.row.D.Denot g.row.M.Denot). o.stopped) c.self.view_is ∙ c.requires.going) c.clear_moves.new.self c.clear_moves.ensures.none
 
 pub unreachable-requires : goal.unreachable-requires
 unreachable-requires g c =

@@ -1,0 +1,2 @@
+pub mod AtLockLemmas
+pub mod RunsLemmas

@@ -1,0 +1,3 @@
+pub mod AtLock
+pub mod Daemons
+pub mod Posted

@@ -1,0 +1,13 @@
+-- What is printed of totals.
+use Rattle.std.specs.Prelude.{ℕ, List, [], ◌∷◌, ◌++◌, codes, fold}
+use Rattle.sdr_board.specs.declared.totals.Totals.{Totals}
+use Rattle.sdr_text.specs.Refused.{field_on}
+
+-- the ten numbers in the order in which they are printed
+abbrev pub numbers_of : Totals → List ℕ
+numbers_of t =
+    t.entries ∷ t.number ∷ t.ended ∷ t.cancelled ∷ t.exited ∷ t.faulted ∷ t.looks ∷ t.left ∷ t.taken ∷ t.given ∷ []
+
+-- the line of totals: a word, and the ten numbers, each after a space
+abbrev pub totals_text : Totals → List ℕ
+totals_text t = fold field_on (codes "totals") (numbers_of t) ++ codes "\n"
