@@ -5,7 +5,6 @@ use Rattle.std.specs.Io.KnownBytes.{Appends}
 use Rattle.sdr_base.proofs.WrittenLemmas.{rose_later}
 use Rattle.sdr_base.specs.Causes.{Rose}
 use Rattle.sdr_base.specs.Written.{AppendsPart}
-use Rattle.sdr_core.specs.CoreKept.{RunStart}
 use Rattle.sdr_core.specs.Going.{GoesUnasked, MakesNext, NextCore, media_of}
 use Rattle.sdr_core.specs.declared.has_run.HasRun.{Ghosts as RunGhosts}
 use Rattle.sdr_core.proofs.CausedLemmas.{caused_by, caused_later, caused_more, failed_refl, stayed_by}
