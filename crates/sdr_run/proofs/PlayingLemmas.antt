@@ -21,7 +21,7 @@ use Rattle.sdr_model.specs.declared.answer.Answer.{Answer}
 use Rattle.sdr_model.specs.declared.event.Event.{Event}
 use Rattle.sdr_model.specs.declared.script.ScriptStep.{ScriptStep}
 use Rattle.sdr_run.specs.Playing.{IsPrinted, Output, Plays, PrintsMore, leave_of}
-use Rattle.sdr_run.specs.Running.{AnswersStep, HasMade, HasRun, Running, TellsGiven}
+use Rattle.sdr_run.specs.Running.{AnswersStep, HasMade, HasRun, MakesStep, Running, TellsGiven}
 use Rattle.sdr_run.specs.Steps.{StartsWith}
 use Rattle.sdr_text.proofs.TextLemmas.{part_later}
 use Rattle.sdr_text.specs.Text.{line_text}
@@ -86,6 +86,15 @@ answered_by r bindings step event came old new Prints is makes prints = record {
   makes = subst (λ (ev : Event). MakesNext r step.daemon step.line ev came old new) is makes;
   prints = prints;
 }
+
+-- and its name holds what the answer gave
+pub made_by_event : {R : Type 0} (r : RunGhosts R) (bindings : List Binding) (step : ScriptStep) (event : Event) (came : Came) (old new : R) (bindings' : List Binding)
+    (Prints : List ℕ → Type 0) → event ≡ event_of bindings step → MakesNext r step.daemon step.line event came old new
+    → TellsGiven r new came (λ bytes. Prints (line_text step.line step.daemon came.answer bytes)) → bindings' ≡ bound bindings step came.answer
+    → MakesStep r bindings step old new bindings' Prints
+unfolding answered_by
+made_by_event r bindings step event came old new bindings' Prints is makes prints names =
+    record { answers = answered_by r bindings step event came old new Prints is makes prints; names = names }
 
 -- the run so far, by the step that is next
 pub running_at : {R : Type 0} (r : RunGhosts R) (before : R) (from : Core) (script left : List ScriptStep) (step : ScriptStep) (bindings : List Binding) (now : R)

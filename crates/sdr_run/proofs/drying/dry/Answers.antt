@@ -27,8 +27,8 @@ returns-clause-ran g c =
     let new = seen g c.play-played.new.out in
     let last = c.play-played.new.run in
     let played = c.play-played.result in
-    let begun : c.in-Ok-new.run ≡ first_run (daemons_of script) c.args.media =
+    let begun : c.in-Ok-new.run' ≡ first_run (daemons_of script) c.args.media =
     c.in-Ok-new.ensures.made ∙ ap (λ (ds : List ℕ). first_run ds c.args.media) (c.deref.ensures.value ∙ c.in-Ok.ensures.named) in
     dry_of m script c.args.media last old new played
     (subst (λ (k : MemoryRun M). Plays (memory_run m) k last script old new played) begun
-    (subst (λ (steps : List ScriptStep). Plays (memory_run m) c.in-Ok-new.run last steps old new played) c.new-2.ensures c.play-played.ensures.plays))
+    (subst (λ (steps : List ScriptStep). Plays (memory_run m) c.in-Ok-new.run' last steps old new played) c.new-2.ensures c.play-played.ensures.plays))

@@ -1,4 +1,4 @@
-use Rattle.std.proofs.Common.{◌≡◌, ◌≤◌, ◌+◌, ◌∷◌, [], List, true, false, true≢false, ap, sym, subst, arith, length, inl, inr}
+use Rattle.std.proofs.Common.{◌≡◌, ◌≤◌, ◌+◌, ◌∷◌, [], List, true, false, true≢false, ap, sym, subst, arith, length, refl, inl, inr}
 use Rattle.sdr_model.specs.declared.script.ScriptStep.{ScriptStep}
 use Rattle.sdr_run.proofs.PlayingLemmas.{made_also, made_next, made_still, running_at, running_next, running_start}
 use Rattle.sdr_run.specs.Playing.{IsPrinted, Output, output}
@@ -118,6 +118,6 @@ loop-step-smaller g c =
 pub returns-clause-ran : goal.returns-clause-ran
 returns-clause-ran g c = record {
   rest = g.S.Steps.left c.loop-step.steps;
-  each = λ from here. made_also g.R.HasRun c.args.run.now from _ (g.S.Steps.left c.loop-step.steps) c.loop-step.run false _ (λ done. search c.next.ensures.none)
+  each = λ from here. made_also g.R.HasRun c.args.run.now from _ (g.S.Steps.left c.loop-step.steps) c.loop-step.run false _ (λ done. c.in_default.ensures.none refl)
       (c.loop-step.invariant.running from here).at;
 }
