@@ -1,5 +1,5 @@
 -- A dry run, and what is promised of it.
-use Rattle.std.proofs.Common.{◌≡◌, ◌≤◌, ◌+◌, ℕ, List, [], true, false, true≢false, Option, refl, subst, arith}
+use Rattle.std.proofs.Common.{◌≡◌, ℕ, List, [], true, false, true≢false, Option, refl, subst, arith}
 use Rattle.std.proofs.KnownBytes.{Appends-nil}
 use Rattle.std.specs.Io.KnownBytes.{Appends}
 use Rattle.sdr_base.specs.Media.{Told}

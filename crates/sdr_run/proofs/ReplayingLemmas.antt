@@ -7,7 +7,7 @@ use Rattle.sdr_core.specs.CoreKept.{AreMadeBetween, BeginsOn, IsRunOf}
 use Rattle.sdr_disk.specs.Moments.{AtEach}
 use Rattle.sdr_disk.specs.Told.{Both, IfTold}
 use Rattle.sdr_disk.specs.declared.disk.Disk.{Ghosts as DiskGhosts}
-use Rattle.sdr_core.specs.Caused.{EntriesAreCaused, SeenMedia, from_to, seen_media}
+use Rattle.sdr_core.specs.Caused.{SeenMedia, from_to, seen_media}
 use Rattle.sdr_words.specs.Daemons.{daemons_of}
 use Rattle.sdr_image.specs.Opening.{MayBeOpened}
 use Rattle.sdr_machine.specs.Ground.{State}

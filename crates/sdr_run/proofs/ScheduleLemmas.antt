@@ -1,5 +1,5 @@
 -- A schedule, step by step.
-use Rattle.std.proofs.Common.{◌≡◌, ◌≤◌, ◌+◌, List, [], ◌∷◌, ◌++◌, refl, sym, ap, ◌∙◌, subst, append_assoc, append-nil, arith}
+use Rattle.std.proofs.Common.{◌≡◌, ◌+◌, List, [], ◌∷◌, ◌++◌, refl, sym, ap, ◌∙◌, subst, append_assoc, append-nil, arith}
 use Rattle.std.specs.declared.option.Option.{Option}
 use Rattle.sdr_machine.specs.Asked.{outside_asked}
 use Rattle.sdr_machine.specs.Core.{Core, CoreStep, RunsCore}

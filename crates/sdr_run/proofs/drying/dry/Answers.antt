@@ -1,8 +1,9 @@
-use Rattle.std.proofs.Common.{◌≡◌, ◌∙◌, List, ℕ, ap, arith, length, subst}
+use Rattle.std.proofs.Common.{◌≡◌, ◌∙◌, List, ℕ, ap, arith, length, subst, sym}
 use Rattle.mem_machine.proofs.RunLemmas.{memory_run}
 use Rattle.mem_machine.specs.MemoryRun.{MemoryRun, first_run}
 use Rattle.sdr_model.specs.declared.script.ScriptStep.{ScriptStep}
 use Rattle.sdr_run.proofs.DryLemmas.{dry_of}
+use Rattle.sdr_run.specs.Dry.{IsDry}
 use Rattle.sdr_run.specs.Playing.{Output, Plays, output}
 use Rattle.sdr_words.specs.Daemons.{daemons_of}
 use Rattle.sdr_run.proofs.drying.dry.Given.{Over}
@@ -29,6 +30,7 @@ returns-clause-ran g c =
     let played = c.play-played.result in
     let begun : c.in-Ok-new.run' ≡ first_run (daemons_of script) c.args.media =
     c.in-Ok-new.ensures.made ∙ ap (λ (ds : List ℕ). first_run ds c.args.media) (c.deref.ensures.value ∙ c.in-Ok.ensures.named) in
-    dry_of m script c.args.media last old new played
+    subst (λ (left : M). IsDry m script c.args.media old new (record { media = left; played = played })) (sym c.into_media.ensures)
+    (dry_of m script c.args.media last old new played
     (subst (λ (k : MemoryRun M). Plays (memory_run m) k last script old new played) begun
-    (subst (λ (steps : List ScriptStep). Plays (memory_run m) c.in-Ok-new.run' last steps old new played) c.new-2.ensures c.play-played.ensures.plays))
+    (subst (λ (steps : List ScriptStep). Plays (memory_run m) c.in-Ok-new.run' last steps old new played) c.new-2.ensures c.play-played.ensures.plays)))

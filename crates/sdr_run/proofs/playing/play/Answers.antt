@@ -1,4 +1,4 @@
-use Rattle.std.proofs.Common.{◌≡◌, arith, subst}
+use Rattle.std.proofs.Common.{arith, subst}
 use Rattle.sdr_core.specs.Going.{GoesUnasked}
 use Rattle.sdr_machine.specs.Leaving.{AllLeave}
 use Rattle.sdr_model.specs.declared.event.Leave.{Leave}

@@ -1,4 +1,4 @@
-use Rattle.std.proofs.Common.{◌≡◌, ◌≤◌, ◌+◌, ◌∷◌, [], List, true, false, true≢false, ap, sym, subst, arith, length, refl, inl, inr}
+use Rattle.std.proofs.Common.{◌≡◌, ◌∷◌, [], List, true, false, true≢false, ap, sym, subst, arith, length, refl, inl, inr}
 use Rattle.sdr_model.specs.declared.script.ScriptStep.{ScriptStep}
 use Rattle.sdr_run.proofs.PlayingLemmas.{made_also, made_next, made_still, running_at, running_next, running_start}
 use Rattle.sdr_run.specs.Playing.{IsPrinted, Output, output}

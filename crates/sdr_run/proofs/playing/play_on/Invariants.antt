@@ -1,4 +1,4 @@
-use Rattle.std.proofs.Common.{◌≡◌, ◌≤◌, ◌+◌, length}
+use Rattle.std.proofs.Common.{◌≤◌, ◌+◌, length}
 use Rattle.sdr_machine.specs.Core.{Core}
 use Rattle.sdr_run.specs.Playing.{IsPrinted, output}
 use Rattle.sdr_run.specs.Running.{Running}

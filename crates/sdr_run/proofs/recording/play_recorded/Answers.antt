@@ -1,4 +1,4 @@
-use Rattle.std.proofs.Common.{◌≡◌, ◌∙◌, ap, arith, not, sym, subst}
+use Rattle.std.proofs.Common.{◌∙◌, ap, arith, not, sym, subst}
 use Rattle.sdr_core.specs.CoreKept.{LoggedLock}
 use Rattle.sdr_core.specs.Leaving.{LastsOn}
 use Rattle.sdr_machine.specs.Crash.{is_sound}

@@ -1,4 +1,4 @@
-use Rattle.std.proofs.Common.{◌≡◌, ◌∙◌, List, ℕ, ap, subst, sym}
+use Rattle.std.proofs.Common.{◌∙◌, List, ℕ, ap, subst, sym}
 use Rattle.sdr_core.specs.CoreKept.{BeginsOn}
 use Rattle.sdr_model.specs.declared.script.ScriptStep.{ScriptStep}
 use Rattle.sdr_run.proofs.ReplayingLemmas.{begins_opened, ground_of, opened_unrun, replayed}
