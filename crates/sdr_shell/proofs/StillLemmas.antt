@@ -1,11 +1,11 @@
 -- What a last line adds to a run, and what follows from the statuses.
-use Rattle.std.proofs.Common.{◌≡◌, ◌≤◌, ◌<◌, ◌+◌, ◌↔◌, IfSome, ℕ, List, ◌++◌, ◌⊎◌, inl, inr, Bool, true, false, ◌&&◌, if◌then◌else◌, Option, Some, None, Ok, Err, IsOk, IsErr, length, true≢false, refl, sym, subst, arith}
+use Rattle.std.proofs.Common.{◌≡◌, ◌≤◌, ◌<◌, ◌+◌, ◌↔◌, IfSome, ℕ, List, ◌++◌, ◌⊎◌, inl, inr, Bool, true, false, ◌&&◌, Option, Some, None, Ok, Err, IsOk, IsErr, length, true≢false, refl, sym, subst, arith}
 use Rattle.std.specs.Io.KnownBytes.{Appends}
 use Rattle.std.proofs.KnownBytes.{Appends-trans}
 use Rattle.sdr_base.specs.Causes.{Rose}
 use Rattle.sdr_base.proofs.WrittenLemmas.{rose_later}
 use Rattle.sdr_log.specs.declared.frame.Frame.{Frame}
-use Rattle.std.specs.Prelude.{codes}
+use Rattle.std.specs.Prelude.{codes, MatchBool}
 use Rattle.sdr_shell.specs.Form.{OnFormat}
 use Rattle.sdr_shell.specs.declared.form.Form.{Form}
 use Rattle.sdr_core.proofs.CausedLemmas.{failed_refl}
@@ -152,7 +152,7 @@ module _ {M : Type 0} (m : MediaGhosts M) (script : List ScriptStep) (files : M)
   }
     where
       by : (starved printing : Bool) → ran.played.starved ≡ starved → ran.played.printing ≡ printing
-          → (if starved && printing then Wrote mid sink' (codes "no memory\n") else (sink' ≡ mid))
+          → MatchBool (starved && printing) (Wrote mid sink' (codes "no memory\n")) (sink' ≡ mid)
       by true true one two = (told_by true true one two).1
       by true false one two = (told_by true false one two).1
       by false true one two = (told_by false true one two).1

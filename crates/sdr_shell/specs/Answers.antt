@@ -1,5 +1,5 @@
 -- What each form answers: by status, what was read, written and changed.
-use Rattle.std.specs.Prelude.{◌≡◌, ◌≢◌, ◌≤◌, ◌<◌, ◌↔◌, ◌⊎◌, ℕ, List, Option, Some, IsOk, IsErr, codes, ◌&&◌, if◌then◌else◌}
+use Rattle.std.specs.Prelude.{◌≡◌, ◌≢◌, ◌≤◌, ◌<◌, ◌↔◌, ◌⊎◌, ℕ, List, Option, Some, IsOk, IsErr, codes, ◌&&◌, MatchBool}
 use Rattle.std.specs.Io.KnownBytes.{Appends}
 use Rattle.sdr_base.specs.Causes.{Rose}
 use Rattle.sdr_base.specs.Media.{Told}
@@ -40,7 +40,7 @@ output_of sink = record { taken = sink.bytes; faults = sink.faults }
 
 -- what is told behind the text of a dry run that came to this
 abbrev pub TellsBehind : Played → Seen → Seen → Type 0
-TellsBehind played mid now = if played.starved && played.printing then Wrote mid now (codes "no memory\n") else (now ≡ mid)
+TellsBehind played mid now = MatchBool (played.starved && played.printing) (Wrote mid now (codes "no memory\n")) (now ≡ mid)
 
 -- The script was run, and in the run media were asked at most once for each extent that lies with them and of which its events
 -- need bytes.
