@@ -2,7 +2,7 @@
 use Rattle.std.proofs.Common.{◌≡◌, ℕ, ◌+◌, ◌<◌, Bool, cond, List, [], ◌∷◌, ◌++◌, length, sum_by, refl, sym, ◌∙◌, ap, arith, append_assoc, get_or, length-append, take}
 use Rattle.std.proofs.lemmas.List.{take_more}
 use Rattle.std.proofs.lemmas.List.Sums.{sum_by-cons, sum_by_push}
-use Rattle.sdr_board.specs.Totals.{is_ended, is_cancelled, is_exited, is_faulted, is_look, is_leave, is_taking, is_giving, moves_in, last_number, capped, totals, AddsUp, with_entry}
+use Rattle.sdr_board.specs.Totals.{is_ended, is_cancelled, is_exited, is_faulted, is_look, is_left, is_taking, is_giving, moves_in, last_number, capped, totals, AddsUp, with_entry}
 use Rattle.sdr_base.specs.declared.moves.Move.{Move}
 use Rattle.sdr_board.specs.declared.totals.Totals.{Totals}
 use Rattle.sdr_model.specs.declared.answer.Close.TheVariants as closes
@@ -15,7 +15,7 @@ abbrev one : (What → Bool) → Entry → ℕ
 one kind e = cond (kind e.what) 1 0
 
 -- it is of one kind
-one_kind : (w : What) → cond (is_ended w) 1 0 + cond (is_cancelled w) 1 0 + cond (is_exited w) 1 0 + cond (is_faulted w) 1 0 + cond (is_look w) 1 0 + cond (is_leave w) 1 0 ≡ 1
+one_kind : (w : What) → cond (is_ended w) 1 0 + cond (is_cancelled w) 1 0 + cond (is_exited w) 1 0 + cond (is_faulted w) 1 0 + cond (is_look w) 1 0 + cond (is_left w) 1 0 ≡ 1
 one_kind (whats.Work said closes.Ended) = refl
 one_kind (whats.Work said closes.Exited) = refl
 one_kind (whats.Work said (closes.Cancelled reason)) = refl
@@ -29,7 +29,7 @@ one_kind (whats.Leaves leave) = refl
 pub adds_up : (entries : List Entry) → AddsUp (totals entries)
 adds_up [] = refl
 adds_up (e ∷ es) =
-    omega (arith, one_kind e.what, adds_up es, sum_by-cons (one is_ended) e es, sum_by-cons (one is_cancelled) e es, sum_by-cons (one is_exited) e es, sum_by-cons (one is_faulted) e es, sum_by-cons (one is_look) e es, sum_by-cons (one is_leave) e es)
+    omega (arith, one_kind e.what, adds_up es, sum_by-cons (one is_ended) e es, sum_by-cons (one is_cancelled) e es, sum_by-cons (one is_exited) e es, sum_by-cons (one is_faulted) e es, sum_by-cons (one is_look) e es, sum_by-cons (one is_left) e es)
 
 pub adds_up-with_entry : (t : Totals) (e : Entry) → AddsUp t → AddsUp (with_entry t e)
 adds_up-with_entry t e sum = omega (arith, one_kind e.what, sum)
@@ -53,7 +53,7 @@ totals-push es e =
     let exited = sum_by_push (one is_exited) es e in
     let faulted = sum_by_push (one is_faulted) es e in
     let looks = sum_by_push (one is_look) es e in
-    let left = sum_by_push (one is_leave) es e in
+    let left = sum_by_push (one is_left) es e in
     let taken = moves is_taking in
     let given = moves is_giving in
     λ k. record {

@@ -37,9 +37,9 @@ is_look (whats.Stalled ticket) = true
 is_look what = false
 
 -- whether a daemon left by it
-abbrev pub is_leave : What → Bool
-is_leave (whats.Leaves leave) = true
-is_leave what = false
+abbrev pub is_left : What → Bool
+is_left (whats.Leaves leave) = true
+is_left what = false
 
 -- whether a block was taken by the move
 abbrev pub is_taking : Move → Bool
@@ -80,7 +80,7 @@ totals entries = record {
   exited = count_by (λ e. is_exited e.what) entries;
   faulted = count_by (λ e. is_faulted e.what) entries;
   looks = count_by (λ e. is_look e.what) entries;
-  left = count_by (λ e. is_leave e.what) entries;
+  left = count_by (λ e. is_left e.what) entries;
   taken = capped (sum_by (λ e. moves_in is_taking e.what) entries);
   given = capped (sum_by (λ e. moves_in is_giving e.what) entries);
 }
@@ -103,7 +103,7 @@ with_entry t e = record {
   exited = t.exited + cond (is_exited e.what) 1 0;
   faulted = t.faulted + cond (is_faulted e.what) 1 0;
   looks = t.looks + cond (is_look e.what) 1 0;
-  left = t.left + cond (is_leave e.what) 1 0;
+  left = t.left + cond (is_left e.what) 1 0;
   taken = capped (t.taken + moves_in is_taking e.what);
   given = capped (t.given + moves_in is_giving e.what);
 }

@@ -4,7 +4,7 @@ ghost use Rattle.std.specs.Io.KnownBytes.{Appends};
 ghost use Rattle.sdr_base.specs.Causes.{HasCause};
 ghost use Rattle.sdr_base.specs.Written.{AppendsPart};
 ghost use Rattle.sdr_text.specs.Refused.{field_on};
-ghost use Rattle.sdr_text.specs.TotalsText.{numbers_of, totals_text};
+ghost use Rattle.sdr_text.specs.TotalsText.{printed_numbers, totals_text};
 
 use crate::Line;
 use sdr_base::{Sink, SinkFault, write_all};
@@ -13,7 +13,7 @@ use sdr_board::Totals;
 // Adds the ten numbers, each after a space.
 fn add_numbers(line: &mut Line, totals: &Totals)
     requires { length line.old ≤ 100 }
-    ensures text { line.new ≡ fold field_on line.old (numbers_of totals.now) }
+    ensures text { line.new ≡ fold field_on line.old (printed_numbers totals.now) }
     ensures len { length line.new ≤ length line.old + 210 }
 {
     line.field(totals.entries);
