@@ -1,4 +1,4 @@
-pub mod AskingLemmas
-pub mod BareLemmas
+pub mod AnsweringLemmas
 pub mod BoundLaws
-pub mod PlainLemmas
+pub mod MemoryLemmas
+pub mod RunLemmas

@@ -1,5 +1,5 @@
-pub mod Asking
-pub mod Bare
-pub mod CodedPlain
-pub mod Leaves
+pub mod Answering
+pub mod CodedRun
+pub mod Memory
+pub mod MemoryRun
 pub mod Plain

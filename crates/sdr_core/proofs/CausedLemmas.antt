@@ -58,17 +58,29 @@ caused_later made media between media' before later = record {
   short = omega (arith, before.short, later.short);
 }
 
+-- media tell the same, and no count of theirs has fallen
+pub stayed_by : (old new : SeenMedia) → new.told ≡ old.told
+    → LapsesLast (record { faults = old.faults; short = old.short }) (record { faults = new.faults; short = new.short })
+    → HaveFailed 0 0 (from_to old new)
+stayed_by old new same later = record { told = same; faults = omega (arith, later.faults); short = omega (arith, later.short) }
+
+-- so an answer that tells that they failed, or gave too few bytes, is caused where the count of that rose
+pub caused_by : (answer : Answer) (old new : SeenMedia) → new.told ≡ old.told
+    → LapsesLast (record { faults = old.faults; short = old.short }) (record { faults = new.faults; short = new.short })
+    → HasLapseCause answer (record { faults = old.faults; short = old.short }) (record { faults = new.faults; short = new.short })
+    → IsCaused answer (from_to old new)
+caused_by (answers.Reply replies.MediaFault) old new same later rose = record { told = same; faults = rose; short = omega (arith, later.short) }
+caused_by (answers.Reply (replies.Refused (refusals.SourceShort have want))) old new same later rose =
+    record { told = same; faults = omega (arith, later.faults); short = rose }
+caused_by answer old new same later rose = stayed_by old new same later
+
 -- the media of a ground tell the same, and no count of theirs has fallen
 pub media_later : {T : Type 0} (g : Ghosts T) (old new : T) → g.told new ≡ g.told old → LapsesLast (g.lapses old)
     (g.lapses new)
     → HaveFailed 0 0 (from_to (media_on g old) (media_on g new))
-media_later g old new same later = record { told = same; faults = omega (arith, later.faults); short = omega (arith, later.short) }
+media_later g old new same later = stayed_by (media_on g old) (media_on g new) same later
 
--- so an answer that tells that they failed, or gave too few bytes, is caused where the ground tells its cause
+-- so an answer that blames them is caused where the ground tells its cause
 pub answer_caused : {T : Type 0} (g : Ghosts T) (old new : T) (answer : Answer) → g.told new ≡ g.told old → LapsesLast (g.lapses old) (g.lapses new)
     → HasLapseCause answer (g.lapses old) (g.lapses new) → IsCaused answer (from_to (media_on g old) (media_on g new))
-answer_caused g old new (answers.Reply replies.MediaFault) same later rose =
-    record { told = same; faults = rose; short = omega (arith, later.short) }
-answer_caused g old new (answers.Reply (replies.Refused (refusals.SourceShort have want))) same later rose =
-    record { told = same; faults = omega (arith, later.faults); short = rose }
-answer_caused g old new answer same later rose = media_later g old new same later
+answer_caused g old new answer same later rose = caused_by answer (media_on g old) (media_on g new) same later rose

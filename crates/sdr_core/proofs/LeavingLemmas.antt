@@ -1,30 +1,31 @@
 -- The leaves at the end of a run, one after another.
-use Rattle.std.proofs.Common.{◌≡◌, ◌∙◌, ◌≤◌, ◌<◌, ◌+◌, ◌==◌, ◌++◌, ℕ, suc, List, [], ◌∷◌, Bool, true, false, true≢false, not, filter, Option, None, Some, IsSome, inl, length, ◌-◌, drop, slice_index_or, take, refl, sym, ap, subst, arith}
+use Rattle.std.proofs.Common.{◌≡◌, ◌∙◌, ◌≤◌, ◌<◌, ◌+◌, ◌==◌, ◌++◌, ℕ, List, [], ◌∷◌, Bool, true, false, true≢false, not, filter, Option, None, Some, IsSome, inl, length, ◌-◌, drop, slice_index_or, take, refl, sym, ap, subst, arith}
 use Rattle.std.proofs.lemmas.Bool.Decides.{nat_tests}
 use Rattle.std.proofs.lemmas.List.{length-map, take_all}
 use Rattle.std.proofs.lemmas.List.Filters.{length-filter_both}
 use Rattle.std.specs.Option.{option_map_or, option_and_then}
+use Rattle.std.specs.Prelude.{if◌then◌else◌}
 use Rattle.sdr_base.specs.Media.{Told}
+use Rattle.sdr_model.specs.declared.event.Event.{Event}
 use Rattle.sdr_model.specs.declared.event.Event.TheVariants as events
 use Rattle.sdr_model.specs.declared.event.Leave.{Leave}
-use Rattle.sdr_machine.specs.Core.{Core, CoreStep, Log}
+use Rattle.sdr_machine.specs.Core.{Core}
 use Rattle.sdr_machine.specs.Lapses.{Lapses, LapsesLast}
-use Rattle.sdr_machine.specs.Holders.{HoldFirst, holders}
+use Rattle.sdr_machine.specs.Holders.{HoldFirst, hold_none, holders}
 use Rattle.sdr_machine.specs.Leaving.{AllLeave, HoldersLeave, LeaveInTurn, MakesLeave, holds_number, served_daemon, staying}
-use Rattle.sdr_machine.specs.Machine.{Made, MachineStep}
-use Rattle.sdr_machine.specs.Roll.{MayDraw, Roll, held_by, served_number}
-use Rattle.sdr_machine.specs.Serving.{Locked, IsInSomeState, machine_at, made_by}
-use Rattle.sdr_machine.specs.Standing.{GroundState}
+use Rattle.sdr_machine.specs.Machine.{Machine, Made, MachineStep, roll_acting, roll_coming, roll_failed, roll_holding}
+use Rattle.sdr_machine.specs.Roll.{MayDraw, Roll, after_leave, daemon_of, held_by, served_number, with_daemon, with_drawn, with_number}
 use Rattle.sdr_machine.specs.declared.came.Came.{Came}
 use Rattle.sdr_machine.specs.declared.daemon.Daemon.{Daemon}
 use Rattle.sdr_machine.specs.declared.daemon.Holding.{Holding}
-use Rattle.sdr_machine.specs.declared.has_ground.HasGround.{Ghosts}
 use Rattle.sdr_machine.proofs.GroundLemmas.{lapses_same}
 use Rattle.sdr_machine.proofs.HolderLemmas.{IsFirst, find_first, put_fewer, put_length, served_holds}
+use Rattle.sdr_machine.proofs.HolderSteps.{leave_none}
+use Rattle.sdr_machine.proofs.StepLemmas.{from_option}
 use Rattle.sdr_machine.proofs.WorkLemmas.{on_some}
 use Rattle.sdr_core.proofs.LeaveLemmas.{LeaveIs, leave_is}
-use Rattle.sdr_core.specs.CoreKept.{LoggedLock, MakesCoreStep, HasState, core_at}
-use Rattle.sdr_core.specs.Leaving.{LastsOn, RunLeads}
+use Rattle.sdr_core.specs.Going.{GoesUnasked, HasCome, LeavesNone, MakesNext, NextCore}
+use Rattle.sdr_core.specs.declared.has_run.HasRun.{Ghosts}
 
 -- counts that didn't fall, and then didn't
 lapses_then : (a b c : Lapses) → LapsesLast a b → LapsesLast b c → LapsesLast a c
@@ -59,136 +60,203 @@ module _ (r : Roll) (d : Daemon) (may : HoldFirst [] r.daemons) (served : served
       turn : (b : Bool) → (h.number == served_number r) ≡ true → (served_number r == h.number) ≡ true
       turn b is = grind (arith, nat_tests)
 
-module _ {T : Type 0} (g : Ghosts T) (leave : Leave) (a : Came) (old new : Locked T) (was log : Log) where
+-- where the disk has failed, an event leaves it so
+failed_coming : (r : Roll) (d : Daemon) (event : Event) → (roll_coming r d event).failed ≡ r.failed
+failed_coming r d events.Request = refl
+failed_coming r d (events.Leaves leave) = by (served_number r == 0)
+  where
+    by : (b : Bool) → (if b then with_daemon (with_drawn r) (after_leave d) else with_number r d 0).failed ≡ r.failed
+    by true = refl
+    by false = refl
+failed_coming r d event = refl
+
+failed_holding : (r : Roll) (d : Daemon) (h : Holding) (event : Event) → (roll_holding r d h event).failed ≡ r.failed
+failed_holding r d h (events.Leaves leave) = by (served_number r == h.number)
+  where
+    by : (b : Bool) → (if b then with_daemon r (after_leave d) else r).failed ≡ r.failed
+    by true = refl
+    by false = refl
+failed_holding r d h event = refl
+
+failed_same : (r : Roll) (daemon : ℕ) (event : Event) → (roll_failed r daemon event).failed ≡ r.failed
+failed_same r daemon event = by_daemon (daemon_of r daemon)
+  where
+    by_holding : (d : Daemon) (o : Option Holding) → (option_map_or (λ (h : Holding). roll_holding r d h event) o (roll_coming r d event)).failed ≡ r.failed
+    by_holding d None = failed_coming r d event
+    by_holding d (Some h) = failed_holding r d h event
+
+    by_left : (d : Daemon) (b : Bool) → (if b then r else option_map_or (λ (h : Holding). roll_holding r d h event) d.holds (roll_coming r d event)).failed ≡ r.failed
+    by_left d true = refl
+    by_left d false = by_holding d d.holds
+
+    by_daemon : (o : Option Daemon) → (option_map_or (λ (d : Daemon). roll_acting r d event) o r).failed ≡ r.failed
+    by_daemon None = refl
+    by_daemon (Some d) = by_left d d.left
+
+-- so unless it has failed, it hadn't before
+sound_before : (m : Machine) (e : Made) (m' : Machine) → MachineStep m e m' → m'.roll.failed ≡ None → m.roll.failed ≡ None
+sound_before m e m' step sound =
+    from_option m.roll.failed step (λ none _. none)
+    (λ moment some goes. sym (failed_same m.roll e.daemon e.said.event) ∙ sym (ap (λ (n : Machine). n.roll.failed) goes.after) ∙ sound)
+
+module _ {R : Type 0} (r : Ghosts R) (leave : Leave) (a : Came) (old new : R) where
   -- a leave that was made
-  pub one_leave : (daemon : ℕ) (told : Option Told) → told ≡ g.told old.base → MakesCoreStep g daemon 0 (events.Leaves leave) a old was new log → (v : GroundState)
-      → (s : IsInSomeState g.stands new (λ v'. CoreStep (g.told old.base) (core_at (record { lock = old; log = was }) v)
-      (made_by daemon (events.Leaves leave) a (g.moment old.base) (g.moment new.base) 0 v') (core_at (record { lock = new; log = log }) v')))
-      → MakesLeave told leave daemon (core_at (record { lock = old; log = was }) v) (made_by daemon (events.Leaves leave) a (g.moment old.base) (g.moment new.base) 0 s.for)
-      (core_at (record { lock = new; log = log }) s.for)
-  one_leave daemon told same makes v s = record {
-    daemon_is = refl;
-    event = refl;
-    line = refl;
-    step = subst (λ t. CoreStep t (core_at (record { lock = old; log = was }) v) (made_by daemon (events.Leaves leave) a (g.moment old.base) (g.moment new.base) 0 s.for)
-        (core_at (record { lock = new; log = log }) s.for)) (sym same) s.tells;
-  }
+  pub one_leave : (daemon : ℕ) (c : Core) (n : NextCore r daemon 0 (events.Leaves leave) a c old new) → MakesLeave (r.told old) leave daemon c n.made n.next
+  one_leave daemon c n = record { daemon_is = n.daemon_is; event = n.event_is; line = n.line_is; step = n.step }
 
   -- the served daemon's leave gives its number up
-  module _ (d : Daemon) (makes : MakesCoreStep g d.id 0 (events.Leaves leave) a old was new log) (stands : HasState g.stands old) (may : HoldFirst [] old.roll.daemons)
-      (served : served_daemon old.roll ≡ Some d) where
-    abbrev stood : IsInSomeState g.stands new (λ v'. CoreStep (g.told old.base) (core_at (record { lock = old; log = was }) stands.for)
-        (made_by d.id (events.Leaves leave) a (g.moment old.base) (g.moment new.base) 0 v') (core_at (record { lock = new; log = log }) v'))
-    stood = makes.step.each stands.for stands.stood
+  module _ (d : Daemon) (makes : MakesNext r d.id 0 (events.Leaves leave) a old new) (come : HasCome r old) (may : HoldFirst [] (r.roll_of old).daemons)
+      (served : served_daemon (r.roll_of old) ≡ Some d) where
+    abbrev c : Core
+    c = come.core
 
-    abbrev made : Made
-    made = made_by d.id (events.Leaves leave) a (g.moment old.base) (g.moment new.base) 0 stood.for
+    abbrev n : NextCore r d.id 0 (events.Leaves leave) a c old new
+    n = makes.each c come.here
 
-    first : IsFirst [] old.roll.daemons d
-    first = served_first old.roll d may served
+    before : c.machine.roll ≡ r.roll_of old
+    before = r.rolls old c come.here
 
-    is : LeaveIs (machine_at old.roll stands.for) made (machine_at new.roll stood.for) d
+    after : n.next.machine.roll ≡ r.roll_of new
+    after = r.rolls new n.next n.here
+
+    may_here : HoldFirst [] c.machine.roll.daemons
+    may_here = subst (λ (x : Roll). HoldFirst [] x.daemons) (sym before) may
+
+    served_here : served_daemon c.machine.roll ≡ Some d
+    served_here = ap (λ (x : Roll). served_daemon x) before ∙ served
+
+    first : IsFirst [] c.machine.roll.daemons d
+    first = served_first c.machine.roll d may_here served_here
+
+    is : LeaveIs c.machine n.made n.next.machine d
     is =
-        leave_is (machine_at old.roll stands.for) made (machine_at new.roll stood.for) leave refl first.found
-        (subst (MachineStep (machine_at old.roll stands.for) made) (sym (ap (λ (c : Core). c.machine) stood.tells.history)) stood.tells.step)
+        leave_is c.machine n.made n.next.machine leave n.event_is (ap (λ id. daemon_of c.machine.roll id) n.daemon_is ∙ first.found)
+        (subst (MachineStep c.machine n.made) (sym (ap (λ (x : Core). x.machine) n.step.history)) n.step.step)
 
     gone : is.after.holds ≡ None
-    gone = by d.holds refl (served_some old.roll d may served)
+    gone = by d.holds refl (served_some c.machine.roll d may_here served_here)
       where
         by : (o : Option Holding) → d.holds ≡ o → IsSome o → is.after.holds ≡ None
         by None none some = absurd (true≢false (sym some))
-        by (Some h) holds some = is.lets_go h first.stays holds (served_is old.roll d may served h holds)
+        by (Some h) holds some = is.lets_go h first.stays holds (served_is c.machine.roll d may_here served_here h holds)
 
-    pub leave_fewer : holders old.roll.daemons ≡ holders new.roll.daemons + 1
+    pub leave_fewer : holders (r.roll_of old).daemons ≡ holders (r.roll_of new).daemons + 1
     leave_fewer =
-        put_fewer d is.after old.roll.daemons first.found is.id (served_some old.roll d may served) gone ∙ ap (λ ds. holders ds + 1) (sym is.roll)
+        ap (λ (x : Roll). holders x.daemons) (sym before)
+        ∙ put_fewer d is.after c.machine.roll.daemons first.found is.id (served_some c.machine.roll d may_here served_here) gone ∙ ap (λ ds. holders ds + 1) (sym is.roll)
+        ∙ ap (λ (x : Roll). holders x.daemons + 1) after
 
-    pub leave_many : length new.roll.daemons ≡ length old.roll.daemons
-    leave_many = ap (λ (ds : List Daemon). length ds) is.roll ∙ put_length is.after old.roll.daemons
+    pub leave_many : length (r.roll_of new).daemons ≡ length (r.roll_of old).daemons
+    leave_many =
+        ap (λ (x : Roll). length x.daemons) (sym after)
+        ∙ ap (λ (ds : List Daemon). length ds) is.roll ∙ put_length is.after c.machine.roll.daemons
+        ∙ ap (λ (x : Roll). length x.daemons) before
 
-  -- it lasts on
-  pub lasts_on : (daemon : ℕ) → MakesCoreStep g daemon 0 (events.Leaves leave) a old was new log → LastsOn g old.base → LastsOn g new.base
-  lasts_on daemon makes lasts n = makes.asks.kept.lasts n (lasts (suc n))
+  -- a leave asks no media
+  pub unasked : (daemon : ℕ) → MakesNext r daemon 0 (events.Leaves leave) a old new → HasCome r old → r.asks new ≤ r.asks old
+  unasked daemon makes come = let few = (makes.each come.core come.here).few in omega (arith, few)
+
+  -- and where no number is held, none is behind it
+  pub leaves_none : (daemon : ℕ) → MakesNext r daemon 0 (events.Leaves leave) a old new → HasCome r old → LeavesNone (r.roll_of old) (r.roll_of new)
+  leaves_none daemon makes come =
+      let c = come.core in
+      let n = makes.each c come.here in
+      let before = r.rolls old c come.here in
+      let after = r.rolls new n.next n.here in
+      let step : MachineStep c.machine n.made n.next.machine =
+      subst (MachineStep c.machine n.made) (sym (ap (λ (x : Core). x.machine) n.step.history)) n.step.step in
+      let sound : (r.roll_of new).failed ≡ None → c.machine.roll.failed ≡ None =
+      λ well. sound_before c.machine n.made n.next.machine step (ap (λ (x : Roll). x.failed) after ∙ well) in
+      record {
+        sound = λ well. sym (ap (λ (x : Roll). x.failed) before) ∙ sound well;
+        none = λ well none.
+            sym (ap (λ (x : Roll). hold_none x.daemons) after)
+            ∙ leave_none c.machine n.made n.next.machine leave (sound well) (ap (λ (x : Roll). hold_none x.daemons) before ∙ none) n.event_is step;
+      }
 
   -- one leaves, and then the others
-  pub holders_more : (d : Daemon) (next : LoggedLock T) → served_daemon old.roll ≡ Some d → MakesCoreStep g d.id 0 (events.Leaves leave) a old was new log
-      → RunLeads g (HoldersLeave (g.told new.base) leave) (record { lock = new; log = log }) next
-      → RunLeads g (HoldersLeave (g.told old.base) leave) (record { lock = old; log = was }) next
-  holders_more d next served makes rest = record {
-    each = λ v stood.
-        let s = makes.step.each v stood in
-        let r = rest.each s.for s.stood in
+  pub holders_more : (d : Daemon) (next : R) → served_daemon (r.roll_of old) ≡ Some d → MakesNext r d.id 0 (events.Leaves leave) a old new → r.asks new ≤ r.asks old
+      → GoesUnasked r (HoldersLeave (r.told new) leave) new next → GoesUnasked r (HoldersLeave (r.told old) leave) old next
+  holders_more d next served makes few rest = record {
+    each = λ c at.
+        let n = makes.each c at in
+        let others = rest.each n.next n.here in
         record {
-          for = r.for;
-          stood = r.stood;
-          tells = record {
-            made = made_by d.id (events.Leaves leave) a (g.moment old.base) (g.moment new.base) 0 s.for ∷ r.tells.made;
-            tells = on_some _ _ (served_daemon old.roll) d served (record {
-              next = core_at (record { lock = new; log = log }) s.for;
-              leaves = one_leave d.id (g.told old.base) refl makes v s;
-              rest = subst (λ told. HoldersLeave told leave (core_at (record { lock = new; log = log }) s.for) r.tells.made (core_at next r.for)) makes.asks.kept.media r.tells.tells;
-            });
-          };
+          made = n.made ∷ others.made;
+          core = others.core;
+          here = others.here;
+          tells = on_some _ _ (served_daemon c.machine.roll) d (ap (λ (x : Roll). served_daemon x) (r.rolls old c at) ∙ served) (record {
+            next = n.next;
+            leaves = one_leave d.id c n;
+            rest = subst (λ told. HoldersLeave told leave n.next others.made others.core) makes.told others.tells;
+          });
         };
-    media = rest.media ∙ makes.asks.kept.media;
-    lapses = lapses_then _ _ _ makes.asks.kept.lapses rest.lapses;
+    told = rest.told ∙ makes.told;
+    lapses = lapses_then _ _ _ makes.lapses rest.lapses;
+    asks = omega (arith, few, rest.asks);
   }
 
-  pub turn_more : (daemon : ℕ) (daemons : List ℕ) (next : LoggedLock T) → MakesCoreStep g daemon 0 (events.Leaves leave) a old was new log
-      → RunLeads g (LeaveInTurn (g.told new.base) leave daemons) (record { lock = new; log = log }) next
-      → RunLeads g (LeaveInTurn (g.told old.base) leave (daemon ∷ daemons)) (record { lock = old; log = was }) next
-  turn_more daemon daemons next makes rest = record {
-    each = λ v stood.
-        let s = makes.step.each v stood in
-        let r = rest.each s.for s.stood in
+  pub turn_more : (daemon : ℕ) (daemons : List ℕ) (next : R) → MakesNext r daemon 0 (events.Leaves leave) a old new → r.asks new ≤ r.asks old
+      → GoesUnasked r (LeaveInTurn (r.told new) leave daemons) new next → GoesUnasked r (LeaveInTurn (r.told old) leave (daemon ∷ daemons)) old next
+  turn_more daemon daemons next makes few rest = record {
+    each = λ c at.
+        let n = makes.each c at in
+        let others = rest.each n.next n.here in
         record {
-          for = r.for;
-          stood = r.stood;
+          made = n.made ∷ others.made;
+          core = others.core;
+          here = others.here;
           tells = record {
-            made = made_by daemon (events.Leaves leave) a (g.moment old.base) (g.moment new.base) 0 s.for ∷ r.tells.made;
-            tells = record {
-              next = core_at (record { lock = new; log = log }) s.for;
-              leaves = one_leave daemon (g.told old.base) refl makes v s;
-              rest = subst (λ told. LeaveInTurn told leave daemons (core_at (record { lock = new; log = log }) s.for) r.tells.made (core_at next r.for)) makes.asks.kept.media r.tells.tells;
-            };
+            next = n.next;
+            leaves = one_leave daemon c n;
+            rest = subst (λ told. LeaveInTurn told leave daemons n.next others.made others.core) makes.told others.tells;
           };
         };
-    media = rest.media ∙ makes.asks.kept.media;
-    lapses = lapses_then _ _ _ makes.asks.kept.lapses rest.lapses;
+    told = rest.told ∙ makes.told;
+    lapses = lapses_then _ _ _ makes.lapses rest.lapses;
+    asks = omega (arith, few, rest.asks);
   }
 
 -- nobody is served, or nobody is left
-pub holders_none : {T : Type 0} (g : Ghosts T) (told : Option Told) (leave : Leave) (k : LoggedLock T) → served_daemon k.lock.roll ≡ None → RunLeads g (HoldersLeave told leave) k k
-holders_none g told leave k none = record {
-  each = λ v stood. record { for = v; stood = stood; tells = record { made = []; tells = (refl, none) } };
-  media = refl;
-  lapses = lapses_same (g.lapses k.lock.base);
+pub holders_none : {R : Type 0} (r : Ghosts R) (leave : Leave) (t : R) → served_daemon (r.roll_of t) ≡ None → GoesUnasked r (HoldersLeave (r.told t) leave) t t
+holders_none r leave t none = record {
+  each = λ c at. record { made = []; core = c; here = at; tells = (refl, ap (λ (x : Roll). served_daemon x) (r.rolls t c at) ∙ none) };
+  told = refl;
+  lapses = lapses_same (r.lapses t);
+  asks = omega arith;
 }
 
-pub turn_none : {T : Type 0} (g : Ghosts T) (told : Option Told) (leave : Leave) (k : LoggedLock T) → RunLeads g (LeaveInTurn told leave []) k k
-turn_none g told leave k = record {
-  each = λ v stood. record { for = v; stood = stood; tells = record { made = []; tells = refl } };
-  media = refl;
-  lapses = lapses_same (g.lapses k.lock.base);
+pub turn_none : {R : Type 0} (r : Ghosts R) (leave : Leave) (t : R) → GoesUnasked r (LeaveInTurn (r.told t) leave []) t t
+turn_none r leave t = record {
+  each = λ c at. record { made = []; core = c; here = at; tells = refl };
+  told = refl;
+  lapses = lapses_same (r.lapses t);
+  asks = omega arith;
 }
 
 -- the holders leave, and then those that stay
-pub all_leave : {T : Type 0} (g : Ghosts T) (told : Option Told) (leave : Leave) (old mid new : LoggedLock T) → RunLeads g (HoldersLeave told leave) old mid
-    → RunLeads g (LeaveInTurn told leave (staying mid.lock.roll)) mid new → RunLeads g (AllLeave told leave) old new
-all_leave g told leave old mid new first last = record {
-  each = λ v stood.
-      let s = first.each v stood in
-      let r = last.each s.for s.stood in
+pub all_leave : {R : Type 0} (r : Ghosts R) (told : Option Told) (leave : Leave) (old mid new : R) → GoesUnasked r (HoldersLeave told leave) old mid
+    → GoesUnasked r (LeaveInTurn told leave (staying (r.roll_of mid))) mid new → GoesUnasked r (AllLeave told leave) old new
+all_leave r told leave old mid new first last = record {
+  each = λ c at.
+      let s = first.each c at in
+      let t = last.each s.core s.here in
       record {
-        for = r.for;
-        stood = r.stood;
+        made = s.made ++ t.made;
+        core = t.core;
+        here = t.here;
         tells = record {
-          made = s.tells.made ++ r.tells.made;
-          tells = record { first = s.tells.made; last = r.tells.made; all = refl; between = core_at mid s.for; holders = s.tells.tells; others = r.tells.tells };
+          first = s.made;
+          last = t.made;
+          all = refl;
+          between = s.core;
+          holders = s.tells;
+          others = subst (λ (x : Roll). LeaveInTurn told leave (staying x) s.core t.made t.core) (sym (r.rolls mid s.core s.here)) t.tells;
         };
       };
-  media = last.media ∙ first.media;
+  told = last.told ∙ first.told;
   lapses = lapses_then _ _ _ first.lapses last.lapses;
+  asks = omega (arith, first.asks, last.asks);
 }
 
 -- a list without an item, and one with a first

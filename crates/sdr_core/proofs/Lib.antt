@@ -1,6 +1,7 @@
 pub mod AddedLemmas
 pub mod CausedLemmas
 pub mod CoreLemmas
+pub mod CoreRunLemmas
 pub mod CrashLemmas
 pub mod EndLemmas
 pub mod FailedLemmas

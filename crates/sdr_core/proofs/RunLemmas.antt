@@ -111,6 +111,7 @@ module _ {T : Type 0} (g : Ghosts T) (daemon : ℕ) (event : Event) (a : Came) (
       record {
         step = step;
         asks = acts.asks;
+        media = acts.media;
         called = s.tells.sound;
         drawn = (step_is (machine_at old.roll stands.for) (told_by s.for) (machine_at new.roll s.for) (s.tells.step line)).drawn;
       }

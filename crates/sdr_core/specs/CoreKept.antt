@@ -9,7 +9,7 @@ use Rattle.sdr_machine.specs.Ground.{Ground, State, resting}
 use Rattle.sdr_machine.specs.Machine.{Made}
 use Rattle.sdr_machine.specs.Lapses.{Lapses, LapsesLast, no_lapses}
 use Rattle.sdr_machine.specs.Legal.{IsAfter, IsLegal}
-use Rattle.sdr_machine.specs.Serving.{Asks, LeadsLock, Locked, SomeState, IsInState, IsInSomeState, machine_at, made_by}
+use Rattle.sdr_machine.specs.Serving.{Asks, EventAsks, LeadsLock, Locked, SomeState, IsInState, IsInSomeState, machine_at, made_by}
 use Rattle.sdr_machine.specs.Standing.{GroundState}
 use Rattle.sdr_machine.specs.declared.came.Came.{Came}
 use Rattle.sdr_machine.specs.declared.has_ground.HasGround.{Ghosts}
@@ -113,10 +113,12 @@ StepsCore g daemon line event a old new =
     LeadsLock g.stands old.lock new.lock (λ v v'. CoreStep (g.told old.lock.base) (core_at old v)
     (made_by daemon event a (g.moment old.lock.base) (g.moment new.lock.base) line v') (core_at new v'))
 
--- an event was made of a lock with this log: a step of the core, for which the ground was asked, and at most one number was drawn
+-- an event was made of a lock with this log: a step of the core, for which the ground was asked, and its media for what the event
+-- needs of them; at most one number was drawn
 pub record MakesCoreStep {T : Type 0} (g : Ghosts T) (daemon line : ℕ) (event : Event) (a : Came) (old : Locked T) (was : Log) (new : Locked T) (log : Log) : Type 0 where
   pub step : StepsCore g daemon line event a (record { lock = old; log = was }) (record { lock = new; log = log })
   pub asks : Asks g (commits_by old.roll daemon event) a old new
+  pub media : EventAsks g daemon event old new
   pub called : a.called ≡ true → new.roll.failed ≡ None
   pub drawn : new.roll.drawn ≤ old.roll.drawn + 1
 

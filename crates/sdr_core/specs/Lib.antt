@@ -2,7 +2,9 @@ pub mod Caused
 pub mod Copying
 pub mod CoreFacts
 pub mod CoreKept
+pub mod CoreRun
 pub mod Drafting
+pub mod Going
 pub mod Keeping
 pub mod Leaving
 pub mod Logging

@@ -11,6 +11,8 @@
 //! 5. The type also keeps what a crash leaves: at each moment since the first the state after some first entries, all
 //!    that are done among them (`KeepsSafe`). An entry in which the disk failed is never done, and where it failed as its
 //!    transaction was kept, the state with that transaction whole may be left.
+//! 6. `Runs` is a run that goes on event by event, with a journal or without: what a schedule is played on. The leaves at
+//!    the end are made of any (`leave_all`).
 //!
 //! Proved: the type of `Core` keeps that its journal is that of a run of the machine (`KeepsRun`), and that at
 //! each moment a crash leaves the state after some first entries, all done ones among them (`KeepsSafe`). Each
@@ -22,21 +24,27 @@
 
 mod copying;
 mod core_run;
+mod core_runs;
 mod draft;
+mod has_run;
 mod keeper;
 mod leaving;
 mod making;
 mod noted;
 mod numbers;
 mod origin;
+mod runs;
 mod sending;
 mod spoken;
 
 pub use core_run::Core;
 pub use draft::Draft;
+pub use has_run::HasRun;
 pub use keeper::Keeper;
+pub use leaving::leave_all;
 pub use noted::{Noted, Under};
 pub use numbers::drawn_numbers_are_held_or_done;
 pub use origin::Origin;
+pub use runs::Runs;
 pub use sending::core_is_send;
 pub use spoken::Spoken;

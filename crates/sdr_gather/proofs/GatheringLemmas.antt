@@ -1,5 +1,5 @@
 -- What reads of media give of pieces.
-use Rattle.std.proofs.Common.{◌≡◌, ◌≤◌, ◌<◌, ◌+◌, ◌||◌, ℕ, suc, List, [], ◌∷◌, ◌++◌, Bool, true, false, Option, None, Some, length, take, drop, min, refl, sym, ap, ◌∙◌, subst, arith, IfSome, append_assoc, append-nil, add-zero, cond, length-append, ◌⊎◌, inl, inr, Result, Ok, Err, IfOk, OnErr}
+use Rattle.std.proofs.Common.{◌≡◌, ◌≤◌, ◌<◌, ◌+◌, ◌||◌, ℕ, suc, List, [], ◌∷◌, ◌++◌, Bool, true, false, Option, None, Some, length, take, drop, min, refl, sym, ap, ◌∙◌, subst, arith, IfSome, append_assoc, append-nil, add-zero, cond, length-append, ◌⊎◌, Result, Ok, Err, IfOk, OnErr}
 use Rattle.std.specs.List.{list_any}
 use Rattle.std.specs.Prelude.{MatchBool, nat_lt}
 use Rattle.std.proofs.lemmas.Bool.{le-ltb, lt-ltb}
@@ -15,7 +15,8 @@ use Rattle.sdr_model.specs.declared.piece.Piece.{Piece}
 use Rattle.sdr_model.specs.declared.piece.Piece.TheVariants as pieces
 use Rattle.sdr_gather.specs.declared.gathering.Gap.{Gap}
 use Rattle.sdr_gather.specs.declared.gathering.Gap.TheVariants as gaps
-use Rattle.sdr_gather.specs.Gathering.{AddsPiece, AreGathered, Gathering, HasGiven, IsGapIn, IsGapOf, OfMedia, count_outside}
+use Rattle.sdr_gather.specs.Gathering.{AddsPiece, AreGathered, Gathering, HasGiven, IsGapIn, IsGapOf, OfMedia}
+use Rattle.sdr_machine.specs.Asked.{count_outside}
 
 -- how many of these lie with media is that of the first and of the others
 pub count_outside-cons : (piece : Piece) (rest : List Piece) → count_outside (piece ∷ rest) ≡ count_outside (piece ∷ []) + count_outside rest
@@ -245,21 +246,29 @@ gathering-trans (Some media) all mid rest xs ys g h = record {
   first = λ have want s. g.first have want (h.first have want s);
 }
 
+-- the bytes of a piece that was added are as many as it has
+pub adds-length : (told : Option Told) (piece : Piece) (old new : List ℕ) → AddsPiece told piece old new → length new ≡ length old + piece_length piece
+adds-length told piece old new adds =
+    omega (
+      arith,
+      ap length adds.added,
+      length-append old adds.bytes,
+      length-told (piece_told piece) adds.bytes adds.gives.known,
+      length-piece piece,
+    )
+
 -- why a piece wasn't gathered is why not all were
 module _ (all : List Piece) (piece : Piece) (rest : List Piece) (bytes : List ℕ) (Failed Short : Type 0) where
   pub gathering-gap : (told : Option Told) (gap : Gap) → Gathering told all (piece ∷ rest) bytes
-      → (gap ≡ gaps.NoMemory) ⊎ IsGapOf told piece (OfMedia (lies_with_media piece) Failed) (OfMedia (lies_with_media piece) Short) gap
+      → IsGapOf told piece (OfMedia (lies_with_media piece) Failed) (OfMedia (lies_with_media piece) Short) gap
       → IsGapIn told all (OfMedia (list_any lies_with_media all) Failed) (OfMedia (list_any lies_with_media all) Short) gap
-  gathering-gap told gaps.NoMemory g h = tt
-  gathering-gap told gaps.Fault g (inr h) = (g.outside (before (lies_with_media piece) (list_any lies_with_media rest) h.0), h.1)
-  gathering-gap None (gaps.Short have want) g (inr h) =
+  gathering-gap told gaps.Fault g h = (g.outside (before (lies_with_media piece) (list_any lies_with_media rest) h.0), h.1)
+  gathering-gap None (gaps.Short have want) g h =
       (h.0, (g.outside (before (lies_with_media piece) (list_any lies_with_media rest) h.1.0), h.1.1), tt)
-  gathering-gap (Some media) (gaps.Short have want) g (inr h) =
+  gathering-gap (Some media) (gaps.Short have want) g h =
       (h.0, (g.outside (before (lies_with_media piece) (list_any lies_with_media rest) h.1.0), h.1.1), g.first have want short_here)
     where
       short_here : IsFirstShort media (piece ∷ rest) have want
       short_here =
           subst (λ b. MatchBool b ((have ≡ length (media_bytes media piece)) × (want ≡ piece_length piece))
           (IsFirstShort media rest have want)) (sym (lt-ltb _ _ (omega (arith, h.0, h.2.0, h.2.1)))) h.2
-  gathering-gap told gaps.Fault g (inl h) = cc (h)
-  gathering-gap told (gaps.Short have want) g (inl h) = cc (h)

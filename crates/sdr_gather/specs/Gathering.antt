@@ -1,5 +1,5 @@
 -- What is gathered of the pieces that a call asks for.
-use Rattle.std.specs.Prelude.{◌≡◌, ◌<◌, ◌≤◌, ℕ, Bool, true, List, ◌++◌, count_by, length, Option, IfSome, ⊤}
+use Rattle.std.specs.Prelude.{◌≡◌, ◌<◌, ◌≤◌, ℕ, Bool, true, List, ◌++◌, length, Option, IfSome}
 use Rattle.std.specs.List.{list_any}
 use Rattle.sdr_base.specs.Media.{Told}
 use Rattle.sdr_machine.specs.Agreeing.{IsFirstShort}
@@ -9,10 +9,6 @@ use Rattle.sdr_model.specs.Wire.{Spells}
 use Rattle.sdr_model.specs.declared.piece.Piece.{Piece}
 use Rattle.sdr_gather.specs.declared.gathering.Gap.{Gap}
 use Rattle.sdr_gather.specs.declared.gathering.Gap.TheVariants as gaps
-
--- how many of these pieces lie with media
-abbrev pub count_outside : List Piece → ℕ
-count_outside = count_by lies_with_media
 
 -- these are the bytes of a piece: those that the world tells, and where media tell, those that they hold
 pub record GivesPiece (told : Option Told) (piece : Piece) (bytes : List ℕ) : Type 0 where
@@ -38,7 +34,6 @@ pub record AddsPiece (told : Option Told) (piece : Piece) (old new : List ℕ) :
 
 -- why the bytes of a piece weren't read: media failed, or had fewer of them
 abbrev pub IsGapOf : Option Told → Piece → Type 0 → Type 0 → Gap → Type 0
-IsGapOf told piece Failed Short gaps.NoMemory = ⊥
 IsGapOf told piece Failed Short gaps.Fault = Failed
 IsGapOf told piece Failed Short (gaps.Short have want) =
     (have < want) × Short
@@ -49,10 +44,8 @@ pub record AreGathered (told : Option Told) (pieces : List Piece) (bytes : List 
   pub known : Spells (pieces_told pieces) bytes
   pub held : IfSome told (λ media. bytes ≡ bytes_by media pieces)
 
--- why the bytes of all pieces weren't gathered: there was no memory, media failed, or they had fewer of the first piece of
--- which they have too few
+-- why the bytes of all pieces weren't gathered: media failed, or they had fewer of the first piece of which they have too few
 abbrev pub IsGapIn : Option Told → List Piece → Type 0 → Type 0 → Gap → Type 0
-IsGapIn told pieces Failed Short gaps.NoMemory = ⊤
 IsGapIn told pieces Failed Short gaps.Fault = Failed
 IsGapIn told pieces Failed Short (gaps.Short have want) =
     (have < want) × Short × IfSome told (λ media. IsFirstShort media pieces have want)

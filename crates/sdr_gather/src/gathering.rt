@@ -1,36 +1,24 @@
 // What a call reads of media.
-ghost use Rattle.std.specs.Prelude.{◌≡◌, ◌≤◌, ◌+◌, ◌⊎◌, ◌∷◌, [], IfErr, IfOk, OnErr, OnOk, length};
+ghost use Rattle.std.specs.Prelude.{◌≡◌, ◌≤◌, ◌+◌, ◌∷◌, [], IfErr, IfOk, OnErr, OnOk, length, vec_capacity};
 ghost use Rattle.std.specs.List.{list_any};
 ghost use Rattle.sdr_base.specs.Causes.{Rose};
 ghost use Rattle.sdr_machine.specs.Ground.{lies_with_media};
 ghost use Rattle.sdr_model.specs.Pieces.{piece_length, pieces_told};
-ghost use Rattle.sdr_gather.specs.Gathering.{AddsPiece, AreGathered, GivesPiece, HasGiven, IsGapIn, IsGapOf, OfMedia, count_outside};
+ghost use Rattle.sdr_gather.specs.Gathering.{AddsPiece, AreGathered, GivesPiece, HasGiven, IsGapIn, IsGapOf, OfMedia};
+ghost use Rattle.sdr_machine.specs.Asked.{count_outside};
 
-use sdr_base::{Bytes, Media, MediaFault, NoMemory};
+use sdr_base::{Media, MediaFault};
 use sdr_model::Piece;
-use std::alloc::{AllocFailed, Global};
 use thiserror::Error;
 
 /// Why the bytes of some pieces weren't gathered.
 #[derive(Clone, Copy, Debug, PartialEq, Eq, Error)]
 pub enum Gap {
-    #[error("no memory")]
-    NoMemory,
     #[error("media fault")]
     Fault,
     /// Media gave fewer bytes than were asked for.
     #[error("{have} of {want} bytes")]
     Short { have: u64, want: u64 },
-}
-
-impl From<NoMemory> for Gap {
-    ghost use Rattle.sdr_gather.specs.declared.gathering.Gap.TheVariants as gaps;
-
-    ghost from_gives = { λ _ e. e ≡ gaps.NoMemory };
-
-    fn from(_: NoMemory) -> Gap {
-        Gap::NoMemory
-    }
 }
 
 impl From<MediaFault> for Gap {
@@ -86,7 +74,7 @@ fn read_piece<M: Media>(media: &mut M, piece: &Piece, into: &mut [u8]) -> Result
     Ok(())
 }
 
-// Reads a piece into a page, and adds its bytes to those gathered.
+// Reads a piece into a page, and adds its bytes to those gathered, for which there is room.
 fn add_piece<M: Media>(
     media: &mut M,
     piece: &Piece,
@@ -95,11 +83,13 @@ fn add_piece<M: Media>(
 ) -> Result<(), Gap>
     requires page { length page.old ≡ 4096 }
     requires fits { piece_length piece.now ≤ 4096 }
+    requires room { length bytes.old.items + piece_length piece.now ≤ vec_capacity bytes.old }
     ensures adds { OnOk result (
         AddsPiece (M.told media.old) piece.now bytes.old.items bytes.new.items) }
-    ensures gap { IfErr result (λ gap. gap ≡ Gap.NoMemory ⊎ IsGapOf (M.told media.old) piece.now
+    ensures gap { IfErr result (IsGapOf (M.told media.old) piece.now
         (OfMedia (lies_with_media piece.now) (Rose (M.faults media.old) (M.faults media.new)))
-        (OfMedia (lies_with_media piece.now) (Rose (M.short media.old) (M.short media.new))) gap) }
+        (OfMedia (lies_with_media piece.now) (Rose (M.short media.old) (M.short media.new)))) }
+    ensures reserved { vec_capacity bytes.old ≤ vec_capacity bytes.new }
     ensures page { length page.new ≡ length page.old }
     ensures told { M.told media.new ≡ M.told media.old }
     ensures faults { M.faults media.old ≤ M.faults media.new }
@@ -108,16 +98,21 @@ fn add_piece<M: Media>(
 {
     let into = &mut page[..piece.len()];
     read_piece(media, piece, into)?;
-    bytes.extend_from_slice(into)?;
+    let Ok(()) = bytes.extend_from_slice(into) else {
+        unreachable!();
+    };
     Ok(())
 }
 
-/// Gathers the bytes of pieces, of at most a page together. Media are asked once for each piece that lies with
-/// them, in order, until the first that fails or gives too few bytes. Each byte is read into a page, and copied
-/// once, to the end of those gathered.
-pub fn gather<M: Media>(alloc: Global, media: &mut M, pieces: &[Piece]) -> Result<Bytes, Gap>
+/// Gathers the bytes of pieces, of at most a page together, for which there is room. It takes no memory. Media are asked once
+/// for each piece that lies with them, in order, until the first that fails or gives too few bytes. Each byte is read into
+/// a page, and copied once, to the end of those gathered.
+pub fn gather<M: Media>(media: &mut M, pieces: &[Piece], bytes: &mut Vec<u8>) -> Result<(), Gap>
     requires page { length (pieces_told pieces.now) ≤ 4096 }
-    ensures gathered { IfOk result (AreGathered (M.told media.old) pieces.now) }
+    requires blank { bytes.old.items ≡ [] }
+    requires room { 4096 ≤ vec_capacity bytes.old }
+    ensures gathered { OnOk result (
+        AreGathered (M.told media.old) pieces.now bytes.new.items) }
     ensures gap { IfErr result (IsGapIn (M.told media.old) pieces.now
         (OfMedia (list_any lies_with_media pieces.now) (Rose (M.faults media.old) (M.faults media.new)))
         (OfMedia (list_any lies_with_media pieces.now) (Rose (M.short media.old) (M.short media.new)))) }
@@ -127,11 +122,10 @@ pub fn gather<M: Media>(alloc: Global, media: &mut M, pieces: &[Piece]) -> Resul
     ensures asks { M.asks media.new ≤ M.asks media.old + count_outside pieces.now }
 {
     let mut page = [0u8; 4096];
-    let mut bytes = Vec::new(alloc);
     let mut rest = pieces;
     while let Some((piece, after)) = rest.split_first() {
-        add_piece(media, piece, &mut page, &mut bytes)?;
+        add_piece(media, piece, &mut page, bytes)?;
         rest = after;
     }
-    Ok(Bytes::of(bytes))
+    Ok(())
 }

@@ -1,5 +1,5 @@
 -- What follows one another in a ground.
-use Rattle.std.proofs.Common.{◌≡◌, ◌∙◌, ◌≤◌, ◌+◌, ℕ, suc, List, Bool, true, false, refl, subst, inl, arith}
+use Rattle.std.proofs.Common.{◌≡◌, ◌∙◌, ◌≤◌, ◌+◌, ℕ, suc, List, Bool, true, false, true≢false, refl, subst, inl, arith}
 use Rattle.std.proofs.Common.{nat_le}
 use Rattle.std.proofs.lemmas.Bool.{leb-false, leb-true}
 use Rattle.sdr_base.proofs.WrittenLemmas.{rose_later}
@@ -58,6 +58,7 @@ module _ {T : Type 0} (g : Ghosts T) where
     later = omega arith;
     lapses = lapses_same (g.lapses t);
     media = refl;
+    unasked = λ _. refl;
     lasts = λ n lasts. lasts;
   }
 
@@ -67,12 +68,19 @@ module _ {T : Type 0} (g : Ghosts T) where
     later = omega (arith, first.later, second.later);
     lapses = lapses_then _ _ _ first.lapses second.lapses;
     media = second.media ∙ first.media;
+    unasked = λ is. second.unasked is ∙ first.unasked is;
     lasts = λ n lasts. second.lasts n (first.lasts n lasts);
   }
 
   -- fewer calls are spent
   pub keeps_more : {a b : T} → KeepsGround g false a b → KeepsGround g true a b
-  keeps_more {a} kept = record { later = kept.later; lapses = kept.lapses; media = kept.media; lasts = λ n lasts. kept.lasts n (g.lasts_less a n lasts) }
+  keeps_more {a} kept = record {
+    later = kept.later;
+    lapses = kept.lapses;
+    media = kept.media;
+    unasked = λ is. absurd (true≢false is);
+    lasts = λ n lasts. kept.lasts n (g.lasts_less a n lasts);
+  }
 
   -- a fault behind something that stood still
   pub fault_then : {a b c : T} → Brings g.stands a b SameStates → KeepsGround g false a b → MeetsFault g b c → MeetsFault g a c

@@ -1,24 +1,51 @@
 -- How a lock's answer to an event is a step of the machine.
 use Rattle.sdr_machine.specs.Transaction.{bytes_given}
-use Rattle.std.proofs.Common.{◌≡◌, ◌∙◌, ℕ, List, [], if◌then◌else◌, Bool, true, false, true≢false, Result, Ok, Err, IfOk, Option, None, Some, is_some, refl, sym, ap, subst}
+use Rattle.std.proofs.Common.{◌≡◌, ◌∙◌, ◌≤◌, ◌<◌, ◌+◌, ◌==◌, ◌&&◌, not, ℕ, List, [], if◌then◌else◌, Bool, true, false, true≢false, Result, Ok, Err, IfOk, Option, None, Some, is_none, is_some, refl, sym, ap, subst, arith}
+use Rattle.std.proofs.lemmas.Bool.Decides.{nat_tests}
+use Rattle.std.specs.Option.{option_map_or}
 use Rattle.sdr_model.specs.declared.answer.Answer.{Answer}
 use Rattle.sdr_model.specs.declared.answer.Answer.TheVariants as answers
 use Rattle.sdr_model.specs.declared.answer.Reply.TheVariants as replies
+use Rattle.sdr_model.specs.declared.call.Call.{Call}
 use Rattle.sdr_model.specs.declared.event.Event.{Event}
 use Rattle.sdr_model.specs.declared.event.Event.TheVariants as events
 use Rattle.sdr_base.specs.Media.{Told}
 use Rattle.sdr_base.specs.declared.refusal.Refusal.TheVariants as refusals
 use Rattle.sdr_machine.specs.Agreeing.{AgreesReading, AgreesWith}
+use Rattle.sdr_machine.specs.Asked.{is_served, makes_calls, outside_asked, outside_needed}
 use Rattle.sdr_machine.specs.Crash.{LeavesOr}
 use Rattle.sdr_machine.specs.Lapses.{Lapses, HasLapseCause}
 use Rattle.sdr_machine.specs.Machine.{Machine, Made, Goes, Faults, with_roll}
-use Rattle.sdr_machine.specs.Roll.{Roll, with_drawn, with_fault}
-use Rattle.sdr_machine.specs.Serving.{Acts, Asks, Brings, KeepsGround, Locked, MeetsFault, is_disk_fault, is_sight, machine_at, made_by}
+use Rattle.sdr_machine.specs.Roll.{Roll, served_number, with_drawn, with_fault}
+use Rattle.sdr_machine.specs.Served.{HoldsServed}
+use Rattle.sdr_machine.specs.Serving.{Acts, Asks, Brings, CallAsks, EventAsks, KeepsGround, Locked, MeetsFault, is_disk_fault, is_sight, machine_at, made_by}
 use Rattle.sdr_machine.specs.Standing.{GroundState, standing_at}
 use Rattle.sdr_machine.specs.declared.came.Came.{Came}
+use Rattle.sdr_machine.specs.declared.daemon.Daemon.{Daemon}
+use Rattle.sdr_machine.specs.declared.daemon.Holding.{Holding}
 use Rattle.sdr_machine.specs.declared.has_ground.HasGround.{Ghosts}
 use Rattle.sdr_machine.proofs.GroundLemmas.{keeps_more, keeps_same, leaves_or, leaves_same}
 use Rattle.sdr_model.specs.World.{World}
+
+-- the calls are made of a daemon whose number is served, in a transaction that isn't doomed
+makes_here : (r : Roll) (d : Daemon) (h : Holding) → HoldsServed r d h → d.left ≡ false → 0 < h.nesting.depth → h.nesting.doom ≡ None → makes_calls r d.id ≡ true
+makes_here r d h turn stays begun undoomed =
+    ap (λ (o : Option Daemon). option_map_or (λ (d : Daemon). not d.left && option_map_or (λ (h : Holding). is_served r h) d.holds false) o false) turn.held.found
+    ∙ (λ i. not (stays i) && option_map_or (λ (h : Holding). is_served r h) (turn.held.holds i) false)
+    ∙ (λ i. not (inside (h.nesting.depth == 0) refl i) && (served (served_number r == h.number) refl i) && is_none (undoomed i))
+  where
+    inside : (b : Bool) → (h.nesting.depth == 0) ≡ b → b ≡ false
+    inside true is = absurd (grind (arith, nat_tests))
+    inside false is = refl
+
+    served : (b : Bool) → (served_number r == h.number) ≡ b → b ≡ true
+    served true is = refl
+    served false is = let same : served_number r ≡ h.number = turn.served in absurd (grind (arith, nat_tests))
+
+-- a number that was drawn and is done changes nothing that is asked
+drawn_asks : (m : Machine) (daemon : ℕ) (event : Event) → outside_asked (record m { roll = with_drawn m.roll }) daemon event ≡ outside_asked m daemon event
+drawn_asks m daemon (events.Say call) = refl
+drawn_asks m daemon event = refl
 
 -- an answer for which no call was made
 abbrev pub told : Answer → Came
@@ -84,6 +111,7 @@ module _ {T : Type 0} (g : Ghosts T) where
           record { for = s.for; stood = s.stood; tells = record { sound = s.tells.sound; step = λ line. also v s.for line (s.tells.step line); media = s.tells.media } };
     };
     asks = subst (λ k. Asks g k a old new) same acts.asks;
+    media = acts.media;
   }
 
   -- where nothing may be kept, the more where something may
@@ -98,6 +126,21 @@ module _ {T : Type 0} (g : Ghosts T) where
       any_moment = leaves_or g keeps acts.asks.any_moment;
       failed = acts.asks.failed;
     };
+    media = acts.media;
+  }
+
+  -- media were not asked
+  pub media_same : (daemon : ℕ) (event : Event) (old new : Locked T) → g.asks new.base ≡ g.asks old.base → EventAsks g daemon event old new
+  media_same daemon event old new same = record { each = λ v stood. omega (arith, same) }
+
+  -- what a call asked of them that was made under a number
+  pub media_called : (d : Daemon) (h : Holding) (call : Call) (old self new : Locked T) → old ≡ self → HoldsServed self.roll d h → d.left ≡ false → 0 < h.nesting.depth
+      → h.nesting.doom ≡ None → self.roll.failed ≡ None → CallAsks g call old.base new.base → EventAsks g d.id (events.Say call) old new
+  media_called d h call old self new view turn stays begun undoomed sound asks = record {
+    each = λ v stood.
+        let mine = subst (λ (l : Locked T). HoldsServed l.roll d h) (sym view) turn in
+        let one = asks.each v (stood (ap (λ (l : Locked T). l.roll.failed) view ∙ sound)) in
+        subst (λ b. g.asks new.base ≤ g.asks old.base + (if b then outside_needed v.now.world call else 0)) (sym (makes_here old.roll d h mine stays begun undoomed)) one;
   }
 
   -- nothing was asked of the ground
@@ -134,6 +177,7 @@ module _ {T : Type 0} (g : Ghosts T) where
           };
         };
         asks = asks_same keeps (told answer) old new base no_fault untold;
+        media = media_same daemon event old new (ap g.asks base);
       }))
 
   -- an event that changes nothing
@@ -149,11 +193,11 @@ module _ {T : Type 0} (g : Ghosts T) where
   pub acts_asked : (keeps : Bool) (R : Machine → Made → Machine → Type 0) (P : GroundState → GroundState → Type 0) (daemon : ℕ) (event : Event) (b a : Came) (old self new : Locked T)
       → old ≡ self → a ≡ b → is_disk_fault b ≡ false → (b.called ≡ true → new.roll.failed ≡ None) → self.roll.failed ≡ None
       → Brings g.stands old.base new.base P → KeepsGround g true old.base new.base → LeavesOr keeps g old.base new.base
-      → HasLapseCause b.answer (g.lapses old.base) (g.lapses new.base)
+      → HasLapseCause b.answer (g.lapses old.base) (g.lapses new.base) → EventAsks g daemon event old new
       → ((v v' : GroundState) → P v v' → AgreesWith (g.told old.base) v.now.world event b.answer (if b.called then bytes_given b.answer v'.now.world.shown else []))
       → ((v v' : GroundState) (line : ℕ) → P v v' → step_of R daemon event b old new v v' line)
       → Acts g keeps R daemon event a self new
-  acts_asked keeps R P daemon event b a old self new view is no_fault still sound brings kept leaves gap media step =
+  acts_asked keeps R P daemon event b a old self new view is no_fault still sound brings kept leaves gap asked media step =
       let none : old.roll.failed ≡ None = ap (λ (l : Locked T). l.roll.failed) view ∙ sound in
       subst (λ o. Acts g keeps R daemon event a o new) view (subst (λ x. Acts g keeps R daemon event x old new) (sym is) (record {
         leads = record {
@@ -171,17 +215,18 @@ module _ {T : Type 0} (g : Ghosts T) where
           any_moment = leaves;
           failed = λ some. absurd (true≢false (sym some ∙ ap is_some none));
         };
+        media = asked;
       }))
 
   -- an event for which the ground is asked, and fails
   pub acts_failed : (keeps : Bool) (R : Machine → Made → Machine → Type 0) (daemon : ℕ) (event : Event) (a : Came) (old self new : Locked T) (r : Roll)
       → old ≡ self → a ≡ told (answers.Reply replies.DiskFault) → self.roll.failed ≡ None
       → MeetsFault g old.base new.base → KeepsGround g true old.base new.base → LeavesOr keeps g old.base new.base
-      → new.roll ≡ with_fault r (g.moment new.base)
+      → EventAsks g daemon event old new → new.roll ≡ with_fault r (g.moment new.base)
       → ((v : GroundState) (line : ℕ) → let e = made_by daemon event (told (answers.Reply replies.DiskFault)) (g.moment old.base) (g.moment new.base) line v in
       Faults (machine_at old.roll v) e r (machine_at new.roll (standing_at v.before [])) → R (machine_at old.roll v) e (machine_at new.roll (standing_at v.before [])))
       → Acts g keeps R daemon event a self new
-  acts_failed keeps R daemon event a old self new r view is sound fails kept leaves roll step =
+  acts_failed keeps R daemon event a old self new r view is sound fails kept leaves asked roll step =
       let none : old.roll.failed ≡ None = ap (λ (l : Locked T). l.roll.failed) view ∙ sound in
       subst (λ o. Acts g keeps R daemon event a o new) view (subst (λ x. Acts g keeps R daemon event x old new) (sym is) (record {
         leads = record {
@@ -206,6 +251,7 @@ module _ {T : Type 0} (g : Ghosts T) where
           any_moment = leaves;
           failed = λ some. absurd (true≢false (sym some ∙ ap is_some none));
         };
+        media = asked;
       }))
     where
       some_is_none : (n : ℕ) → Some n ≡ None → ⊥
@@ -221,4 +267,8 @@ module _ {T : Type 0} (g : Ghosts T) where
           record { for = s.for; stood = s.stood; tells = record { sound = s.tells.sound; step = λ line. also v s.for line (s.tells.step line); media = s.tells.media } };
     };
     asks = record { kept = acts.asks.kept; cause = acts.asks.cause; gap = acts.asks.gap; any_moment = acts.asks.any_moment; failed = acts.asks.failed };
+    media = record {
+      each = λ v stood.
+          subst (λ n. g.asks new.base ≤ g.asks old.base + n) (drawn_asks (machine_at old.roll v) daemon event) (acts.media.each v stood);
+    };
   }

@@ -1,5 +1,5 @@
 -- What an event leaves of a ground that is ready for the roll of its lock.
-use Rattle.std.proofs.Common.{◌≡◌, ◌≤◌, ◌<◌, ◌∙◌, ◌==◌, ◌+◌, ◌-◌, ℕ, List, [], ◌∷◌, Bool, true, false, true≢false, Option, None, Some, is_some, arith, cond, map, nat_le, refl, sym, ap, subst}
+use Rattle.std.proofs.Common.{◌≡◌, ◌≤◌, ◌<◌, ◌∙◌, ◌==◌, ◌+◌, ◌-◌, ℕ, List, [], ◌∷◌, Bool, true, false, true≢false, Option, None, Some, is_some, arith, map, nat_le, refl, sym, ap, subst}
 use Rattle.std.proofs.lemmas.Bool.Decides.{nat_tests}
 use Rattle.std.specs.Option.{option_map_or}
 use Rattle.std.specs.Prelude.{if◌then◌else◌}
@@ -19,14 +19,13 @@ use Rattle.sdr_machine.specs.Closing.{close_of}
 use Rattle.sdr_machine.specs.Crash.{is_kept}
 use Rattle.sdr_machine.specs.Nesting.{cancelled, closing, comes_to, deepened, deepest, doomed_for, ended, nested, noted}
 use Rattle.sdr_machine.specs.Roll.{Roll, at_nesting, daemon_of, first_roll, newcomer, put_daemon, served_number, with_daemon, with_drawn, with_number}
-use Rattle.sdr_machine.specs.Served.{FitsNesting, HoldsServed, HoldsNumber, HoldsDrawn, HoldsWithin, HoldsNone, KeepsGroundReady, IsGroundReady, IsNumberDrawn, StaysAsReady}
-use Rattle.sdr_machine.specs.Serving.{Locked, after_look, roll_settled}
+use Rattle.sdr_machine.specs.Served.{FitsNesting, HoldsServed, HoldsNumber, HoldsDrawn, HoldsWithin, HoldsNone, KeepsGroundReady, IsGroundReady, IsNumberDrawn}
+use Rattle.sdr_machine.specs.Serving.{Locked, after_look}
 use Rattle.sdr_machine.specs.declared.daemon.Daemon.{Daemon}
 use Rattle.sdr_machine.specs.declared.daemon.Holding.{Holding}
 use Rattle.sdr_machine.specs.declared.has_ground.HasGround.{Ghosts}
 use Rattle.sdr_machine.specs.declared.nesting.Nesting.{Nesting}
-use Rattle.sdr_machine.proofs.RollLemmas.{among, contrary, each_also, each_found, each_newcomer, each_put, found_put, least_put, least_stays, least_within, number_held, number_same, other_put, put_here, put_later, same_number}
-use Rattle.sdr_machine.proofs.WorkLemmas.{found_id}
+use Rattle.sdr_machine.proofs.RollLemmas.{among, contrary, each_also, each_found, each_newcomer, each_put, found_put, least_put, least_stays, least_within, number_held, number_same, other_put, same_number}
 
 -- where a daemon is put in its place, each is that one or was there before
 pub by_daemon : (ds : List Daemon) (d x : Daemon) → among d.id ds ≡ Some x → (P : ℕ → Daemon → Type 0) → P d.id d
@@ -143,30 +142,6 @@ looked_free d ticket answers.Stalled = (refl, refl)
 looked_free d ticket answers.Waits = (refl, refl)
 looked_free d ticket answer = (refl, refl)
 
--- a daemon that is put in its own place changes nothing
-put_same : (ds : List Daemon) (d : Daemon) → among d.id ds ≡ Some d → put_daemon ds d ≡ ds
-put_same [] d found = none_some refl found
-put_same (x ∷ ds) d found = by (x.id == d.id) refl found (put_same ds d)
-  where
-    by : (b : Bool) → (x.id == d.id) ≡ b → cond b (Some x) (among d.id ds) ≡ Some d → (among d.id ds ≡ Some d → put_daemon ds d ≡ ds) → put_daemon (x ∷ ds) d ≡ x ∷ ds
-    by true e found rest = let s : x ≡ d = cc in put_here x ds d e ∙ ap (λ (y : Daemon). y ∷ ds) (sym s)
-    by false e found rest = put_later x ds d e ∙ ap (λ ds. x ∷ ds) (rest found)
-
--- so a call that reads leaves the roll
-pub settled_same : (r : Roll) (id : ℕ) → roll_settled r id ≡ r
-settled_same r id = by (daemon_of r id) refl
-  where
-    holds : (d : Daemon) (o : Option Holding) → d.holds ≡ o → daemon_of r d.id ≡ Some d
-        → option_map_or (λ (h : Holding). with_daemon r (at_nesting d h h.nesting)) o r ≡ r
-    holds d None is found = refl
-    holds d (Some h) is found =
-        ap (λ o. with_daemon r (record d { holds = o })) (sym is) ∙ ap (λ ds. record r { daemons = ds }) (put_same r.daemons d found)
-
-    by : (o : Option Daemon) → daemon_of r id ≡ o
-        → option_map_or (λ (d : Daemon). option_map_or (λ (h : Holding). with_daemon r (at_nesting d h h.nesting)) d.holds r) o r ≡ r
-    by None is = refl
-    by (Some d) is = holds d d.holds refl (subst (λ n. daemon_of r n ≡ Some d) (sym (found_id id r.daemons d is)) is)
-
 module _ {T : Type 0} (g : Ghosts T) where
   -- one level deeper, or doomed
   pub fits_deepened : (n : Nesting) (t : T) → FitsNesting g n t → FitsNesting g (deepened n).after t
@@ -254,19 +229,6 @@ module _ {T : Type 0} (g : Ghosts T) where
   -- where the disk has failed, nothing is asked
   pub lock_failed : (r : Roll) (t : T) (moment : ℕ) → r.failed ≡ Some moment → KeepsGroundReady g r t
   lock_failed r t moment failed = λ none. none_some none failed
-
-  -- the ground shows other bytes
-  pub lock_shown : (r : Roll) (t t' : T) → KeepsGroundReady g r t → StaysAsReady g t t' → KeepsGroundReady g r t'
-  lock_shown r t t' lock stays = λ none.
-      let ready = lock none in
-      record {
-        numbers = ready.numbers;
-        sound = stays.sound ready.sound;
-        served = λ id d h held served.
-            let fits = ready.served id d h held served in
-            record { going = λ none. stays.going (fits.going none); idle = λ zero. stays.idle (fits.idle zero) };
-        free = λ none. stays.idle (ready.free none);
-      }
 
   module _ (old self : Locked T) (view : old ≡ self) (lock : KeepsGroundReady g old.roll old.base) where
     -- the ground fits the served transaction

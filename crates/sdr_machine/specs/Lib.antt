@@ -1,4 +1,5 @@
 pub mod Agreeing
+pub mod Asked
 pub mod Closing
 pub mod CodedRoll
 pub mod Core

@@ -58,9 +58,3 @@ pub record IsGroundReady {T : Type 0} (g : Ghosts T) (r : Roll) (t : T) : Type 0
 -- what a lock keeps: its ground is ready for its roll, unless the disk has failed
 abbrev pub KeepsGroundReady : {T : Type 0} → Ghosts T → Roll → T → Type 0
 KeepsGroundReady g r t = r.failed ≡ None → IsGroundReady g r t
-
--- the ground stays sound, going and idle where it was
-pub record StaysAsReady {T : Type 0} (g : Ghosts T) (old new : T) : Type 0 where
-  pub sound : g.sound old → g.sound new
-  pub going : g.going old → g.going new
-  pub idle : g.idle old → g.idle new

@@ -1,7 +1,7 @@
 -- What a ground is asked by a lock, and what a lock makes of it.
-use Rattle.std.specs.Prelude.{◌≡◌, ◌≤◌, ◌&&◌, ◌==◌, not, is_none, ℕ, suc, List, [], Bool, true, false, Option, None, Some, IsSome, unwrap_or, if◌then◌else◌}
+use Rattle.std.specs.Prelude.{◌≡◌, ◌≤◌, ◌+◌, ◌&&◌, not, ℕ, suc, List, [], Bool, true, false, Option, None, Some, IsSome, if◌then◌else◌}
 use Rattle.std.specs.List.{list_all}
-use Rattle.std.specs.Option.{option_map, option_map_or}
+use Rattle.std.specs.Option.{option_map}
 use Rattle.sdr_base.specs.Causes.{Rose}
 use Rattle.sdr_base.specs.Media.{Told}
 use Rattle.sdr_base.specs.declared.moves.Move.{Move}
@@ -20,16 +20,16 @@ use Rattle.sdr_model.specs.declared.event.Event.{Event}
 use Rattle.sdr_model.specs.declared.event.Event.TheVariants as events
 use Rattle.sdr_model.specs.declared.journal.Said.{Said}
 use Rattle.sdr_machine.specs.Agreeing.{AgreesWith}
+use Rattle.sdr_machine.specs.Asked.{outside_asked, outside_needed}
 use Rattle.sdr_machine.specs.Crash.{LeavesOr}
 use Rattle.sdr_machine.specs.Lapses.{LapsesLast, HasLapseCause}
 use Rattle.sdr_machine.specs.Ground.{State, HasHeap, Steps, committed, rolled_back}
 use Rattle.sdr_machine.specs.Machine.{Machine, Made}
-use Rattle.sdr_machine.specs.Roll.{Roll, when_done, when_passed_over, after_wait, at_nesting, daemon_of, is_stalled, is_stuck, served_number, waits_for, with_daemon}
+use Rattle.sdr_machine.specs.Roll.{Roll, when_done, when_passed_over, after_wait, is_stalled, is_stuck, waits_for}
 use Rattle.sdr_machine.specs.Standing.{GroundState}
 use Rattle.sdr_machine.specs.Transaction.{bytes_given, refused}
 use Rattle.sdr_machine.specs.declared.came.Came.{Came}
 use Rattle.sdr_machine.specs.declared.daemon.Daemon.{Daemon}
-use Rattle.sdr_machine.specs.declared.daemon.Holding.{Holding}
 use Rattle.sdr_machine.specs.declared.has_ground.HasGround.{Ghosts}
 
 -- whether an event may find no memory: it is a call or an end
@@ -97,21 +97,18 @@ pub record MeetsFault {T : Type 0} (g : Ghosts T) (old new : T) : Type 0 where
   pub cause : Rose (g.faults old) (g.faults new)
 
 -- What a ground keeps in whatever it is asked, where a call is spent or none: no count of faults falls, its media tell the
--- same, and it lasts for as many calls, but for the one that is spent.
+-- same and are asked for a call alone, and it lasts for as many calls, but for the one that is spent.
 pub record KeepsGround {T : Type 0} (g : Ghosts T) (spent : Bool) (old new : T) : Type 0 where
   pub later : g.faults old ≤ g.faults new
   pub lapses : LapsesLast (g.lapses old) (g.lapses new)
   pub media : g.told new ≡ g.told old
+  pub unasked : spent ≡ false → g.asks new ≡ g.asks old
   pub lasts : (n : ℕ) → g.lasts old (if spent then suc n else n) → g.lasts new n
 
--- the state in which these bytes are shown, or those that were
-abbrev pub with_given : State → Option (List ℕ) → State
-with_given s given = record s { world = record s.world { shown = unwrap_or given s.world.shown } }
-
--- these bytes are shown, and all else stays
-pub record ShowsBytes (given : Option (List ℕ)) (v v' : GroundState) : Type 0 where
-  pub before : v'.before ≡ v.before
-  pub now : v'.now ≡ with_given v.now given
+-- In a call media were asked at most once for each extent that lies with them and of which it needs bytes, whatever the ground
+-- stood for.
+pub record CallAsks {T : Type 0} (g : Ghosts T) (call : Call) (old new : T) : Type 0 where
+  pub each : (v : GroundState) → g.stands old v → g.asks new ≤ g.asks old + outside_needed v.now.world call
 
 -- the roll of a lock, and what it stands on
 pub record Locked (T : Type 0) : Type 0 where
@@ -176,10 +173,17 @@ pub record Asks {T : Type 0} (g : Ghosts T) (keeps : Bool) (a : Came) (old new :
   pub any_moment : LeavesOr keeps g old.base new.base
   pub failed : IsSome old.roll.failed → new.base ≡ old.base
 
--- The lock answers an event of a daemon by such a step of the machine, for which the ground is asked.
+-- In an event media were asked at most once for each extent that lies with them and of which it needs bytes, whatever the lock
+-- stood for.
+pub record EventAsks {T : Type 0} (g : Ghosts T) (daemon : ℕ) (event : Event) (old new : Locked T) : Type 0 where
+  pub each : (v : GroundState) → IsInState g.stands old v → g.asks new.base ≤ g.asks old.base + outside_asked (machine_at old.roll v) daemon event
+
+-- The lock answers an event of a daemon by such a step of the machine, for which the ground is asked, and its media for what the
+-- event needs of them.
 pub record Acts {T : Type 0} (g : Ghosts T) (keeps : Bool) (R : Machine → Made → Machine → Type 0) (daemon : ℕ) (event : Event) (a : Came) (old new : Locked T) : Type 0 where
   pub leads : LeadsLock g.stands old new (MakesMachineStep g R old new daemon event a)
   pub asks : Asks g keeps a old new
+  pub media : EventAsks g daemon event old new
 
 -- the answer to a look at a ticket that waits: all have stalled where that holds, and the daemon waited for it before
 abbrev pub waiting_answer : Bool → Bool → Answer
@@ -223,17 +227,3 @@ pub record Doubts (r : Roll) (d : Daemon) (ticket : ℕ) (answer : Answer) (v v'
 pub record Finds (ds : List Daemon) (stuck : Bool) (v v' : GroundState) : Type 0 where
   pub found : stuck ≡ list_all (is_stuck v.before.world) ds
   pub still : SameStates v v'
-
--- whether a transaction is served under the number, and isn't doomed
-abbrev pub is_served : Roll → Holding → Bool
-is_served r h = not (h.nesting.depth == 0) && served_number r == h.number && is_none h.nesting.doom
-
--- whether a call of the daemon is made: it hasn't left, its number is served, and it is in a transaction that isn't doomed
-abbrev pub makes_calls : Roll → ℕ → Bool
-makes_calls r id =
-    option_map_or (λ (d : Daemon). not d.left && option_map_or (λ (h : Holding). is_served r h) d.holds false) (daemon_of r id) false
-
--- the roll after a call of a daemon that reads, and leaves its nesting
-abbrev pub roll_settled : Roll → ℕ → Roll
-roll_settled r id =
-    option_map_or (λ (d : Daemon). option_map_or (λ (h : Holding). with_daemon r (at_nesting d h h.nesting)) d.holds r) (daemon_of r id) r

@@ -3,7 +3,7 @@ ghost use Rattle.std.specs.Prelude.{true, false, ◌≡◌, IfOk, OnOk, OnErr, I
 ghost use Rattle.sdr_machine.specs.Crash.{LeavesBefore, LeavesEither};
 ghost use Rattle.sdr_machine.specs.Lapses.{HasLapseCause};
 ghost use Rattle.sdr_machine.specs.Served.{GoesOnAfter};
-ghost use Rattle.sdr_machine.specs.Serving.{Brings, Calls, Commits, KeepsGround, MeetsFault, RollsBack, Shows};
+ghost use Rattle.sdr_machine.specs.Serving.{Brings, CallAsks, Calls, Commits, KeepsGround, MeetsFault, RollsBack, Shows};
 
 use crate::{Fault, Halt, HasGround};
 use sdr_model::{Answer, Call, Reply};
@@ -16,6 +16,7 @@ pub trait Backing: HasGround {
         ensures { result ≡ Self.moment self.now };
 
     /// Makes a call in the transaction, which goes on unless the reply dooms it. Want of memory leaves all as before.
+    /// Media are asked at most once for each extent that lies with them and of which the call needs bytes.
     fn call(&mut self, call: &Call) -> Result<Reply, Halt>
         requires lasts { Self.lasts self.old 1 }
         requires going { Self.going self.old }
@@ -23,6 +24,7 @@ pub trait Backing: HasGround {
             (Calls (Self.told self.old) call.now reply)) }
         ensures gap { IfOk result (λ reply. HasLapseCause (Answer.Reply reply) (Self.lapses self.old)
             (Self.lapses self.new)) }
+        ensures needs { CallAsks Self.HasGround call.now self.old self.new }
         ensures sound { OnOk result (Self.sound self.new) }
         ensures going { IfOk result (λ reply. GoesOnAfter Self.HasGround call.now reply self.new) }
         ensures memory { IsErrOf result Halt.Memory → self.new ≡ self.old }

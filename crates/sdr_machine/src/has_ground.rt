@@ -19,6 +19,9 @@ pub trait HasGround {
     /// How often its media have failed, and have given fewer bytes than were asked for.
     ghost lapses: { Self → Lapses };
 
+    /// How often its media were asked; 0 where it doesn't tell that.
+    ghost asks: { Self → ℕ };
+
     /// What its media tell.
     ghost told: { Self → Option Told };
 

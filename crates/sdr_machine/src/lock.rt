@@ -1,18 +1,18 @@
 // The lock of a machine: it serves the daemon whose number is served, on any ground.
-ghost use Rattle.std.specs.Prelude.{◌&&◌, ◌==◌, not, ◌≡◌, ◌<◌, ◌+◌, ◌^◌, ◌∷◌, ◌⊎◌, IfErr, IfOk, None, Some, Ok, OnErr, OnOk, true, false};
+ghost use Rattle.std.specs.Prelude.{◌&&◌, ◌==◌, ◌≡◌, ◌<◌, ◌+◌, ◌^◌, ◌∷◌, ◌⊎◌, IfErr, IfOk, None, Some, Ok, OnErr, true, false};
 ghost use Rattle.sdr_machine.specs.Crash.{commits_by, commits_in, commits_of, commits_under};
 ghost use Rattle.sdr_machine.specs.Ground.{State};
 ghost use Rattle.sdr_machine.specs.Machine.{MachineStep, StepsOf, Comes, ComesLooking, Holds, OnTurn, Performs, Enters, Looks, LooksHolding, BeginsUnder, Closes, FaultsWithin, ComesLeaving, Draws, IsSuspended, LeavesHolding, is_of_work, is_outside};
 ghost use Rattle.sdr_machine.specs.Roll.{MayDraw, when_done, at_nesting, daemon_of, first_roll, held_by, with_daemon, with_fault, with_number};
 ghost use Rattle.sdr_machine.specs.Served.{HoldsServed, HoldsNumber, HoldsNone};
-ghost use Rattle.sdr_machine.specs.Serving.{Acts, is_served, roll_settled, takes_memory};
+ghost use Rattle.sdr_machine.specs.Serving.{Acts, takes_memory};
 ghost use Rattle.sdr_machine.specs.Transaction.{is_closing, transaction_of};
 
 use crate::failing::go_failed;
 use crate::seeing::{after_look, sight};
 use crate::settling::settle;
-use crate::{Backing, Came, Daemon, Fault, Halt, Holding, Nesting, Roll, Shows, refused};
-use sdr_base::{Bytes, NoMemory, Refusal};
+use crate::{Backing, Came, Daemon, Fault, Halt, Holding, Nesting, Roll, refused};
+use sdr_base::{NoMemory, Refusal};
 use sdr_model::{Answer, Call, Event, Reply};
 use std::alloc::{AllocError, Global};
 use std::marker::Model;
@@ -83,6 +83,7 @@ impl<T: Backing> Lock<T> {
         requires turn { HoldsServed self.old.roll daemon holding }
         requires begun { 0 < holding.nesting.depth }
         requires lasts { T.lasts self.old.base 1 }
+        requires stays { daemon.left ≡ false }
         requires sound { self.old.roll.failed ≡ None }
         requires undoomed { holding.nesting.doom ≡ None }
         ensures serves { IfOk result (λ came. Acts T.HasGround
@@ -110,6 +111,7 @@ impl<T: Backing> Lock<T> {
         requires turn { HoldsServed self.old.roll daemon holding }
         requires begun { 0 < holding.nesting.depth }
         requires lasts { T.lasts self.old.base 1 }
+        requires stays { daemon.left ≡ false }
         requires sound { self.old.roll.failed ≡ None }
         ensures serves { IfOk result (λ came. Acts T.HasGround
             (commits_in holding.nesting (Event.Say call.now))
@@ -382,6 +384,7 @@ impl<T: Backing> Lock<T> {
     // One event of a daemon that holds a number.
     fn hold(&mut self, daemon: Daemon, holding: Holding, event: &Event) -> Result<Came, NoMemory>
         requires held { HoldsNumber self.old.roll daemon.id daemon holding }
+        requires stays { daemon.left ≡ false }
         requires sound { self.old.roll.failed ≡ None }
         requires lasts { T.lasts self.old.base 1 }
         ensures holds { IfOk result (λ came. Acts T.HasGround
@@ -403,6 +406,7 @@ impl<T: Backing> Lock<T> {
     // One event of a transaction, or a first begin, under a number that is held.
     fn enter(&mut self, daemon: Daemon, holding: Holding, event: &Event) -> Result<Came, NoMemory>
         requires held { HoldsNumber self.old.roll daemon.id daemon holding }
+        requires stays { daemon.left ≡ false }
         requires sound { self.old.roll.failed ≡ None }
         requires lasts { T.lasts self.old.base 1 }
         requires within { is_of_work event.now ≡ true }
@@ -427,6 +431,7 @@ impl<T: Backing> Lock<T> {
     fn serve(&mut self, daemon: Daemon, holding: Holding, event: &Event) -> Result<Came, NoMemory>
         requires turn { HoldsServed self.old.roll daemon holding }
         requires inside { is_outside holding event.now ≡ false }
+        requires stays { daemon.left ≡ false }
         requires sound { self.old.roll.failed ≡ None }
         requires lasts { T.lasts self.old.base 1 }
         requires within { is_of_work event.now ≡ true }
@@ -526,51 +531,5 @@ impl<T: Backing> Lock<T> {
         ensures { result ≡ T.moment self.now.base }
     {
         self.base.moment()
-    }
-}
-
-// Whether a transaction is served under the number, and isn't doomed.
-fn is_served(roll: &Roll, holding: &Holding) -> bool
-    ensures { result ≡ is_served roll.now holding.now }
-{
-    holding.nesting.depth != 0 && roll.serving() == holding.number && holding.nesting.doom.is_none()
-}
-
-// The roll after a call that reads.
-fn settle_roll(roll: &mut Roll, id: u8)
-    ensures { roll.new ≡ roll_settled roll.old id }
-{
-    if let Some(daemon) = roll.daemon(id) {
-        if let Some(holding) = daemon.holds {
-            roll.put(daemon.at_nesting(holding, holding.nesting));
-        }
-    }
-}
-
-impl<T: Shows> Lock<T> {
-    ghost use Rattle.std.specs.Prelude.{◌≡◌};
-    ghost use Rattle.sdr_machine.specs.Serving.{Brings, KeepsGround, ShowsBytes, makes_calls};
-
-    /// Whether a call of the daemon is made: its number is served, and it is in a transaction that isn't doomed.
-    pub fn makes_calls(&self, id: u8) -> bool
-        ensures { result ≡ makes_calls self.now.roll id }
-    {
-        match self.roll.daemon(id) {
-            None => false,
-            Some(daemon) => match daemon.holds {
-                None => false,
-                Some(holding) => !daemon.left && is_served(&self.roll, &holding),
-            },
-        }
-    }
-
-    /// Answers a call of which media were asked outside: it gives these bytes, or media stopped it.
-    pub fn settle(&mut self, id: u8, given: Option<Bytes>)
-        ensures roll { self.new.roll ≡ roll_settled self.old.roll id }
-        ensures shown { Brings T.stands self.old.base self.new.base (ShowsBytes given) }
-        ensures keeps { KeepsGround T.HasGround true self.old.base self.new.base }
-    {
-        settle_roll(&mut self.roll, id);
-        self.base.show(given);
     }
 }

@@ -1,16 +1,12 @@
-// A ground whose media are asked outside.
-ghost use Rattle.sdr_machine.specs.Served.{StaysAsReady};
-ghost use Rattle.sdr_machine.specs.Serving.{Brings, KeepsGround, ShowsBytes};
-ghost use Rattle.std.specs.Prelude.{true};
+// A ground that tells the bytes that it shows.
+ghost use Rattle.std.specs.Prelude.{◌≡◌};
+ghost use Rattle.sdr_machine.specs.Standing.{GroundState};
 
 use crate::Backing;
-use sdr_base::Bytes;
 
-/// A ground whose media are asked outside: it is told what bytes a call gave.
+/// A ground that tells the bytes that it shows: those of the last answered call of the open transaction.
 pub trait Shows: Backing {
-    /// Shows these bytes, or those that it shows already.
-    fn show(&mut self, given: Option<Bytes>)
-        ensures shown { Brings Self.stands self.old self.new (ShowsBytes given) }
-        ensures keeps { KeepsGround Self.HasGround true self.old self.new }
-        ensures stays { StaysAsReady Self.HasGround self.old self.new };
+    /// The bytes that it shows.
+    fn shown(&self) -> &[u8]
+        ensures { (v : GroundState) → Self.stands self.now v → result.now ≡ v.now.world.shown };
 }

@@ -2,7 +2,7 @@
 ghost use Rattle.std.specs.Prelude.{◌≡◌, IfOk};
 ghost use Rattle.sdr_machine.specs.Standing.{GroundState};
 
-use crate::Backing;
+use crate::Shows;
 use sdr_base::{Move, NoMemory};
 use sdr_model::Call;
 
@@ -15,18 +15,14 @@ pub struct Room {
     pub bytes: usize,
 }
 
-/// A ground that tells the moves of its last call and the bytes that it shows, and how many there may be in the call that
-/// follows.
-pub trait Tells: Backing {
+/// A ground that tells the moves of its last call beside the bytes that it shows, and how many of both there may be in the
+/// call that follows.
+pub trait Tells: Shows {
     ghost use Rattle.sdr_machine.specs.Room.{HoldsAny};
 
     /// The moves of the last call.
     fn moves(&self) -> &[Move]
         ensures { (v : GroundState) → Self.stands self.now v → result.now ≡ v.moves };
-
-    /// The bytes that it shows.
-    fn shown(&self) -> &[u8]
-        ensures { (v : GroundState) → Self.stands self.now v → result.now ≡ v.now.world.shown };
 
     /// Room for what a call that follows may come to.
     fn room_for(&self, call: &Call) -> Result<Room, NoMemory>

@@ -1,7 +1,9 @@
 mod GreetingExample
-pub mod GapLemmas
+pub mod DryLemmas
 pub mod ScheduleLemmas
+pub mod StepsLemmas
 pub mod PlayingLemmas
+pub mod RecordingLemmas
 pub mod HandedLemmas
 pub mod SettledLemmas
 pub mod ReplayingLemmas

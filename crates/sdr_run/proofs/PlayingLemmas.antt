@@ -1,31 +1,29 @@
--- A schedule that runs, and what it has printed.
-use Rattle.std.proofs.Common.{◌≡◌, ◌∙◌, ◌≤◌, ℕ, List, [], ◌∷◌, ◌++◌, Bool, true, false, not, Option, refl, sym, ap, subst, append_assoc}
+-- A schedule that is played, and what it has printed.
+use Rattle.std.proofs.Common.{◌≡◌, ◌∙◌, ◌≤◌, ℕ, List, [], ◌∷◌, ◌++◌, Bool, true, false, Option, refl, sym, ap, subst, append_assoc, arith}
 use Rattle.std.proofs.KnownBytes.{Appends-nil, Appends-trans}
 use Rattle.std.specs.Io.KnownBytes.{Appends}
 use Rattle.sdr_base.proofs.WrittenLemmas.{rose_later}
 use Rattle.sdr_base.specs.Causes.{Rose}
 use Rattle.sdr_base.specs.Written.{AppendsPart}
-use Rattle.sdr_core.specs.CoreKept.{RunStart, BeginsOn, IsRunOf, LoggedLock, core_at}
-use Rattle.sdr_core.specs.Leaving.{LastsOn, RunLeads}
-use Rattle.sdr_core.proofs.CausedLemmas.{answer_caused, caused_later, caused_more, failed_refl, media_later}
-use Rattle.sdr_run.proofs.ScheduleLemmas.{bindings_after-push, follows-push, run_text-push, runs-push}
-use Rattle.sdr_core.specs.Caused.{AreCaused, from_to}
+use Rattle.sdr_core.specs.Going.{GoesUnasked, MakesNext, NextCore, media_of}
+use Rattle.sdr_core.specs.declared.has_run.HasRun.{Ghosts as RunGhosts}
+use Rattle.sdr_core.proofs.CausedLemmas.{caused_by, caused_later, caused_more, failed_refl, stayed_by}
+use Rattle.sdr_run.proofs.ScheduleLemmas.{bindings_after-push, follows-push, outside_along-push, run_text-push, runs-push}
+use Rattle.sdr_core.specs.Caused.{IsCaused, from_to}
 use Rattle.sdr_run.specs.Schedule.{MakesEvent, bindings_after, run_text}
-use Rattle.sdr_words.specs.Daemons.{daemons_of}
-use Rattle.sdr_machine.specs.Core.{CoreStep, RunsCore, first_core}
-use Rattle.sdr_machine.specs.Crash.{is_sound}
+use Rattle.sdr_machine.specs.Asked.{outside_asked}
+use Rattle.sdr_machine.specs.Core.{Core, CoreStep}
 use Rattle.sdr_machine.specs.Leaving.{AllLeave}
 use Rattle.sdr_machine.specs.Machine.{Made}
-use Rattle.sdr_machine.specs.Roll.{first_roll}
-use Rattle.sdr_machine.specs.Serving.{IsInSomeState, made_by}
-use Rattle.sdr_machine.specs.Standing.{standing_at}
-use Rattle.sdr_machine.specs.declared.has_ground.HasGround.{Ghosts}
-use Rattle.sdr_model.specs.declared.journal.Entry.{Entry}
+use Rattle.sdr_machine.specs.declared.came.Came.{Came}
+use Rattle.sdr_model.specs.declared.answer.Answer.{Answer}
+use Rattle.sdr_model.specs.declared.event.Event.{Event}
 use Rattle.sdr_model.specs.declared.script.ScriptStep.{ScriptStep}
-use Rattle.sdr_core.specs.Caused.{media_on}
-use Rattle.sdr_run.specs.Playing.{IsPrinted, Output, PlaysOut, PrintsMore, leave_of}
-use Rattle.sdr_run.specs.Running.{AnswersStep, HasMade, HasRun, Running}
+use Rattle.sdr_run.specs.Playing.{IsPrinted, Output, Plays, PrintsMore, leave_of}
+use Rattle.sdr_run.specs.Running.{AnswersStep, HasMade, HasRun, MakesStep, Running, TellsGiven}
+use Rattle.sdr_run.specs.Steps.{StartsWith}
 use Rattle.sdr_text.proofs.TextLemmas.{part_later}
+use Rattle.sdr_text.specs.Text.{line_text}
 use Rattle.sdr_words.specs.Bindings.{Binding, bound, event_of}
 
 -- a part of a text is one of a longer text
@@ -60,128 +58,157 @@ printed_none p old line is =
     (λ first text below printed. (printed.0, part_more first.taken old.taken text line printed.1))
 
 -- nothing was made yet
-pub running_start : {T : Type 0} (g : Ghosts T) (b : RunStart) (script : List ScriptStep) (daemons : List ℕ) (base : T) (k : LoggedLock T) (out : Output)
-    → daemons ≡ daemons_of script → BeginsOn g b (daemons_of script) base
-    → k ≡ record { lock = record { roll = first_roll daemons; base = base }; log = record { works = []; journal = [] } }
-    → Running g b k.lock.base script script [] k (IsPrinted true out out)
-running_start {T} g b script daemons base k out named begins made =
-    let core : LoggedLock T = record { lock = record { roll = first_roll (daemons_of script); base = base }; log = record { works = []; journal = [] } } in
-    let is : core ≡ k = sym (made ∙ (λ i. let x : LoggedLock T = record { lock = record { roll = first_roll (named i); base = base }; log = record { works = []; journal = [] } } in x)) in
-    subst (λ (x : LoggedLock T). Running g b x.lock.base script script [] x (IsPrinted true out out)) is (record {
-      at = record {
-        made = [];
-        for = standing_at b.first begins.moves;
-        stood = λ sound. begins.stands;
-        front = [];
-        steps = refl;
-        follows = tt;
-        runs = refl;
-        media = begins.told;
-        caused = failed_refl (media_on g base);
-        printed = Appends-nil out.taken;
-      };
-      names = refl;
-    })
+pub running_start : {R : Type 0} (r : RunGhosts R) (now : R) (first : Core) (script : List ScriptStep) (out : Output) → r.at now first
+    → Running r now first script script [] now (IsPrinted true out out)
+running_start r now first script out here = record {
+  at = record {
+    made = [];
+    core = first;
+    here = here;
+    front = [];
+    steps = refl;
+    follows = tt;
+    runs = refl;
+    caused = failed_refl (media_of r now);
+    asks = omega arith;
+    printed = Appends-nil out.taken;
+  };
+  names = refl;
+}
 
-module _ {T : Type 0} (g : Ghosts T) (b : RunStart) (base : T) (script : List ScriptStep) (step : ScriptStep) (rest : List ScriptStep) (bindings : List Binding) (old new : LoggedLock T)
-    (was going : Bool) (first before after : Output) (r : Running g b base script (step ∷ rest) bindings old (IsPrinted was first before))
-    (below : first.faults ≤ before.faults) (a : AnswersStep g bindings step old new (PrintsMore was going before after)) where
-  stood : IsInSomeState g.stands new.lock (λ v. CoreStep (g.told old.lock.base) (core_at old r.at.for)
-      (made_by step.daemon (event_of bindings step) a.came (g.moment old.lock.base) (g.moment new.lock.base) step.line v) (core_at new v))
-  stood = a.makes.step.each r.at.for r.at.stood
+-- a step was answered by its event
+pub answered_by : {R : Type 0} (r : RunGhosts R) (bindings : List Binding) (step : ScriptStep) (event : Event) (came : Came) (old new : R) (Prints : List ℕ → Type 0)
+    → event ≡ event_of bindings step → MakesNext r step.daemon step.line event came old new
+    → TellsGiven r new came (λ bytes. Prints (line_text step.line step.daemon came.answer bytes)) → AnswersStep r bindings step old new Prints
+answered_by r bindings step event came old new Prints is makes prints = record {
+  came = came;
+  makes = subst (λ (ev : Event). MakesNext r step.daemon step.line ev came old new) is makes;
+  prints = prints;
+}
+
+-- and its name holds what the answer gave
+pub made_by_event : {R : Type 0} (r : RunGhosts R) (bindings : List Binding) (step : ScriptStep) (event : Event) (came : Came) (old new : R) (bindings' : List Binding)
+    (Prints : List ℕ → Type 0) → event ≡ event_of bindings step → MakesNext r step.daemon step.line event came old new
+    → TellsGiven r new came (λ bytes. Prints (line_text step.line step.daemon came.answer bytes)) → bindings' ≡ bound bindings step came.answer
+    → MakesStep r bindings step old new bindings' Prints
+unfolding answered_by
+made_by_event r bindings step event came old new bindings' Prints is makes prints names =
+    record { answers = answered_by r bindings step event came old new Prints is makes prints; names = names }
+
+-- the run so far, by the step that is next
+pub running_at : {R : Type 0} (r : RunGhosts R) (before : R) (from : Core) (script left : List ScriptStep) (step : ScriptStep) (bindings : List Binding) (now : R)
+    (P : List ℕ → Type 0) (next : StartsWith left step) → Running r before from script left bindings now P → Running r before from script (step ∷ next.rest) bindings now P
+running_at r before from script left step bindings now P next at = subst (λ (rest : List ScriptStep). Running r before from script rest bindings now P) next.is at
+
+module _ {R : Type 0} (r : RunGhosts R) (before : R) (from : Core) (script : List ScriptStep) (step : ScriptStep) (rest : List ScriptStep) (bindings : List Binding) (old new : R)
+    (was going : Bool) (first out after : Output) (at : Running r before from script (step ∷ rest) bindings old (IsPrinted was first out))
+    (below : first.faults ≤ out.faults) (a : AnswersStep r bindings step old new (PrintsMore was going out after)) where
+  n : NextCore r step.daemon step.line (event_of bindings step) a.came at.at.core old new
+  n = a.makes.each at.at.core at.at.here
 
   abbrev e : Made
-  e = made_by step.daemon (event_of bindings step) a.came (g.moment old.lock.base) (g.moment new.lock.base) step.line stood.for
+  e = n.made
 
-  event_made : MakesEvent (bindings_after [] r.at.front r.at.made) step e
-  event_made = record { line = refl; daemon = refl; event = ap (λ names. event_of names step) r.names }
+  told_same : r.told old ≡ r.told before
+  told_same = at.at.caused.told
+
+  event_made : MakesEvent (bindings_after [] at.at.front at.at.made) step e
+  event_made = record { line = n.line_is; daemon = n.daemon_is; event = n.event_is ∙ ap (λ names. event_of names step) at.names }
+
+  core_step : CoreStep (r.told before) at.at.core e n.next
+  core_step = subst (λ told. CoreStep told at.at.core e n.next) told_same n.step
+
+  caused_here : IsCaused e.said.answer (from_to (media_of r old) (media_of r new))
+  caused_here =
+      subst (λ (x : Answer). IsCaused x (from_to (media_of r old) (media_of r new))) (sym n.answer_is)
+      (caused_by a.came.answer (media_of r old) (media_of r new) a.makes.told a.makes.lapses a.makes.gap)
+
+  line_here : line_text step.line step.daemon a.came.answer a.prints.bytes ≡ line_text e.said.line e.daemon e.said.answer e.said.bytes
+  line_here = λ i. line_text (sym n.line_is i) (sym n.daemon_is i) (sym n.answer_is i) (n.bytes_are a.prints.bytes a.prints.gives i)
 
   -- one more step was made
-  pub made_next : HasMade g b base script rest new (IsPrinted going first after)
+  pub made_next : HasMade r before from script rest new (IsPrinted going first after)
   made_next = record {
-    made = r.at.made ++ e ∷ [];
-    for = stood.for;
-    stood = stood.stood;
-    front = r.at.front ++ step ∷ [];
-    steps = r.at.steps ∙ sym (append_assoc r.at.front (step ∷ []) rest);
-    follows = follows-push [] r.at.front r.at.made step e r.at.follows event_made;
-    runs = runs-push b.told (first_core (daemons_of script) b.first) (core_at old r.at.for) (core_at new stood.for) r.at.made e r.at.runs
-        (subst (λ told. CoreStep told (core_at old r.at.for) e (core_at new stood.for)) r.at.media stood.tells);
-    media = a.makes.asks.kept.media ∙ r.at.media;
-    caused = caused_more r.at.made e (media_on g base) (media_on g old.lock.base) (media_on g new.lock.base) r.at.caused
-        (answer_caused g old.lock.base new.lock.base a.came.answer a.makes.asks.kept.media a.makes.asks.kept.lapses a.makes.asks.gap);
+    made = at.at.made ++ e ∷ [];
+    core = n.next;
+    here = n.here;
+    front = at.at.front ++ step ∷ [];
+    steps = at.at.steps ∙ sym (append_assoc at.at.front (step ∷ []) rest);
+    follows = follows-push [] at.at.front at.at.made step e at.at.follows event_made;
+    runs = runs-push (r.told before) from at.at.core n.next at.at.made e at.at.runs core_step;
+    caused = caused_more at.at.made e (media_of r before) (media_of r old) (media_of r new) at.at.caused caused_here;
+    asks =
+        let more = outside_along-push (r.told before) from at.at.core n.next at.at.made e at.at.runs core_step in
+        let here : outside_asked at.at.core.machine step.daemon (event_of bindings step) ≡ outside_asked at.at.core.machine e.daemon e.said.event =
+        λ i. outside_asked at.at.core.machine (sym n.daemon_is i) (sym n.event_is i) in
+        omega (arith, at.at.asks, n.few, more, here);
     printed =
-        subst (IsPrinted going first after) (sym (run_text-push r.at.made e))
-        (a.prints stood.for (λ called. stood.stood (a.makes.called called)) first (run_text r.at.made) below r.at.printed);
+        subst (IsPrinted going first after) (sym (run_text-push at.at.made e))
+        (subst (λ line. IsPrinted going first after (run_text at.at.made ++ line)) line_here (a.prints.tells first (run_text at.at.made) below at.at.printed));
   }
 
   -- and its name holds what its answer gave
   pub running_next : (bindings' : List Binding) → bindings' ≡ bound bindings step a.came.answer
-      → Running g b base script rest bindings' new (IsPrinted going first after)
+      → Running r before from script rest bindings' new (IsPrinted going first after)
   unfolding made_next
   running_next bindings' names = record {
     at = made_next;
-    names = names ∙ ap (λ held. bound held step a.came.answer) r.names ∙ sym (bindings_after-push [] r.at.front r.at.made step e r.at.follows);
+    names =
+        names ∙ ap (λ held. bound held step a.came.answer) at.names ∙ ap (λ answer. bound (bindings_after [] at.at.front at.at.made) step answer) (sym n.answer_is)
+        ∙ sym (bindings_after-push [] at.at.front at.at.made step e at.at.follows);
   }
 
 -- nothing was done
-pub made_still : {T : Type 0} (g : Ghosts T) (b : RunStart) (base : T) (script rest : List ScriptStep) (old new : LoggedLock T) (was going : Bool)
-    (first before after : Output) → HasMade g b base script rest old (IsPrinted was first before) → new ≡ old → after ≡ before → going ≡ was
-    → HasMade g b base script rest new (IsPrinted going first after)
-made_still {T} g b base script rest old new was going first before after at same out printing =
-    subst (λ (k : LoggedLock T). HasMade g b base script rest k (IsPrinted going first after)) (sym same)
-    (subst (λ (o : Output). HasMade g b base script rest old (IsPrinted going first o)) (sym out)
-    (subst (λ (p : Bool). HasMade g b base script rest old (IsPrinted p first before)) (sym printing) at))
+pub made_still : {R : Type 0} (r : RunGhosts R) (before : R) (from : Core) (script rest : List ScriptStep) (old new : R) (was going : Bool)
+    (first out after : Output) → HasMade r before from script rest old (IsPrinted was first out) → new ≡ old → after ≡ out → going ≡ was
+    → HasMade r before from script rest new (IsPrinted going first after)
+made_still {R} r before from script rest old new was going first out after at same printed printing =
+    subst (λ (k : R). HasMade r before from script rest k (IsPrinted going first after)) (sym same)
+    (subst (λ (o : Output). HasMade r before from script rest old (IsPrinted going first o)) (sym printed)
+    (subst (λ (p : Bool). HasMade r before from script rest old (IsPrinted p first out)) (sym printing) at))
 
--- some steps were made, of which more is told
-pub has_run : {T : Type 0} (g : Ghosts T) (b : RunStart) (base : T) (script rest : List ScriptStep) (k : LoggedLock T) (starved : Bool) (P : List ℕ → Type 0)
-    → (starved ≡ false → rest ≡ []) → HasMade g b base script rest k P
-    → HasRun g b base script k (λ rest text. (starved ≡ false → rest ≡ []) × P text)
-has_run g b base script rest k starved P none at = record {
-  rest = rest;
-  at = record {
-    made = at.made;
-    for = at.for;
-    stood = at.stood;
-    front = at.front;
-    steps = at.steps;
-    follows = at.follows;
-    runs = at.runs;
-    media = at.media;
-    caused = at.caused;
-    printed = (none, at.printed);
-  };
+-- what was made, of which more is told
+pub made_also : {R : Type 0} (r : RunGhosts R) (before : R) (from : Core) (script rest : List ScriptStep) (now : R) (starved : Bool) (P : List ℕ → Type 0)
+    → (starved ≡ false → rest ≡ []) → HasMade r before from script rest now P
+    → HasMade r before from script rest now (λ text. (starved ≡ false → rest ≡ []) × P text)
+made_also r before from script rest now starved P none at = record {
+  made = at.made;
+  core = at.core;
+  here = at.here;
+  front = at.front;
+  steps = at.steps;
+  follows = at.follows;
+  runs = at.runs;
+  caused = at.caused;
+  asks = at.asks;
+  printed = (none, at.printed);
 }
 
 -- all have left
-pub plays_out : {T : Type 0} (g : Ghosts T) (b : RunStart) (base begun left : T) (script : List ScriptStep) (k last : LoggedLock T) (starved printing failed : Bool)
-    (out out' : Output) (journal : List Entry) → begun ≡ base → g.told base ≡ b.told
-    → HasRun g b begun script k (λ rest text. (starved ≡ false → rest ≡ []) × IsPrinted printing out out' text)
-    → RunLeads g (AllLeave (g.told k.lock.base) (leave_of starved)) k last → journal ≡ last.log.journal → left ≡ last.lock.base
-    → IsRunOf g b journal left → failed ≡ not (is_sound journal)
-    → PlaysOut g b script base out out' (record { journal = journal; base = left; failed = failed; starved = starved; printing = printing })
-plays_out {T} g b base begun left script k last starved printing failed out out' journal begun_is told r leads journal_is left_is run failed_is =
-    let s = leads.each r.at.for r.at.stood in
-    let caused : AreCaused r.at.made (from_to (media_on g begun) (media_on g last.lock.base)) =
-    caused_later r.at.made (media_on g begun) (media_on g k.lock.base) (media_on g last.lock.base) r.at.caused
-    (media_later g k.lock.base last.lock.base leads.media leads.lapses) in
-    record {
-      replays = record {
-        front = r.at.front;
-        rest = r.rest;
-        steps = r.at.steps;
-        made = r.at.made;
-        follows = r.at.follows;
-        core = core_at k r.at.for;
-        runs = subst (λ told. RunsCore told (first_core (daemons_of script) b.first) r.at.made (core_at k r.at.for)) (sym told) r.at.runs;
-        leaving = s.tells.made;
-        last = core_at last s.for;
-        leaves = subst (λ told. AllLeave told (leave_of starved) (core_at k r.at.for) s.tells.made (core_at last s.for)) (r.at.media ∙ sym told) s.tells.tells;
-        journal_is = sym journal_is;
-        caused = subst (λ (x : T). AreCaused r.at.made (from_to (media_on g x) (media_on g left))) begun_is
-            (subst (λ (x : T). AreCaused r.at.made (from_to (media_on g begun) (media_on g x))) (sym left_is) caused);
-        printed = r.at.printed;
+pub plays_all : {R : Type 0} (r : RunGhosts R) (before now after : R) (script : List ScriptStep) (starved printing : Bool) (out out' : Output)
+    → HasRun r before script now (λ rest text. (starved ≡ false → rest ≡ []) × IsPrinted printing out out' text)
+    → GoesUnasked r (AllLeave (r.told now) (leave_of starved)) now after
+    → Plays r before after script out out' (record { starved = starved; printing = printing })
+plays_all r before now after script starved printing out out' ran goes = record {
+  each = λ from here.
+      let at = ran.each from here in
+      let left = goes.each at.core at.here in
+      record {
+        front = at.front;
+        rest = ran.rest;
+        steps = at.steps;
+        made = at.made;
+        follows = at.follows;
+        core = at.core;
+        runs = at.runs;
+        leaving = left.made;
+        last = left.core;
+        leaves = subst (λ told. AllLeave told (leave_of starved) at.core left.made left.core) at.caused.told left.tells;
+        here = left.here;
+        caused = caused_later at.made (media_of r before) (media_of r now) (media_of r after) at.caused
+            (stayed_by (media_of r now) (media_of r after) goes.told goes.lapses);
+        asks = omega (arith, at.asks, goes.asks);
+        all = at.printed.0;
+        printed = at.printed.1;
       };
-      run = run;
-      failed = failed_is;
-    }
+}

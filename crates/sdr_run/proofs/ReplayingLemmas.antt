@@ -7,7 +7,7 @@ use Rattle.sdr_core.specs.CoreKept.{AreMadeBetween, BeginsOn, IsRunOf}
 use Rattle.sdr_disk.specs.Moments.{AtEach}
 use Rattle.sdr_disk.specs.Told.{Both, IfTold}
 use Rattle.sdr_disk.specs.declared.disk.Disk.{Ghosts as DiskGhosts}
-use Rattle.sdr_core.specs.Caused.{EntriesAreCaused, SeenMedia, from_to, seen_media}
+use Rattle.sdr_core.specs.Caused.{SeenMedia, from_to, seen_media}
 use Rattle.sdr_words.specs.Daemons.{daemons_of}
 use Rattle.sdr_image.specs.Opening.{MayBeOpened}
 use Rattle.sdr_machine.specs.Ground.{State}
@@ -21,12 +21,13 @@ use Rattle.sdr_model.specs.declared.journal.Entry.{Entry}
 use Rattle.sdr_model.specs.declared.script.ScriptStep.{ScriptStep}
 use Rattle.sdr_run.specs.Handed.{HandedDisk, StaysAsHanded, handed_as}
 use Rattle.sdr_run.specs.Opening.{OpenedSo}
-use Rattle.sdr_run.specs.Playing.{Output, PlaysOut, RunsScript}
+use Rattle.sdr_run.specs.Playing.{Output}
+use Rattle.sdr_run.specs.Recording.{PlaysOut, RunsScript}
 use Rattle.sdr_run.proofs.HandedLemmas.{open_again, stays_rest}
 use Rattle.sdr_run.proofs.SettledLemmas.{ground_where}
 use Rattle.sdr_run.specs.Replaying.{IsNotRun, IsSettled, LeavesJournal, RanOn, ReplaysOn, begins_on, with_base}
 use Rattle.sdr_run.specs.Settled.{StandsWhere}
-use Rattle.sdr_run.specs.declared.playing.Ran.{Ran}
+use Rattle.sdr_run.specs.declared.recording.Ran.{Ran}
 use Rattle.sdr_station.specs.CrashNow.{crash_now}
 use Rattle.sdr_station.specs.Grounded.{Grounded, Leaves, OpensAs}
 use Rattle.sdr_station.specs.Opening.{IsOpen, first_on}

@@ -1,5 +1,5 @@
 -- What is known of a heap in memory and on its disk is known of it under a condition on the disk.
-use Rattle.std.proofs.Common.{◌≤◌, ℕ, List, Bool, Option, sym, subst}
+use Rattle.std.proofs.Common.{◌≤◌, ℕ, List, Bool, Option, refl, sym, subst}
 use Rattle.std.specs.Prelude.{⊤, IfOk, OnErr, OnOk, Result, Ok, Err}
 use Rattle.sdr_base.specs.declared.media.Media.{Ghosts as MediaGhosts}
 use Rattle.sdr_machine.specs.Crash.{LeavesBefore, LeavesEither}
@@ -19,6 +19,7 @@ ground_where condition told moment faults may_hold_after media = record {
   moment = λ g. g.moment;
   faults = λ g. faults g.heap.cells.disk;
   lapses = λ g. lapses_of media g.media;
+  asks = λ _. 0;
   told = λ g. media.told g.media;
   lasts = λ g _. ⊤;
   sound = λ g. HasDiskSound g;
@@ -62,7 +63,7 @@ module _ {D M : Type 0} (condition : Type 0) (told : D → Option (List ℕ)) (m
   -- what is kept
   pub keeps_where : {spent : Bool} → KeepsGround (heap_ground told moment faults may_hold_after media) spent old new
       → KeepsGround (ground_where condition told moment faults may_hold_after media) spent old new
-  keeps_where keeps = record { later = keeps.later; lapses = keeps.lapses; media = keeps.media; lasts = λ n lasts. tt }
+  keeps_where keeps = record { later = keeps.later; lapses = keeps.lapses; media = keeps.media; unasked = λ _. refl; lasts = λ n lasts. tt }
 
   -- and what a crash leaves, where the moment hasn't fallen
   pub leaves_where : old.moment ≤ new.moment → LeavesBefore (heap_ground told moment faults may_hold_after media) old new

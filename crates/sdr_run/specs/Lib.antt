@@ -1,7 +1,11 @@
 pub mod Schedule
+pub mod Needing
+pub mod Steps
 pub mod Asking
+pub mod Dry
 pub mod Handed
 pub mod Playing
+pub mod Recording
 pub mod Replaying
 pub mod Opening
 pub mod Running

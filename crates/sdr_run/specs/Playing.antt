@@ -1,26 +1,23 @@
--- A schedule on a heap: which events its steps make, and what is printed of them.
-use Rattle.std.specs.Prelude.{◌≡◌, ◌≤◌, ℕ, List, [], ◌++◌, Bool, true, false, not, Option, if◌then◌else◌}
+-- A schedule that is played: which events its steps make, and what is printed of them.
+use Rattle.std.specs.Prelude.{◌≡◌, ◌≤◌, ◌+◌, ℕ, List, [], ◌++◌, Bool, true, false, Option}
 use Rattle.std.specs.Io.KnownBytes.{Appends}
 use Rattle.sdr_base.specs.Causes.{Rose}
 use Rattle.sdr_base.specs.Written.{AppendsPart}
-use Rattle.sdr_core.specs.CoreKept.{RunStart, IsRunOf}
-use Rattle.sdr_core.specs.Caused.{AreCaused, MediaChange, from_to, media_on}
+use Rattle.sdr_core.specs.Caused.{AreCaused, MediaChange, from_to}
+use Rattle.sdr_core.specs.Going.{media_of}
+use Rattle.sdr_core.specs.declared.has_run.HasRun.{Ghosts}
+use Rattle.sdr_run.specs.Needing.{outside_along}
 use Rattle.sdr_run.specs.Schedule.{FollowsScript, run_text}
+use Rattle.sdr_run.specs.declared.playing.Played.{Played}
 use Rattle.sdr_words.specs.Daemons.{daemons_of}
 use Rattle.sdr_machine.specs.Core.{Core, RunsCore, first_core}
-use Rattle.sdr_machine.specs.Crash.{is_sound}
 use Rattle.sdr_machine.specs.Ground.{State}
 use Rattle.sdr_machine.specs.Leaving.{AllLeave}
 use Rattle.sdr_machine.specs.Machine.{Made}
-use Rattle.sdr_machine.specs.Standing.{GroundState}
-use Rattle.sdr_machine.specs.Transaction.{bytes_given}
-use Rattle.sdr_machine.specs.declared.came.Came.{Came}
-use Rattle.sdr_machine.specs.declared.has_ground.HasGround.{Ghosts}
 use Rattle.sdr_model.specs.declared.event.Leave.{Leave}
 use Rattle.sdr_model.specs.declared.event.Leave.TheVariants as leaves
 use Rattle.sdr_model.specs.declared.journal.Entry.{Entry}
 use Rattle.sdr_model.specs.declared.script.ScriptStep.{ScriptStep}
-use Rattle.sdr_run.specs.declared.playing.Ran.{Ran}
 
 -- what is seen of an output: the bytes that it took, where it tells them, and how often it has failed
 pub record Output : Type 0 where
@@ -40,10 +37,6 @@ IsPrinted false old now text = Rose old.faults now.faults × AppendsPart old.tak
 abbrev pub PrintsMore : Bool → Bool → Output → Output → List ℕ → Type 0
 PrintsMore was going old now line =
     (first : Output) (text : List ℕ) → first.faults ≤ old.faults → IsPrinted was first old text → IsPrinted going first now (text ++ line)
-
--- the bytes that an event gave, where the ground then stands for this
-abbrev pub bytes_by : Came → GroundState → List ℕ
-bytes_by a v = if a.called then bytes_given a.answer v.now.world.shown else []
 
 -- the leave that daemons make at the end, where memory was wanting or not
 abbrev pub leave_of : Bool → Leave
@@ -74,15 +67,27 @@ abbrev pub ReplaysSteps : MediaChange → State → List ScriptStep → List Ent
 ReplaysSteps media first script journal starved P =
     Replays media first script (leave_of starved) journal (λ rest text. (starved ≡ false → rest ≡ []) × P text)
 
--- The same, and the answers were printed.
-abbrev pub RunsScript : {T : Type 0} → MediaChange → State → List ScriptStep → Output → Output → Ran T → Type 0
-RunsScript media first script out out' ran = ReplaysSteps media first script ran.journal ran.starved (IsPrinted ran.printing out out')
+-- A schedule was played on a run from this core: some of its steps were made in order, all of them unless memory was wanting; then all made
+-- their leaves, which tell whether it was, by which the run has come to another core. The answers were printed. Media were asked at most once for each
+-- extent that lies with them and of which an event needs bytes.
+pub record PlaysFrom {R : Type 0} (r : Ghosts R) (first : Core) (before after : R) (script : List ScriptStep) (out out' : Output) (played : Played) : Type 0
+  where
+    pub front : List ScriptStep
+    pub rest : List ScriptStep
+    pub steps : script ≡ front ++ rest
+    pub made : List Made
+    pub follows : FollowsScript [] front made
+    pub core : Core
+    pub runs : RunsCore (r.told before) first made core
+    pub leaving : List Made
+    pub last : Core
+    pub leaves : AllLeave (r.told before) (leave_of played.starved) core leaving last
+    pub here : r.at after last
+    pub caused : AreCaused made (from_to (media_of r before) (media_of r after))
+    pub asks : r.asks after ≤ r.asks before + outside_along (r.told before) first made core runs
+    pub all : played.starved ≡ false → rest ≡ []
+    pub printed : IsPrinted played.printing out out' (run_text made)
 
--- A schedule was run on a ground, which was this one before.
-pub record PlaysOut {T : Type 0} (g : Ghosts T) (b : RunStart) (script : List ScriptStep) (before : T) (out out' : Output) (ran : Ran T) : Type 0 where
-  -- the answers that were printed and the journal are those of the run of the script
-  pub replays : RunsScript (from_to (media_on g before) (media_on g ran.base)) b.first script out out' ran
-  -- what a crash leaves is told by the journal
-  pub run : IsRunOf g b ran.journal ran.base
-  -- the disk failed just where it did in an entry
-  pub failed : ran.failed ≡ not (is_sound ran.journal)
+-- so it was, whatever core the run had come to
+pub record Plays {R : Type 0} (r : Ghosts R) (before after : R) (script : List ScriptStep) (out out' : Output) (played : Played) : Type 0 where
+  pub each : (first : Core) → r.at before first → PlaysFrom r first before after script out out' played

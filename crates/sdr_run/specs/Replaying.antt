@@ -20,8 +20,9 @@ use Rattle.sdr_log.specs.Logged.{GivesSame}
 use Rattle.sdr_model.specs.declared.journal.Entry.{Entry}
 use Rattle.sdr_model.specs.declared.script.ScriptStep.{ScriptStep}
 use Rattle.sdr_run.specs.Handed.{HandedDisk}
-use Rattle.sdr_run.specs.Playing.{Output, RunsScript}
-use Rattle.sdr_run.specs.declared.playing.Ran.{Ran}
+use Rattle.sdr_run.specs.Playing.{Output}
+use Rattle.sdr_run.specs.Recording.{RunsScript}
+use Rattle.sdr_run.specs.declared.recording.Ran.{Ran}
 use Rattle.sdr_station.specs.Grounded.{Grounded, OpensAs}
 use Rattle.sdr_station.specs.Opening.{ExplainsOpen, IsOpen, LeavesBytes, MayBeAgain, first_on}
 use Rattle.sdr_station.specs.declared.error.OpenError.{OpenError}

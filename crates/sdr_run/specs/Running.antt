@@ -1,54 +1,56 @@
 -- A schedule that runs, step by step.
-use Rattle.std.specs.Prelude.{◌≡◌, ℕ, List, [], ◌++◌, true}
-use Rattle.sdr_core.specs.CoreKept.{RunStart, LoggedLock, MakesCoreStep, core_at}
-use Rattle.sdr_core.specs.Caused.{AreCaused, from_to, media_on}
+use Rattle.std.specs.Prelude.{◌≡◌, ◌≤◌, ◌+◌, ℕ, List, [], ◌++◌}
+use Rattle.sdr_core.specs.Caused.{AreCaused, from_to}
+use Rattle.sdr_core.specs.Going.{MakesNext, media_of}
+use Rattle.sdr_core.specs.declared.has_run.HasRun.{Ghosts}
+use Rattle.sdr_run.specs.Needing.{outside_along}
 use Rattle.sdr_run.specs.Schedule.{FollowsScript, bindings_after, run_text}
-use Rattle.sdr_words.specs.Daemons.{daemons_of}
-use Rattle.sdr_machine.specs.Core.{RunsCore, first_core}
+use Rattle.sdr_machine.specs.Core.{Core, RunsCore}
 use Rattle.sdr_machine.specs.Machine.{Made}
-use Rattle.sdr_machine.specs.Serving.{IsInState}
-use Rattle.sdr_machine.specs.Standing.{GroundState}
 use Rattle.sdr_machine.specs.declared.came.Came.{Came}
-use Rattle.sdr_machine.specs.declared.has_ground.HasGround.{Ghosts}
 use Rattle.sdr_model.specs.declared.script.ScriptStep.{ScriptStep}
-use Rattle.sdr_run.specs.Playing.{bytes_by}
 use Rattle.sdr_text.specs.Text.{line_text}
 use Rattle.sdr_words.specs.Bindings.{Binding, bound, event_of}
 
--- The script's steps but these last ones were made in order, on a ground that was this one before, and the core has come to this. P tells
--- of the text of the answers.
-pub record HasMade {T : Type 0} (g : Ghosts T) (b : RunStart) (before : T) (script rest : List ScriptStep) (k : LoggedLock T) (P : List ℕ → Type 0) : Type 0 where
+-- The script's steps but these last ones were made in order, on a run that was this one before and had come to this core. Media were asked
+-- at most once for each extent that lies with them and of which an event needs bytes. P tells of the text of the answers.
+pub record HasMade {R : Type 0} (r : Ghosts R) (before : R) (first : Core) (script rest : List ScriptStep) (now : R) (P : List ℕ → Type 0) : Type 0 where
   pub made : List Made
-  pub for : GroundState
-  pub stood : IsInState g.stands k.lock for
+  pub core : Core
+  pub here : r.at now core
   pub front : List ScriptStep
   pub steps : script ≡ front ++ rest
   pub follows : FollowsScript [] front made
-  pub runs : RunsCore b.told (first_core (daemons_of script) b.first) made (core_at k for)
-  pub media : g.told k.lock.base ≡ b.told
-  pub caused : AreCaused made (from_to (media_on g before) (media_on g k.lock.base))
+  pub runs : RunsCore (r.told before) first made core
+  pub caused : AreCaused made (from_to (media_of r before) (media_of r now))
+  pub asks : r.asks now ≤ r.asks before + outside_along (r.told before) first made core runs
   pub printed : P (run_text made)
 
 -- The same, and the names hold what the answers gave.
-pub record Running {T : Type 0} (g : Ghosts T) (b : RunStart) (before : T) (script rest : List ScriptStep) (bindings : List Binding) (k : LoggedLock T)
+pub record Running {R : Type 0} (r : Ghosts R) (before : R) (first : Core) (script rest : List ScriptStep) (bindings : List Binding) (now : R)
     (P : List ℕ → Type 0) : Type 0 where
-  pub at : HasMade g b before script rest k P
+  pub at : HasMade r before first script rest now P
   pub names : bindings ≡ bindings_after [] at.front at.made
 
--- Some of the steps were made, of which P tells by those that are left and the text of the answers.
-pub record HasRun {T : Type 0} (g : Ghosts T) (b : RunStart) (before : T) (script : List ScriptStep) (k : LoggedLock T) (P : List ScriptStep → List ℕ → Type 0) : Type 0 where
+-- Whatever core the run had come to, some of the steps were made from it, of which P tells by those that are left and the text of the answers.
+pub record HasRun {R : Type 0} (r : Ghosts R) (before : R) (script : List ScriptStep) (now : R) (P : List ScriptStep → List ℕ → Type 0) : Type 0 where
   pub rest : List ScriptStep
-  pub at : HasMade g b before script rest k (P rest)
+  pub each : (first : Core) → r.at before first → HasMade r before first script rest now (P rest)
+
+-- P tells of the bytes that the last event gave, which was answered so.
+pub record TellsGiven {R : Type 0} (r : Ghosts R) (now : R) (a : Came) (P : List ℕ → Type 0) : Type 0 where
+  pub bytes : List ℕ
+  pub gives : r.gives now a bytes
+  pub tells : P bytes
 
 -- The event of a step was made, and Prints tells of the line of its answer.
-pub record AnswersStep {T : Type 0} (g : Ghosts T) (bindings : List Binding) (step : ScriptStep) (old new : LoggedLock T) (Prints : List ℕ → Type 0) : Type 0 where
+pub record AnswersStep {R : Type 0} (r : Ghosts R) (bindings : List Binding) (step : ScriptStep) (old new : R) (Prints : List ℕ → Type 0) : Type 0 where
   pub came : Came
-  pub makes : MakesCoreStep g step.daemon step.line (event_of bindings step) came old.lock old.log new.lock new.log
-  pub prints : (v : GroundState) → (came.called ≡ true → g.stands new.lock.base v)
-      → Prints (line_text step.line step.daemon came.answer (bytes_by came v))
+  pub makes : MakesNext r step.daemon step.line (event_of bindings step) came old new
+  pub prints : TellsGiven r new came (λ bytes. Prints (line_text step.line step.daemon came.answer bytes))
 
 -- The same, and its name holds what the answer gave.
-pub record MakesStep {T : Type 0} (g : Ghosts T) (bindings : List Binding) (step : ScriptStep) (old new : LoggedLock T) (bindings' : List Binding)
+pub record MakesStep {R : Type 0} (r : Ghosts R) (bindings : List Binding) (step : ScriptStep) (old new : R) (bindings' : List Binding)
     (Prints : List ℕ → Type 0) : Type 0 where
-  pub answers : AnswersStep g bindings step old new Prints
+  pub answers : AnswersStep r bindings step old new Prints
   pub names : bindings' ≡ bound bindings step answers.came.answer

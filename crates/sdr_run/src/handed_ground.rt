@@ -2,7 +2,7 @@
 use crate::handed::{Handed, HandedIn};
 use sdr_base::{Media, Move, NoMemory};
 use sdr_disk::Disk;
-use sdr_machine::{Backing, Fault, Halt, HasGround, Room, Tells};
+use sdr_machine::{Backing, Fault, Halt, HasGround, Room, Shows, Tells};
 use sdr_model::{Call, Reply};
 use sdr_station::HeapGround;
 use std::marker::Model;
@@ -64,6 +64,8 @@ impl<D: Disk, M: Media, J: HandedIn> HasGround for HandedGround<D, M, J> {
 
     ghost lapses = { λ g. record { faults = M.faults g.media; short = M.short g.media } };
 
+    ghost asks = { λ _. 0 };
+
     ghost told = { λ g. M.told g.media };
 
     ghost lasts = { λ _ _. ⊤ };
@@ -111,13 +113,15 @@ impl<D: Disk, M: Media, J: HandedIn> Backing for HandedGround<D, M, J> {
     }
 }
 
+impl<D: Disk, M: Media, J: HandedIn> Shows for HandedGround<D, M, J> {
+    fn shown(&self) -> &[u8] {
+        HeapGround::shown(&self.ground)
+    }
+}
+
 impl<D: Disk, M: Media, J: HandedIn> Tells for HandedGround<D, M, J> {
     fn moves(&self) -> &[Move] {
         HeapGround::moves(&self.ground)
-    }
-
-    fn shown(&self) -> &[u8] {
-        HeapGround::shown(&self.ground)
     }
 
     fn room_for(&self, call: &Call) -> Result<Room, NoMemory> {

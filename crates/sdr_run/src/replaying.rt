@@ -7,7 +7,8 @@ ghost use Rattle.sdr_run.specs.Replaying.{IsNotRun, IsSettled, ReplaysOn, with_b
 use crate::handed::HandedIn;
 use crate::handed_ground::HandedGround;
 use crate::opening::{open_handed, shut_unrun};
-use crate::playing::{Ran, play};
+use crate::recording::{Ran, play_recorded};
+use crate::steps::{ScriptSteps, daemons_of};
 use sdr_base::{Media, Sink};
 use sdr_disk::Disk;
 use sdr_model::ScriptStep;
@@ -62,7 +63,13 @@ fn replay_on<D: Disk, M: Media, J: HandedIn, K: Sink>(
         Ok(base) => base,
         Err(shut) => return Err(shut),
     };
-    match play::<HandedGround<D, M, J>, Brand, K>(alloc, script, base, out) {
+    let Ok(daemons) = daemons_of(alloc, script) else {
+        return Err(shut_unrun(base));
+    };
+    let mut steps = ScriptSteps::new(script);
+    match play_recorded::<HandedGround<D, M, J>, Brand, ScriptSteps, K>(
+        alloc, &daemons, &mut steps, base, out,
+    ) {
         Ok(ran) => Ok(with_parts(ran)),
         Err(base) => Err(shut_unrun(base)),
     }

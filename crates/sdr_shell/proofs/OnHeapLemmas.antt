@@ -24,10 +24,10 @@ use Rattle.sdr_run.specs.Replaying.{RanOn}
 use Rattle.sdr_run.specs.Schedule.{run_text}
 use Rattle.sdr_shell.proofs.ShutLemmas.{by_shut, shut_status}
 use Rattle.sdr_shell.proofs.StillLemmas.{none_refused, spells_none, writes_behind}
-use Rattle.sdr_shell.specs.Answers.{Seen, Wrote, change_of}
+use Rattle.sdr_shell.specs.Answers.{Seen, Wrote, change_of, output_of}
 use Rattle.sdr_shell.specs.OnHeap.{AnswersOnHeap, ComesTo, HadOnHeap, HowRun, IsUntouched}
 use Rattle.sdr_shell.specs.Running.{PrintsJournal, line_asked, printed_journal}
-use Rattle.sdr_shell.specs.Telling.{Telling, output_of}
+use Rattle.sdr_shell.specs.Telling.{Telling}
 use Rattle.sdr_shell.specs.Still.{NamesBadLine, Tells}
 use Rattle.sdr_shell.specs.declared.status.TheConstants.{DONE, USAGE, INPUT_FAULT, NOT_FORMATTED, DAMAGED, REFUSED_LINE, NO_MEMORY}
 use Rattle.sdr_station.specs.Opening.{first_on}

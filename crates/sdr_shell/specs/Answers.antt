@@ -1,5 +1,5 @@
 -- What each form answers: by status, what was read, written and changed.
-use Rattle.std.specs.Prelude.{◌≡◌, ◌≢◌, ◌≤◌, ◌<◌, ◌↔◌, ◌⊎◌, ℕ, List, Option, Some, Result, Err, IsOk, IsErr, codes, ⊤}
+use Rattle.std.specs.Prelude.{◌≡◌, ◌≢◌, ◌≤◌, ◌<◌, ◌↔◌, ◌⊎◌, ℕ, List, Option, Some, IsOk, IsErr, codes, ◌&&◌, MatchBool}
 use Rattle.std.specs.Io.KnownBytes.{Appends}
 use Rattle.sdr_base.specs.Causes.{Rose}
 use Rattle.sdr_base.specs.Media.{Told}
@@ -11,8 +11,8 @@ use Rattle.sdr_shell.specs.Formatting.{line_formatted, line_too_small, IsFormatt
 use Rattle.sdr_core.specs.Caused.{MediaChange, media_change}
 use Rattle.sdr_model.specs.declared.script.ScriptStep.{ScriptStep}
 use Rattle.sdr_run.specs.Asking.{AsksAlong}
-use Rattle.sdr_run.specs.declared.running.RunError.{RunError}
-use Rattle.sdr_run.specs.declared.running.RunError.TheVariants as errors
+use Rattle.sdr_run.specs.Playing.{Output}
+use Rattle.sdr_run.specs.declared.playing.Played.{Played}
 use Rattle.sdr_shell.specs.Still.{WritesOut, HadRun, HadScript, IsDone, IsDryStatus, IsRefused, IsStarved}
 use Rattle.sdr_words.specs.Script.{input_script}
 use Rattle.sdr_shell.specs.declared.status.TheConstants.{DONE, INPUT_FAULT, OUTPUT_FAULT, DISK_FAULT, REFUSED_LINE, NO_MEMORY, TOO_SMALL}
@@ -34,18 +34,21 @@ change_of m files files' = media_change m.told m.faults m.short files files'
 abbrev pub Wrote : Seen → Seen → List ℕ → Type 0
 Wrote sink sink' text = WritesOut sink.bytes sink'.bytes sink.faults sink'.faults text
 
+-- what is seen of an output
+abbrev pub output_of : Seen → Output
+output_of sink = record { taken = sink.bytes; faults = sink.faults }
+
 -- what is told behind the text of a dry run that came to this
-abbrev pub TellsBehind : Result ⊤ RunError → Seen → Seen → Type 0
-TellsBehind (Err errors.NoMemory) mid now = Wrote mid now (codes "no memory\n")
-TellsBehind result mid now = now ≡ mid
+abbrev pub TellsBehind : Played → Seen → Seen → Type 0
+TellsBehind played mid now = MatchBool (played.starved && played.printing) (Wrote mid now (codes "no memory\n")) (now ≡ mid)
 
 -- The script was run, and in the run media were asked at most once for each extent that lies with them and of which its events
 -- need bytes.
 pub record RanAsking (told : Option Told) (script : List ScriptStep) (asked asked' : ℕ) (sink sink' : Seen) : Type 0 where
-  pub result : Result ⊤ RunError
+  pub played : Played
   pub mid : Seen
-  pub asks : AsksAlong told script asked asked' sink.bytes mid.bytes result
-  pub tells : TellsBehind result mid sink'
+  pub asks : AsksAlong told script asked asked' (output_of sink) (output_of mid) played
+  pub tells : TellsBehind played mid sink'
 
 -- the source's input spelled the script
 pub record HadAsking (left : Option (List ℕ)) (told : Option Told) (asked asked' : ℕ) (sink sink' : Seen) : Type 0 where

@@ -9,18 +9,14 @@ use Rattle.sdr_log.specs.Calls.{KeepsDisk}
 use Rattle.sdr_words.specs.Daemons.{daemons_of}
 use Rattle.sdr_machine.specs.Crash.{is_sound}
 use Rattle.sdr_model.specs.declared.script.ScriptStep.{ScriptStep}
-use Rattle.sdr_run.specs.Playing.{IsPrinted, Output}
+use Rattle.sdr_run.specs.Playing.{IsPrinted}
 use Rattle.sdr_run.specs.Replaying.{IsNotRun, RanOn}
-use Rattle.sdr_shell.specs.Answers.{Seen, Wrote, change_of, seen}
+use Rattle.sdr_shell.specs.Answers.{Seen, Wrote, change_of, output_of, seen}
 use Rattle.sdr_shell.specs.OnHeap.{AnswersOnHeap, HowRun}
 use Rattle.sdr_shell.specs.Shutting.{line_shut, status_shut}
 use Rattle.sdr_shell.specs.declared.outcome.RunOutcome.{RunOutcome}
 use Rattle.sdr_shell.specs.declared.status.TheConstants.{DONE, OUTPUT_FAULT, DISK_FAULT, NO_MEMORY}
 use Rattle.sdr_station.specs.declared.error.OpenError.{OpenError}
-
--- what is seen of an output
-abbrev pub output_of : Seen → Output
-output_of sink = record { taken = sink.bytes; faults = sink.faults }
 
 -- what is told behind the text of a run, by what stopped it: whether the disk failed, memory was wanting, the output failed
 abbrev pub Telling : (failed starved printing : Bool) → ℕ → Seen → Seen → Type 0

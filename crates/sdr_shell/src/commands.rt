@@ -18,14 +18,14 @@ use crate::inspecting::inspect_disk;
 use crate::last_line::last_line;
 use crate::outcome::{no_form, without_journal};
 use crate::recovering::{Recovered, recover_disk};
-use crate::replaying::replay_input;
+use crate::replaying::{RunEnd, replay_input, tell_ran};
 use crate::status::{
     DISK_FAULT, DONE, INPUT_FAULT, NO_MEMORY, OUTPUT_FAULT, REFUSED_LINE, TOO_SMALL,
 };
 use sdr_base::{Media, Sink, Source};
 use sdr_disk::Disk;
 use sdr_model::ScriptStep;
-use sdr_run::{RunError, run};
+use sdr_run::dry;
 use sdr_text::Line;
 use sdr_words::{ScriptError, read_script};
 use std::alloc::Global;
@@ -45,37 +45,44 @@ fn refuse_line<K: Sink>(output: &mut K, line: u64)
     last_line(output, text.as_slice());
 }
 
-// Runs a script.
+// Runs a script in memory, with these media, and gives them back.
 fn run_script<M: Media, K: Sink>(
     alloc: Global,
     script: &[ScriptStep],
-    media: &mut M,
+    media: M,
     output: &mut K,
-) -> u8
+) -> (u8, M)
     requires few { length script.now ≤ 1048577 }
-    ensures known { (result ≡ DONE) ⊎ (result ≡ OUTPUT_FAULT) ⊎ (result ≡ NO_MEMORY) }
-    ensures media { HaveFailed 0 0 (media_change M.told M.faults M.short media.old media.new) }
+    ensures known { (result.0 ≡ DONE) ⊎ (result.0 ≡ OUTPUT_FAULT) ⊎ (result.0 ≡ NO_MEMORY) }
+    ensures media { HaveFailed 0 0 (media_change M.told M.faults M.short media result.1) }
     ensures later { K.faults output.old ≤ K.faults output.new }
-    ensures asks { RanAsking (M.told media.old) script.now (M.asks media.old) (M.asks media.new)
+    ensures asks { RanAsking (M.told media) script.now (M.asks media) (M.asks result.1)
         (seen K.taken K.faults output.old) (seen K.taken K.faults output.new) }
-    ensures done { result ≡ DONE →
-        RunsWhole (media_change M.told M.faults M.short media.old media.new) script.now
+    ensures done { result.0 ≡ DONE →
+        RunsWhole (media_change M.told M.faults M.short media result.1) script.now
         (Appends (K.taken output.old) (K.taken output.new)) }
-    ensures fault { result ≡ OUTPUT_FAULT → Rose (K.faults output.old) (K.faults output.new) }
-    ensures part { result ≡ OUTPUT_FAULT →
-        SomeRun (media_change M.told M.faults M.short media.old media.new) script.now (λ rest text.
+    ensures fault { result.0 ≡ OUTPUT_FAULT → Rose (K.faults output.old) (K.faults output.new) }
+    ensures part { result.0 ≡ OUTPUT_FAULT →
+        SomeRun (media_change M.told M.faults M.short media result.1) script.now (λ rest text.
         AppendsPart (K.taken output.old) (K.taken output.new) text) }
-    ensures starved { result ≡ NO_MEMORY →
-        SomeRun (media_change M.told M.faults M.short media.old media.new) script.now (λ rest text.
+    ensures starved { result.0 ≡ NO_MEMORY →
+        SomeRun (media_change M.told M.faults M.short media result.1) script.now (λ rest text.
         WritesOut (K.taken output.old) (K.taken output.new) (K.faults output.old) (K.faults output.new)
         (text ++ codes "no memory\n")) }
 {
-    match run(alloc, script, media, output) {
-        Ok(()) => DONE,
-        Err(RunError::Output) => OUTPUT_FAULT,
-        Err(RunError::NoMemory) => {
+    match dry(alloc, script, media, output) {
+        Ok(ran) => {
+            let end = RunEnd {
+                failed: false,
+                starved: ran.played.starved,
+                printing: ran.played.printing,
+            };
+            let status = tell_ran(end, output);
+            (status, ran.media)
+        }
+        Err(media) => {
             last_line(output, b"no memory\n");
-            NO_MEMORY
+            (NO_MEMORY, media)
         }
     }
 }
@@ -102,46 +109,45 @@ pub fn tell<K: Sink>(error: &ScriptError, output: &mut K) -> u8
     }
 }
 
-// A dry run of the input's script.
+// A dry run of the input's script, with these media, which are given back.
 #[tactic(auto, using(crate::proofs::ScriptRead::read_scripts))]
-fn dry<M: Media, S: Source, K: Sink>(
+fn dry_input<M: Media, S: Source, K: Sink>(
     alloc: Global,
-    media: &mut M,
+    media: M,
     input: &mut S,
     output: &mut K,
-) -> u8
-    ensures known { IsDryStatus result }
+) -> (u8, M)
+    ensures known { IsDryStatus result.0 }
     ensures later { (S.faults input.old ≤ S.faults input.new)
         × (K.faults output.old ≤ K.faults output.new) }
-    ensures media { HaveFailed 0 0 (media_change M.told M.faults M.short media.old media.new) }
-    ensures asks { AsksDry (S.left input.old) (M.told media.old)
-        (M.asks media.old) (M.asks media.new)
+    ensures media { HaveFailed 0 0 (media_change M.told M.faults M.short media result.1) }
+    ensures asks { AsksDry (S.left input.old) (M.told media) (M.asks media) (M.asks result.1)
         (seen K.taken K.faults output.old) (seen K.taken K.faults output.new) }
     ensures reads { S.reads input.new ≤ S.reads input.old + 1048577 }
     ensures each { IfSome (S.left input.old)
         (λ bytes. S.reads input.new ≤ S.reads input.old + length bytes + 1) }
-    ensures done { result ≡ DONE →
+    ensures done { result.0 ≡ DONE →
         IsDone (S.left input.old) (S.left input.new)
-        (media_change M.told M.faults M.short media.old media.new)
+        (media_change M.told M.faults M.short media result.1)
         (K.taken output.old) (K.taken output.new) }
-    ensures input { result ≡ INPUT_FAULT → Rose (S.faults input.old) (S.faults input.new) }
-    ensures input_text { result ≡ INPUT_FAULT →
+    ensures input { result.0 ≡ INPUT_FAULT → Rose (S.faults input.old) (S.faults input.new) }
+    ensures input_text { result.0 ≡ INPUT_FAULT →
         WritesOut (K.taken output.old) (K.taken output.new) (K.faults output.old) (K.faults output.new)
         (codes "input fault\n") }
-    ensures output { result ≡ OUTPUT_FAULT → Rose (K.faults output.old) (K.faults output.new) }
-    ensures part { result ≡ OUTPUT_FAULT → HadRun (S.left input.old)
-        (media_change M.told M.faults M.short media.old media.new) (λ rest text.
+    ensures output { result.0 ≡ OUTPUT_FAULT → Rose (K.faults output.old) (K.faults output.new) }
+    ensures part { result.0 ≡ OUTPUT_FAULT → HadRun (S.left input.old)
+        (media_change M.told M.faults M.short media result.1) (λ rest text.
         AppendsPart (K.taken output.old) (K.taken output.new) text) }
-    ensures refused { result ≡ REFUSED_LINE → IsRefused (S.left input.old)
+    ensures refused { result.0 ≡ REFUSED_LINE → IsRefused (S.left input.old)
         (K.taken output.old) (K.taken output.new) (K.faults output.old) (K.faults output.new) }
-    ensures unread { (result ≡ INPUT_FAULT) ⊎ (result ≡ REFUSED_LINE) → media.new ≡ media.old }
-    ensures starved { result ≡ NO_MEMORY → IsStarved (S.left input.old)
-        (media_change M.told M.faults M.short media.old media.new) (media.new ≡ media.old)
+    ensures unread { (result.0 ≡ INPUT_FAULT) ⊎ (result.0 ≡ REFUSED_LINE) → result.1 ≡ media }
+    ensures starved { result.0 ≡ NO_MEMORY → IsStarved (S.left input.old)
+        (media_change M.told M.faults M.short media result.1) (result.1 ≡ media)
         (K.taken output.old) (K.taken output.new) (K.faults output.old) (K.faults output.new) }
 {
     match read_script(alloc, input) {
         Ok(script) => run_script(alloc, script.as_slice(), media, output),
-        Err(error) => tell(&error, output),
+        Err(error) => (tell(&error, output), media),
     }
 }
 
@@ -150,7 +156,7 @@ pub fn still<D: Disk, M: Media, S: Source, K: Sink>(
     alloc: Global,
     words: &[RcStr],
     mut disk: D,
-    mut media: M,
+    media: M,
     input: &mut S,
     output: &mut K,
 ) -> RunOutcome<D, M>
@@ -159,7 +165,7 @@ pub fn still<D: Disk, M: Media, S: Source, K: Sink>(
 {
     match form_of(words) {
         Some(Form::Dry) => {
-            let status = dry(alloc, &mut media, input, output);
+            let (status, media) = dry_input(alloc, media, input, output);
             without_journal(alloc, status, disk, media)
         }
         Some(Form::Replay) => replay_input(alloc, disk, media, input, output),

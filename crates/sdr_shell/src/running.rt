@@ -5,9 +5,9 @@ ghost use Rattle.sdr_base.specs.Causes.{HasCause};
 ghost use Rattle.sdr_base.specs.Written.{AppendsPart};
 ghost use Rattle.sdr_core.specs.Caused.{HaveFailed, media_change};
 ghost use Rattle.sdr_run.specs.Playing.{IsPrinted};
-ghost use Rattle.sdr_shell.specs.Answers.{seen};
+ghost use Rattle.sdr_shell.specs.Answers.{output_of, seen};
 ghost use Rattle.sdr_shell.specs.Running.{PrintsJournal, line_asked};
-ghost use Rattle.sdr_shell.specs.Telling.{AnswersInput, RunsOrNot, output_of};
+ghost use Rattle.sdr_shell.specs.Telling.{AnswersInput, RunsOrNot};
 ghost use Rattle.sdr_text.specs.JournalText.{journal_text};
 
 use crate::RunOutcome;

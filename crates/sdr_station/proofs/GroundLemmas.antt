@@ -24,6 +24,7 @@ heap_ground told moment faults may_hold_after media = record {
   moment = λ g. g.moment;
   faults = λ g. faults g.heap.cells.disk;
   lapses = λ g. lapses_of media g.media;
+  asks = λ _. 0;
   told = λ g. media.told g.media;
   lasts = λ g _. ⊤;
   sound = λ g. HasDiskSound g;
@@ -78,6 +79,7 @@ keeps_read told moment faults may_hold_after media old new same gaps later = rec
   later = later;
   lapses = gaps;
   media = same;
+  unasked = λ _. refl;
   lasts = λ n lasts. tt;
 }
 

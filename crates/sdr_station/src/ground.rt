@@ -7,7 +7,7 @@ ghost use Rattle.sdr_image.specs.Opening.{MayBeOpened};
 ghost use Rattle.sdr_machine.specs.Crash.{LeavesBefore, LeavesEither};
 ghost use Rattle.sdr_machine.specs.Lapses.{HasLapseCause};
 ghost use Rattle.sdr_machine.specs.Served.{GoesOnAfter};
-ghost use Rattle.sdr_machine.specs.Serving.{Brings, Calls, Commits, KeepsGround, MeetsFault, RollsBack, Shows};
+ghost use Rattle.sdr_machine.specs.Serving.{Brings, CallAsks, Calls, Commits, KeepsGround, MeetsFault, RollsBack, Shows};
 ghost use Rattle.sdr_image.specs.Opened.{IsQuiet};
 ghost use Rattle.sdr_machine.specs.Standing.{GroundState};
 ghost use Rattle.sdr_log.specs.Calls.{KeepsDisk, KeepsRest};
@@ -94,6 +94,8 @@ impl<D: Disk, M: Media, F: Notify + Drop> HasGround for HeapGround<D, M, F> {
     ghost faults = { λ g. D.faults g.heap.cells.disk };
 
     ghost lapses = { λ g. record { faults = M.faults g.media; short = M.short g.media } };
+
+    ghost asks = { λ _. 0 };
 
     ghost told = { λ g. M.told g.media };
 
@@ -415,6 +417,7 @@ impl<D: Disk, M: Media, F: Notify + Drop> Backing for HeapGround<D, M, F> {
         ensures gap { IfOk result (λ reply. HasLapseCause (Answer.Reply reply)
             (⟦<HeapGround<D, M, F> as HasGround>⟧.lapses self.old)
             (⟦<HeapGround<D, M, F> as HasGround>⟧.lapses self.new)) }
+        ensures needs { CallAsks ⟦<HeapGround<D, M, F> as HasGround>⟧ call.now self.old self.new }
         ensures sound { OnOk result (HasDiskSound self.new) }
         ensures going { IfOk result (λ reply.
             GoesOnAfter ⟦<HeapGround<D, M, F> as HasGround>⟧ call.now reply self.new) }

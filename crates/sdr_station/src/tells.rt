@@ -10,7 +10,7 @@ use crate::station::most_moves;
 use sdr_base::limits::{LONGEST_NAME, LONGEST_STRING};
 use sdr_base::{Media, Move, NoMemory};
 use sdr_disk::Disk;
-use sdr_machine::{HasGround, Room, Tells};
+use sdr_machine::{HasGround, Room, Shows, Tells};
 use sdr_model::Call;
 use step_things::PAGE;
 use zco_acct::Notify;
@@ -34,13 +34,15 @@ fn most_bytes(call: &Call) -> usize
     }
 }
 
+impl<D: Disk, M: Media, F: Notify + Drop> Shows for HeapGround<D, M, F> {
+    fn shown(&self) -> &[u8] {
+        HeapGround::shown(self)
+    }
+}
+
 impl<D: Disk, M: Media, F: Notify + Drop> Tells for HeapGround<D, M, F> {
     fn moves(&self) -> &[Move] {
         HeapGround::moves(self)
-    }
-
-    fn shown(&self) -> &[u8] {
-        HeapGround::shown(self)
     }
 
     // A room is told for each call, and it is no more than a heap of this size and a page need.

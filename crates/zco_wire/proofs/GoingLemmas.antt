@@ -4,7 +4,8 @@ use Rattle.std.specs.Prelude.{◌==◌}
 use Rattle.std.proofs.lemmas.Bool.{eqb-true, ne_eqb}
 use Rattle.std.proofs.lemmas.List.{nil_from_length}
 use Rattle.sdr_base.specs.Media.{Told}
-use Rattle.sdr_gather.specs.Gathering.{AreGathered, Gathering, GivesPiece, count_outside}
+use Rattle.sdr_machine.specs.Asked.{count_outside}
+use Rattle.sdr_gather.specs.Gathering.{AreGathered, Gathering, GivesPiece}
 use Rattle.sdr_gather.proofs.GatheringLemmas.{count_outside-cons, gathering-end, gathering-next, gathering-start, gathering-trans}
 use Rattle.sdr_model.specs.Pieces.{cut_pieces, piece_length, piece_part}
 use Rattle.sdr_model.specs.declared.piece.Piece.{Piece}

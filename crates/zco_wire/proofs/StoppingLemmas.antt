@@ -1,5 +1,5 @@
 -- Why a read of pieces stops.
-use Rattle.std.proofs.Common.{◌≡◌, ℕ, List, [], ◌∷◌, Option, None, Some, Result, Ok, Err, refl, ◌∙◌, subst, arith, IfSome, inr}
+use Rattle.std.proofs.Common.{◌≡◌, ℕ, List, [], ◌∷◌, Option, None, Some, Result, Ok, Err, refl, ◌∙◌, subst, arith, IfSome}
 use Rattle.sdr_base.specs.Causes.{Rose}
 use Rattle.sdr_base.specs.Media.{Told}
 use Rattle.sdr_base.specs.Objects.{OnlyFault}
@@ -70,10 +70,10 @@ pub stops_first : {M : Type 0} (m : Ghosts M) (p : Piece) (rest : List Piece) (o
     StopsPieces m (p ∷ rest) old new stop
 stops_first m p rest old new (stops.Refused (SourceShort have want)) s =
     gathering-gap (p ∷ rest) p rest [] (Rose (m.faults old) (m.faults new)) (Rose (m.short old) (m.short new)) (m.told old)
-    (gaps.Short have want) (gathering-start (m.told old) (p ∷ rest)) (inr s)
+    (gaps.Short have want) (gathering-start (m.told old) (p ∷ rest)) s
 stops_first m p rest old new stops.MediaFault s =
     gathering-gap (p ∷ rest) p rest [] (Rose (m.faults old) (m.faults new)) (Rose (m.short old) (m.short new)) (m.told old)
-    gaps.Fault (gathering-start (m.told old) (p ∷ rest)) (inr s)
+    gaps.Fault (gathering-start (m.told old) (p ∷ rest)) s
 stops_first m p rest old new stop s = s
 
 -- where the rest of some pieces wasn't read, they weren't

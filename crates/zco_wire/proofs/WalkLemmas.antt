@@ -9,7 +9,8 @@ use Rattle.sdr_base.specs.Media.{Told}
 use Rattle.sdr_base.specs.Objects.{OnlyFault}
 use Rattle.sdr_base.specs.declared.media.Media.{Ghosts}
 use Rattle.sdr_base.specs.declared.stop.Stop.{Stop}
-use Rattle.sdr_gather.specs.Gathering.{Gathering, count_outside}
+use Rattle.sdr_machine.specs.Asked.{count_outside}
+use Rattle.sdr_gather.specs.Gathering.{Gathering}
 use Rattle.sdr_base.specs.ZcoObjects.{CapsuleRow, ExtentRow, capsule_addr, capsule_block, extent_addr, extent_block}
 use Rattle.sdr_model.specs.declared.piece.Piece.{Piece}
 use Rattle.sdr_model.specs.declared.piece.Piece.TheVariants as pieces

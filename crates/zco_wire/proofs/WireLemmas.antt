@@ -9,7 +9,8 @@ use Rattle.sdr_base.specs.ZcoObjects.{ObjectRow, extent_addr}
 use Rattle.sdr_base.specs.Linked.{first_of}
 use Rattle.sdr_base.specs.declared.media.Media.{Ghosts}
 use Rattle.sdr_base.specs.declared.stop.Stop.{Stop}
-use Rattle.sdr_gather.specs.Gathering.{AreGathered, Gathering, count_outside}
+use Rattle.sdr_machine.specs.Asked.{count_outside}
+use Rattle.sdr_gather.specs.Gathering.{AreGathered, Gathering}
 use Rattle.sdr_model.specs.Pieces.{cut_pieces}
 use Rattle.sdr_model.specs.declared.piece.Piece.{Piece}
 use Rattle.zco_obj.specs.Kept.{KeepsObject, SomeObject}

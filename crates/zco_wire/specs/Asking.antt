@@ -4,7 +4,7 @@ use Rattle.sdr_base.specs.Blocks.{Blocks, IsKind}
 use Rattle.sdr_base.specs.ZcoObjects.{ExtentRow, ObjectRow}
 use Rattle.sdr_base.specs.declared.kind.Kind.TheVariants as kinds
 use Rattle.sdr_base.specs.declared.media.Media.{Ghosts}
-use Rattle.sdr_gather.specs.Gathering.{count_outside}
+use Rattle.sdr_machine.specs.Asked.{count_outside}
 use Rattle.sdr_model.specs.declared.piece.Piece.{Piece}
 use Rattle.zco_obj.specs.declared.extent.ExtentPiece.{ExtentPiece as Range}
 use Rattle.zco_wire.specs.Going.{ahead}

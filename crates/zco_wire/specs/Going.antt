@@ -4,7 +4,8 @@ use Rattle.sdr_base.specs.Blocks.{Block, Blocks}
 use Rattle.sdr_base.specs.Media.{Told}
 use Rattle.sdr_base.specs.ZcoObjects.{CapsuleRow, ExtentRow, capsule_addr, extent_addr}
 use Rattle.sdr_base.specs.declared.media.Media.{Ghosts}
-use Rattle.sdr_gather.specs.Gathering.{Gathering, count_outside}
+use Rattle.sdr_machine.specs.Asked.{count_outside}
+use Rattle.sdr_gather.specs.Gathering.{Gathering}
 use Rattle.sdr_model.specs.Pieces.{cut_pieces}
 use Rattle.sdr_model.specs.declared.piece.Piece.{Piece}
 use Rattle.sdr_model.specs.declared.piece.Piece.TheVariants as pieces

@@ -1,19 +1,21 @@
-use Rattle.std.proofs.Common.{subst}
-use Rattle.sdr_core.specs.CoreKept.{MakesCoreStep}
-use Rattle.sdr_model.specs.declared.event.Event.{Event}
+use Rattle.std.proofs.Common.{inr}
+use Rattle.std.proofs.lemmas.Result.{err_from_is_err_and}
+use Rattle.sdr_run.proofs.PlayingLemmas.{answered_by, made_by_event}
+use Rattle.sdr_run.specs.Playing.{PrintsMore, output}
 use Rattle.sdr_run.proofs.playing.make.Goals as goal
 
 pub returns-clause-makes : goal.returns-clause-makes
 returns-clause-makes g c =
-    let step = c.args.step.now in
-    let old = c.args.core.now in
-    let new = c.answer.new.core in
-    record {
-      answers = record {
-        came = c.in_ok-came.came;
-        makes = subst (λ (event : Event). MakesCoreStep g.T.HasGround step.daemon step.line event c.in_ok-came.came old.lock old.log new.lock new.log)
-            c.in_ok-event.ensures c.in_ok-came.ensures.makes;
-        prints = c.in_ok-came.ensures.prints;
-      };
-      names = c.in_ok-bind.ensures.ok;
-    }
+    let seen = λ (out : g.row.K.Denot). output g.K.Sink.taken g.K.Sink.faults out in
+    made_by_event g.R.HasRun c.args.bindings.now c.args.step.now _ c.in_ok-came.came c.args.run.now c.answer.new.run c.bind.new.self
+    (PrintsMore c.args.printing.now c.answer.new.printing (seen c.args.out.now) (seen c.answer.new.out)) c.in_ok-event.ensures
+    c.in_ok-came.ensures.makes c.in_ok-came.ensures.prints c.in_ok-bind.ensures.ok
+
+pub returns-in_err-bind-clause-err : goal.returns-in_err-bind-clause-err
+returns-in_err-bind-clause-err g c =
+    let seen = λ (out : g.row.K.Denot). output g.K.Sink.taken g.K.Sink.faults out in
+    let answered = answered_by g.R.HasRun c.args.bindings.now c.args.step.now _ c.in_ok-came.came c.args.run.now c.answer.new.run
+    (PrintsMore c.args.printing.now c.answer.new.printing (seen c.args.out.now) (seen c.answer.new.out)) c.in_ok-event.ensures
+    c.in_ok-came.ensures.makes c.in_ok-came.ensures.prints in
+    let p = err_from_is_err_and c.from_residual-in_err-bind.result c.from_residual-in_err-bind.ensures.1 in
+    rw (p.1) (inr answered)

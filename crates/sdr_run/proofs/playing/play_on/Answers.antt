@@ -1,67 +1,123 @@
-use Rattle.std.proofs.Common.{◌≡◌, ◌∷◌, suc, List, true, false, true≢false, ap, sym, subst, arith, length, inl, inr}
-use Rattle.std.proofs.lemmas.List.{nil_from_length}
+use Rattle.std.proofs.Common.{◌≡◌, ◌∷◌, [], List, true, false, true≢false, ap, sym, subst, arith, length, refl, inl, inr}
 use Rattle.sdr_model.specs.declared.script.ScriptStep.{ScriptStep}
-use Rattle.sdr_run.proofs.PlayingLemmas.{has_run, made_next, made_still, running_next}
+use Rattle.sdr_run.proofs.PlayingLemmas.{made_also, made_next, made_still, running_at, running_next, running_start}
 use Rattle.sdr_run.specs.Playing.{IsPrinted, Output, output}
 use Rattle.sdr_run.specs.Running.{Running}
+use Rattle.sdr_run.proofs.playing.play_on.Given.{Over}
 use Rattle.sdr_run.proofs.playing.play_on.Goals as goal
+
+-- what is seen of the output
+abbrev seen : (g : Over) → g.row.K.Denot → Output
+seen g = output g.K.Sink.taken g.K.Sink.faults
 
 pub loop-step-init : goal.loop-step-init
 loop-step-init g c = record {
-  running = subst (λ names. Running g.T.HasGround g.J.Origin.begins c.args.core.now.lock.base c.args.script.now c.args.script.now names c.args.core.now
-      (IsPrinted c.args.printing.now (output g.K.Sink.taken g.K.Sink.faults c.args.out.now) (output g.K.Sink.taken g.K.Sink.faults c.args.out.now)))
-      (sym c.new-bindings.ensures) c.requires.running;
+  running = λ from here.
+      subst (λ names. Running g.R.HasRun c.args.run.now from (g.S.Steps.left c.args.steps.now) (g.S.Steps.left c.args.steps.now) names c.args.run.now
+      (IsPrinted c.args.printing.now (seen g c.args.out.now) (seen g c.args.out.now))) (sym c.new-bindings.ensures)
+      (subst (λ p. Running g.R.HasRun c.args.run.now from (g.S.Steps.left c.args.steps.now) (g.S.Steps.left c.args.steps.now) [] c.args.run.now
+      (IsPrinted p (seen g c.args.out.now) (seen g c.args.out.now))) (sym c.requires.printing)
+      (running_start g.R.HasRun c.args.run.now from (g.S.Steps.left c.args.steps.now) (seen g c.args.out.now) here));
   lasts = c.requires.lasts;
-  drawn = omega (arith, c.requires.drawn, c.requires.few);
+  drawn = omega arith;
   later = omega arith;
 }
 
+-- memory was wanting: nothing was done, or the step was answered
 pub returns-in_default-make-clause-ran : goal.returns-in_default-make-clause-ran
 returns-in_default-make-clause-ran g c =
-    let e : c.loop-step.rest.now ≡ c.in-Some.step.now ∷ c.in-Some.after.now = search c.in-Some.ensures.cases in
-    let seen : g.row.K.Denot → Output = output g.K.Sink.taken g.K.Sink.faults in
-    let first : Output = seen c.args.out.now in
-    let b = g.J.Origin.begins in
-    let before = c.args.core.now.lock.base in
+    let step = c.in-Some.step.now in
+    let next = c.in-Some.ensures.some in
     let old = c.loop-step in
     let new = c.make.new in
-    let r : Running g.T.HasGround b before c.args.script.now (c.in-Some.step.now ∷ c.in-Some.after.now) old.bindings old.core (IsPrinted old.printing first (seen old.out)) =
-    subst (λ (rest : List ScriptStep). Running g.T.HasGround b before c.args.script.now rest old.bindings old.core (IsPrinted old.printing first (seen old.out))) e
-    old.invariant.running in
+    let first = seen g c.args.out.now in
     elim c.in_default-make.ensures.err [
-      | inl same ↦ has_run g.T.HasGround b before c.args.script.now (c.in-Some.step.now ∷ c.in-Some.after.now) new.core true (IsPrinted new.printing first (seen new.out))
-          (λ no. absurd (true≢false no))
-          (made_still g.T.HasGround b before c.args.script.now (c.in-Some.step.now ∷ c.in-Some.after.now) old.core new.core old.printing new.printing first (seen old.out)
-          (seen new.out) r.at same.0 (ap seen same.1) same.2)
-      | inr a ↦ has_run g.T.HasGround b before c.args.script.now c.in-Some.after.now new.core true (IsPrinted new.printing first (seen new.out))
-          (λ no. absurd (true≢false no))
-          (made_next g.T.HasGround b before c.args.script.now c.in-Some.step.now c.in-Some.after.now old.bindings old.core new.core old.printing new.printing first
-          (seen old.out) (seen new.out) r old.invariant.later a)
+      | inl same ↦ record {
+        rest = step ∷ next.rest;
+        each = λ from here. made_also g.R.HasRun c.args.run.now from _ (step ∷ next.rest) new.run true (IsPrinted new.printing first (seen g new.out))
+            (λ no. absurd (true≢false no))
+            (made_still g.R.HasRun c.args.run.now from _ (step ∷ next.rest) old.run new.run old.printing new.printing first (seen g old.out) (seen g new.out)
+            (running_at g.R.HasRun c.args.run.now from _ _ step old.bindings old.run _ next (old.invariant.running from here)).at same.0 (ap (seen g) same.1) same.2);
+      }
+      | inr answered ↦ record {
+        rest = next.rest;
+        each = λ from here. made_also g.R.HasRun c.args.run.now from _ next.rest new.run true (IsPrinted new.printing first (seen g new.out))
+            (λ no. absurd (true≢false no))
+            (made_next g.R.HasRun c.args.run.now from _ step next.rest old.bindings old.run new.run old.printing new.printing first (seen g old.out) (seen g new.out)
+            (running_at g.R.HasRun c.args.run.now from _ _ step old.bindings old.run _ next (old.invariant.running from here)) old.invariant.later answered);
+      }
     ]
+
+pub returns-in_default-make-clause-lasts : goal.returns-in_default-make-clause-lasts
+returns-in_default-make-clause-lasts g c = elim c.in_default-make.ensures.err [
+  | inl same ↦ subst (λ (k : g.row.R.Denot). g.R.HasRun.lasts k) (sym same.0) c.loop-step.invariant.lasts
+  | inr answered ↦ answered.makes.lasts
+]
+
+pub returns-in_default-make-clause-drawn : goal.returns-in_default-make-clause-drawn
+returns-in_default-make-clause-drawn g c =
+    let all = ap length c.in-Some.ensures.some.is in
+    elim c.in_default-make.ensures.err [
+      | inl same ↦ let stays = ap (λ (k : g.row.R.Denot). (g.R.HasRun.roll_of k).drawn) same.0 in omega (arith, c.loop-step.invariant.drawn, stays)
+      | inr answered ↦ let one = answered.makes.drawn in omega (arith, c.loop-step.invariant.drawn, one, all)
+    ]
+
+-- there was no memory for the next step
+pub returns-in_default-pass-clause-ran : goal.returns-in_default-pass-clause-ran
+returns-in_default-pass-clause-ran g c =
+    let step = c.in-Some.step.now in
+    let next = c.in-Some.ensures.some in
+    let old = c.loop-step in
+    let new = c.make.new in
+    let first = seen g c.args.out.now in
+    let made = c.in-Ok.ensures.makes in
+    record {
+      rest = next.rest;
+      each = λ from here. made_also g.R.HasRun c.args.run.now from _ next.rest new.run true (IsPrinted new.printing first (seen g new.out)) (λ no. absurd (true≢false no))
+          (running_next g.R.HasRun c.args.run.now from _ step next.rest old.bindings old.run new.run old.printing new.printing first (seen g old.out) (seen g new.out)
+          (running_at g.R.HasRun c.args.run.now from _ _ step old.bindings old.run _ next (old.invariant.running from here)) old.invariant.later made.answers
+          new.bindings made.names).at;
+    }
+
+pub returns-in_default-pass-clause-drawn : goal.returns-in_default-pass-clause-drawn
+returns-in_default-pass-clause-drawn g c =
+    let one = c.in-Ok.ensures.makes.answers.makes.drawn in
+    let all = ap length c.in-Some.ensures.some.is in
+    omega (arith, c.loop-step.invariant.drawn, one, all)
 
 pub loop-step-preserved : goal.loop-step-preserved
 loop-step-preserved g c =
-    let e : c.loop-step.rest.now ≡ c.in-Some.step.now ∷ c.in-Some.after.now = search c.in-Some.ensures.cases in
-    let seen : g.row.K.Denot → Output = output g.K.Sink.taken g.K.Sink.faults in
-    let first : Output = seen c.args.out.now in
-    let b = g.J.Origin.begins in
-    let before = c.args.core.now.lock.base in
+    let step = c.in-Some.step.now in
+    let next = c.in-Some.ensures.some in
     let old = c.loop-step in
     let new = c.make.new in
+    let first = seen g c.args.out.now in
     let made = c.in-Ok.ensures.makes in
+    let passed : g.S.Steps.left c.pass.new.self ≡ next.rest = c.in-Ok-pass.ensures step next.rest next.is in
+    let all = ap length next.is in
+    let fewer = ap length passed in
     record {
-      running =
-          running_next g.T.HasGround b before c.args.script.now c.in-Some.step.now c.in-Some.after.now old.bindings old.core new.core old.printing new.printing first
-          (seen old.out) (seen new.out)
-          (subst (λ (rest : List ScriptStep). Running g.T.HasGround b before c.args.script.now rest old.bindings old.core (IsPrinted old.printing first (seen old.out))) e
-          old.invariant.running) old.invariant.later made.answers new.bindings made.names;
-      lasts = λ n. made.answers.makes.asks.kept.lasts n (old.invariant.lasts (suc n));
-      drawn = omega (arith, old.invariant.drawn, made.answers.makes.drawn, ap length e);
+      running = λ from here.
+          subst (λ (rest : List ScriptStep). Running g.R.HasRun c.args.run.now from (g.S.Steps.left c.args.steps.now) rest new.bindings new.run
+          (IsPrinted new.printing first (seen g new.out))) (sym passed)
+          (running_next g.R.HasRun c.args.run.now from _ step next.rest old.bindings old.run new.run old.printing new.printing first (seen g old.out) (seen g new.out)
+          (running_at g.R.HasRun c.args.run.now from _ _ step old.bindings old.run _ next (old.invariant.running from here)) old.invariant.later made.answers
+          new.bindings made.names);
+      lasts = made.answers.makes.lasts;
+      drawn = let one = made.answers.makes.drawn in omega (arith, old.invariant.drawn, one, all, fewer);
       later = omega (arith, old.invariant.later, c.make.ensures.later);
     }
 
+pub loop-step-smaller : goal.loop-step-smaller
+loop-step-smaller g c =
+    let next = c.in-Some.ensures.some in
+    let all = ap length next.is in
+    let fewer = ap length (c.in-Ok-pass.ensures c.in-Some.step.now next.rest next.is) in
+    omega (arith, all, fewer)
+
 pub returns-clause-ran : goal.returns-clause-ran
-returns-clause-ran g c =
-    has_run g.T.HasGround g.J.Origin.begins c.args.core.now.lock.base c.args.script.now c.loop-step.rest.now c.loop-step.core false
-    (IsPrinted c.loop-step.printing (output g.K.Sink.taken g.K.Sink.faults c.args.out.now) (output g.K.Sink.taken g.K.Sink.faults c.loop-step.out))
-    (λ done. nil_from_length c.loop-step.rest.now (search c.in_default.ensures)) c.loop-step.invariant.running.at
+returns-clause-ran g c = record {
+  rest = g.S.Steps.left c.loop-step.steps;
+  each = λ from here. made_also g.R.HasRun c.args.run.now from _ (g.S.Steps.left c.loop-step.steps) c.loop-step.run false _ (λ done. c.in_default.ensures.none refl)
+      (c.loop-step.invariant.running from here).at;
+}

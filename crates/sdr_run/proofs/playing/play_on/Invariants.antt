@@ -1,17 +1,19 @@
 use Rattle.std.proofs.Common.{◌≤◌, ◌+◌, length}
-use Rattle.sdr_core.specs.Leaving.{LastsOn}
+use Rattle.sdr_machine.specs.Core.{Core}
 use Rattle.sdr_run.specs.Playing.{IsPrinted, output}
 use Rattle.sdr_run.specs.Running.{Running}
 use Rattle.sdr_run.proofs.playing.play_on.Given as goal
 
+-- whatever core the run had come to, it runs from there
 abbrev pub invariant-loop-step : goal.invariant-loop-step
 invariant-loop-step g l = record {
-  running : Running g.T.HasGround g.J.Origin.begins l.fn.core.lock.base l.fn.script l.rest l.bindings l.core
+  running : (from : Core) → g.R.HasRun.at l.fn.run from
+      → Running g.R.HasRun l.fn.run from (g.S.Steps.left l.fn.steps) (g.S.Steps.left l.steps) l.bindings l.run
       (IsPrinted l.printing (output g.K.Sink.taken g.K.Sink.faults l.fn.out) (output g.K.Sink.taken g.K.Sink.faults l.out));
-  lasts : LastsOn g.T.HasGround l.core.lock.base;
-  drawn : l.core.lock.roll.drawn + length l.rest ≤ 1_048_577;
+  lasts : g.R.HasRun.lasts l.run;
+  drawn : (g.R.HasRun.roll_of l.run).drawn + length (g.S.Steps.left l.steps) ≤ (g.R.HasRun.roll_of l.fn.run).drawn + length (g.S.Steps.left l.fn.steps);
   later : g.K.Sink.faults l.fn.out ≤ g.K.Sink.faults l.out;
 }
 
 abbrev pub decreases-loop-step : goal.decreases-loop-step
-decreases-loop-step g l = length l.rest
+decreases-loop-step g l = length (g.S.Steps.left l.steps)

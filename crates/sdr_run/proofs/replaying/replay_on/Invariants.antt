@@ -2,5 +2,5 @@ use Rattle.sdr_run.specs.Replaying.{begins_on}
 use Rattle.sdr_run.proofs.replaying.replay_on.Given as goal
 
 -- the heap that was just opened
-abbrev pub ghosts-play : goal.ghosts-play
-ghosts-play g a = record { begins = begins_on g.M.Media g.J.HandedIn.was a.script.now a.base }
+abbrev pub ghosts-play_recorded : goal.ghosts-play_recorded
+ghosts-play_recorded g a = record { begins = begins_on g.M.Media g.J.HandedIn.was a.steps.now a.base }

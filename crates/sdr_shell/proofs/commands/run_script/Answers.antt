@@ -1,46 +1,50 @@
-use Rattle.std.proofs.Common.{◌≡◌, ℕ, List, Option, Err, Ok, ap, refl, subst}
-use Rattle.sdr_base.specs.Media.{Told}
-use Rattle.sdr_model.specs.declared.script.ScriptStep.{ScriptStep}
-use Rattle.sdr_run.proofs.ScheduleLemmas.{asked_ended, asked_why}
-use Rattle.sdr_run.specs.Asking.{AsksAlong}
-use Rattle.sdr_run.specs.declared.running.RunError.{RunError}
-use Rattle.sdr_run.specs.declared.running.RunError.TheVariants.{NoMemory, Output}
-use Rattle.sdr_shell.proofs.StillLemmas.{some_behind}
-use Rattle.sdr_shell.specs.Answers.{seen}
+use Rattle.std.proofs.Common.{arith, subst}
+use Rattle.std.specs.Prelude.{codes}
+use Rattle.sdr_core.proofs.CausedLemmas.{failed_ever}
+use Rattle.sdr_shell.proofs.StillLemmas.{dry_asks, dry_done, dry_fault, dry_known, dry_part, dry_starved, unrun_asks, unrun_media, unrun_starved}
+use Rattle.sdr_shell.specs.Answers.{Seen, Wrote, seen}
+use Rattle.sdr_shell.proofs.commands.run_script.Given.{Over}
 use Rattle.sdr_shell.proofs.commands.run_script.Goals as goal
 
--- so often media were asked in a run that stopped, for whichever reason it is
-stopped_as : {S T : Type 0} (told : Option Told) (script : List ScriptStep) (asked asked' : ℕ) (old now : Option (List ℕ)) (why other : RunError)
-    → why ≡ other → AsksAlong {T = S} told script asked asked' old now (Err why) → AsksAlong {T = T} told script asked asked' old now (Err other)
-stopped_as {S = S} told script asked asked' old now why other is a =
-    asked_why told script asked asked' old now other
-    (subst (λ (w : RunError). AsksAlong {T = S} told script asked asked' old now (Err w)) is a)
+-- what is seen of the output
+abbrev of : (g : Over) → g.row.K.Denot → Seen
+of g out = seen g.K.Sink.taken g.K.Sink.faults out
 
-pub returns-in-Err-NoMemory-clause-starved : goal.returns-in-Err-NoMemory-clause-starved
-returns-in-Err-NoMemory-clause-starved g c is =
-    some_behind _ c.args.script.now _ _ _ _ _ _ _
-    (c.in-Err-NoMemory.ensures.memory (ap Err c.in-Err-NoMemory.field-0-is)) c.run.ensures.later c.last_line.ensures.written
+pub returns-in-Ok : goal.returns-in-Ok
+returns-in-Ok g c =
+    let m = g.M.Media in
+    let script = c.args.script.now in
+    let files = c.args.media in
+    let old = of g c.args.output.now in
+    let mid = of g c.dry.new.out in
+    let new = of g c.tell_ran-status.new.output in
+    let ran = c.in-Ok.ran in
+    let status = c.tell_ran-status.result in
+    let dry = c.in-Ok.ensures.ran in
+    let told = c.tell_ran-status.ensures.told in
+    record {
+      known = dry_known m script files old mid new ran status dry told;
+      later = omega (arith, c.dry.ensures.later, c.tell_ran-status.ensures.later);
+      media = failed_ever _ _ _ dry.caused;
+      asks = dry_asks m script files old mid new ran status dry told;
+      done = dry_done m script files old mid new ran status dry told;
+      fault = dry_fault m script files old mid new ran status dry told;
+      part = dry_part m script files old mid new ran status dry told;
+      starved = dry_starved m script files old mid new ran status dry told c.dry.ensures.later;
+    }
 
-pub returns-in-Ok-clause-asks : goal.returns-in-Ok-clause-asks
-returns-in-Ok-clause-asks g c = record {
-  result = Ok tt;
-  mid = seen g.K.Sink.taken g.K.Sink.faults c.run.new.out;
-  asks = asked_ended _ _ _ _ _ _ _ tt c.in-Ok.ensures.asks;
-  tells = refl;
-}
+-- memory was wanting before the first step
+pub returns-in-Err-clause-media : goal.returns-in-Err-clause-media
+returns-in-Err-clause-media g c = unrun_media g.M.Media c.args.script.now c.args.media c.in-Err.media c.in-Err.ensures.back.0
 
-pub returns-in-Err-Output-clause-asks : goal.returns-in-Err-Output-clause-asks
-returns-in-Err-Output-clause-asks g c = record {
-  result = Err Output;
-  mid = seen g.K.Sink.taken g.K.Sink.faults c.run.new.out;
-  asks = stopped_as _ _ _ _ _ _ _ Output c.in-Err-Output.field-0-is c.in-Err-Output.ensures.asks;
-  tells = refl;
-}
+pub returns-in-Err-clause-asks : goal.returns-in-Err-clause-asks
+returns-in-Err-clause-asks g c =
+    unrun_asks g.M.Media c.args.script.now c.args.media c.in-Err.media c.in-Err.ensures.back.0 (of g c.args.output.now) (of g c.last_line.new.output)
+    (subst (λ (out : g.row.K.Denot). Wrote (of g out) (of g c.last_line.new.output) (codes "no memory\n")) c.in-Err.ensures.back.1
+    c.last_line.ensures.written)
 
-pub returns-in-Err-NoMemory-clause-asks : goal.returns-in-Err-NoMemory-clause-asks
-returns-in-Err-NoMemory-clause-asks g c = record {
-  result = Err NoMemory;
-  mid = seen g.K.Sink.taken g.K.Sink.faults c.run.new.out;
-  asks = stopped_as _ _ _ _ _ _ _ NoMemory c.in-Err-NoMemory.field-0-is c.in-Err-NoMemory.ensures.asks;
-  tells = c.last_line.ensures.written;
-}
+pub returns-in-Err-clause-starved : goal.returns-in-Err-clause-starved
+returns-in-Err-clause-starved g c is =
+    unrun_starved g.M.Media c.args.script.now c.args.media c.in-Err.media c.in-Err.ensures.back.0 (of g c.args.output.now) (of g c.last_line.new.output)
+    (subst (λ (out : g.row.K.Denot). Wrote (of g out) (of g c.last_line.new.output) (codes "no memory\n")) c.in-Err.ensures.back.1
+    c.last_line.ensures.written)

@@ -10,11 +10,11 @@ use Rattle.sdr_shell.proofs.commands.still.Goals as goal
 pub returns-in-Some-Dry : goal.returns-in-Some-Dry
 returns-in-Some-Dry g c =
     let source = seen g.S.Source.left g.S.Source.faults c.args.input.now in
-    let source' = seen g.S.Source.left g.S.Source.faults c.dry-status.new.input in
+    let source' = seen g.S.Source.left g.S.Source.faults c.dry_input-status.new.input in
     let sink = seen g.K.Sink.taken g.K.Sink.faults c.args.output.now in
-    let sink' = seen g.K.Sink.taken g.K.Sink.faults c.dry-status.new.output in
-    let e = c.dry-status.ensures in
-    let answers : AnswersDry g.M.Media c.dry-status.result source source' c.args.media c.dry-status.new.media sink sink' = record {
+    let sink' = seen g.K.Sink.taken g.K.Sink.faults c.dry_input-status.new.output in
+    let e = c.dry_input-status.ensures in
+    let answers : AnswersDry g.M.Media c.dry_input-status.result.0 source source' c.args.media c.dry_input-status.result.1 sink sink' = record {
       known = e.known;
       done = e.done;
       asks = e.asks;
@@ -29,10 +29,10 @@ returns-in-Some-Dry g c =
       complete = λ bytes told ok no_input no_output. dry_completes _ _ _ _ _ _ _ _ bytes e.known e.input e.output e.refused told ok no_input no_output;
     } in
     let form : form_of c.args.words.now ≡ Some Dry = search rules in
-    form_at g.D.Disk g.M.Media g.S.Source g.K.Sink c.args.disk c.args.media c.args.input.now c.dry-status.new.input c.args.output.now
-    c.dry-status.new.output (still_form (form_of c.args.words.now)) (Some Dry) c.without_journal.result (unrun c.dry-status.result c.args.disk c.dry-status.new.media) (ap still_form form) c.without_journal.ensures
-    (answers_dry g.D.Disk g.M.Media g.S.Source g.K.Sink c.args.disk c.args.media c.args.input.now c.dry-status.new.input c.args.output.now
-    c.dry-status.new.output c.dry-status.result c.dry-status.new.media answers e.later e.reads e.each e.media)
+    form_at g.D.Disk g.M.Media g.S.Source g.K.Sink c.args.disk c.args.media c.args.input.now c.dry_input-status.new.input c.args.output.now
+    c.dry_input-status.new.output (still_form (form_of c.args.words.now)) (Some Dry) c.without_journal.result (unrun c.dry_input-status.result.0 c.args.disk c.dry_input-status.result.1) (ap still_form form) c.without_journal.ensures
+    (answers_dry g.D.Disk g.M.Media g.S.Source g.K.Sink c.args.disk c.args.media c.args.input.now c.dry_input-status.new.input c.args.output.now
+    c.dry_input-status.new.output c.dry_input-status.result.0 c.dry_input-status.result.1 answers e.later e.reads e.each e.media)
 
 pub returns-in-Some-Format : goal.returns-in-Some-Format
 returns-in-Some-Format g c =

@@ -3,9 +3,8 @@ use Rattle.sdr_core.proofs.CausedLemmas.{failed_ever}
 use Rattle.sdr_model.specs.declared.journal.Entry.{Entry}
 use Rattle.sdr_run.specs.Playing.{IsPrinted}
 use Rattle.sdr_shell.proofs.OnHeapLemmas.{ran_printed}
-use Rattle.sdr_shell.specs.Answers.{seen}
+use Rattle.sdr_shell.specs.Answers.{output_of, seen}
 use Rattle.sdr_shell.specs.Running.{line_asked}
-use Rattle.sdr_shell.specs.Telling.{output_of}
 use Rattle.sdr_text.specs.JournalText.{journal_text}
 use Rattle.sdr_shell.proofs.running.run_scripts.Goals as goal
 

@@ -1,39 +1,31 @@
-use Rattle.std.proofs.Common.{ℕ, List, ◌≡◌, ◌∙◌, ap, arith, length, subst}
-use Rattle.std.proofs.lemmas.Result.{on_ok_weaker}
-use Rattle.sdr_machine.proofs.HolderLemmas.{holders_few}
-use Rattle.sdr_machine.specs.Leaving.{staying}
+use Rattle.std.proofs.Common.{◌∙◌, List, ap, arith, length, subst}
 use Rattle.sdr_machine.specs.Roll.{Roll}
-use Rattle.mem_machine.proofs.PlainLemmas.{all_leave, staying_few}
-use Rattle.mem_machine.specs.Leaves.{LeaveInTurnFrom}
-use Rattle.mem_machine.specs.Plain.{Plain, machine_of}
+use Rattle.sdr_machine.specs.declared.daemon.Daemon.{Daemon}
+use Rattle.mem_machine.proofs.RunLemmas.{leaves_from}
+use Rattle.mem_machine.specs.Memory.{machine_on}
+use Rattle.mem_machine.specs.Plain.{AllLeaveFrom, Plain, machine_of}
 use Rattle.mem_machine.proofs.plain.Plain.leave_all.Goals as goal
 
-pub holders_leave-requires : goal.holders_leave-requires
-holders_leave-requires c = record { events = omega (arith, c.requires.events, holders_few c.args.self.now.roll.daemons) }
-
-pub leave_in_turn-requires : goal.leave_in_turn-requires
-leave_in_turn-requires c =
-    let between : Plain = c.holders_leave.new.self in
-    let items : c.deref.result.now ≡ staying between.roll =
-    c.deref.ensures.value ∙ c.in_ok-staying.ensures ∙ ap (λ (r : Roll). staying r) (c.roll.ensures ∙ ap (λ (p : Plain). p.roll) c.self.view_is) in
-    record {
-      events = omega (
-        arith,
-        c.requires.events,
-        c.in_ok-holders_leave.ensures.events,
-        c.in_ok-holders_leave.ensures.daemons,
-        holders_few c.args.self.now.roll.daemons,
-        ap length items,
-        staying_few between.roll,
-      );
-    }
+pub leave_all-requires-clause-drawn : goal.leave_all-requires-clause-drawn
+leave_all-requires-clause-drawn c =
+    let events = ap (λ (p : Plain). p.events) c.self.view_is in
+    let drawn = c.self.invariant.drawn in
+    let many = ap (λ (p : Plain). length p.roll.daemons) c.self.view_is in
+    omega (arith, c.requires.events, events, drawn, many)
 
 pub returns-clause-left : goal.returns-clause-left
 returns-clause-left c =
-    let between : Plain = c.holders_leave.new.self in
-    let items : c.deref.result.now ≡ staying between.roll =
-    c.deref.ensures.value ∙ c.in_ok-staying.ensures ∙ ap (λ (r : Roll). staying r) (c.roll.ensures ∙ ap (λ (p : Plain). p.roll) c.self.view_is) in
-    on_ok_weaker c.leave_in_turn.result
-    (λ others. all_leave c.args.leave (machine_of c.args.self.now) (machine_of between) (machine_of c.leave_in_turn.new.self) c.in_ok-holders_leave.ensures.left
-    (subst (λ (ds : List ℕ). LeaveInTurnFrom c.args.leave ds (machine_of between) (machine_of c.leave_in_turn.new.self)) items others))
-    c.leave_in_turn.ensures.left
+    subst (λ (p : Plain). AllLeaveFrom c.args.leave (machine_of p) (machine_on c.leave_all.new.run.roll c.leave_all.new.run.worlds)) c.self.view_is
+    (leaves_from _ c.args.leave c.self.inside.run c.leave_all.new.run c.leave_all.ensures.left (λ core at. at) (λ core at. at))
+
+pub returns-clause-none : goal.returns-clause-none
+returns-clause-none c = c.leave_all.ensures.none c.never_fails.ensures
+
+pub invariant_of-self : goal.invariant_of-self
+invariant_of-self c =
+    let events = ap (λ (p : Plain). p.events) c.self.view_is in
+    let many = ap (λ (p : Plain). length p.roll.daemons) c.self.view_is in
+    let told = ap (λ (ds : List Daemon). length ds) (c.daemons.ensures ∙ ap (λ (r : Roll). r.daemons) c.roll.ensures.roll) in
+    let was = c.self.invariant.drawn in
+    let more = c.leave_all.ensures.drawn in
+    record { few = omega (arith, c.requires.events, events, many, told); drawn = omega (arith, was, more, told) }

@@ -5,7 +5,7 @@ use Rattle.sdr_machine.specs.Nesting.{noted}
 use Rattle.sdr_machine.specs.Roll.{Roll, at_nesting, with_daemon}
 use Rattle.sdr_machine.specs.Serving.{Calls, Locked, machine_at}
 use Rattle.sdr_machine.specs.declared.came.Came.{Came}
-use Rattle.sdr_machine.proofs.LockLemmas.{acts_asked, acts_failed}
+use Rattle.sdr_machine.proofs.LockLemmas.{acts_asked, acts_failed, media_called}
 use Rattle.sdr_machine.proofs.WorkLemmas.{works_called}
 use Rattle.sdr_machine.proofs.ServedLemmas.{lock_failed, lock_nested, noted_depth, turn_fits}
 use Rattle.sdr_machine.specs.Served.{KeepsGroundReady}
@@ -25,6 +25,7 @@ returns-in-Ok-clause-serves g c =
     acts_asked g.T.HasGround _ _ (Calls (g.T.HasGround.told old.base) c.args.call.now reply) d.id _ a a old _ new c.self.view_is refl refl
     (λ called. ap (λ (r : Roll). r.failed) put ∙ ap (λ (l : Locked T). l.roll.failed) c.self.view_is ∙ c.requires.sound) c.requires.sound
     c.in-Ok.ensures.answered c.in-Ok.ensures.keeps c.in-Ok.ensures.any_moment c.in-Ok.ensures.gap
+    (media_called g.T.HasGround d h c.args.call.now old _ new c.self.view_is c.requires.turn c.requires.stays c.requires.begun c.requires.undoomed c.requires.sound c.call.ensures.needs)
     (λ v v' called. called.media)
     (λ v v' line called. inl (works_called (machine_at old.roll v) (machine_at new.roll v') d h c.args.call.now reply _ v'
     c.requires.undoomed called.steps refl refl refl (λ i. record { roll = put i; before = called.before i; now = v'.now })))
@@ -38,7 +39,9 @@ returns-in-Err-Fault-clause-serves g c =
     let new : Locked T = record { roll = c.fail.new.roll; base = c.call.new.self } in
     let fault = c.in-Err-Fault.ensures in
     acts_failed g.T.HasGround _ _ d.id _ c.fail.result old _ new (roll_closed old.roll d)
-    c.self.view_is c.fail.ensures.answer c.requires.sound (fault.fault (ap Err c.in-Err-Fault.field-0-is)) fault.keeps fault.any_moment c.fail.ensures.roll
+    c.self.view_is c.fail.ensures.answer c.requires.sound (fault.fault (ap Err c.in-Err-Fault.field-0-is)) fault.keeps fault.any_moment
+    (media_called g.T.HasGround d h c.args.call.now old _ new c.self.view_is c.requires.turn c.requires.stays c.requires.begun c.requires.undoomed c.requires.sound c.call.ensures.needs)
+    c.fail.ensures.roll
     (λ v line faults. inr (record { asks = ap is_none c.requires.undoomed; faults = faults }))
 
 pub call-requires-clause-going : goal.call-requires-clause-going

@@ -8,7 +8,7 @@ use Rattle.sdr_machine.specs.Roll.{when_done, with_daemon, Roll}
 use Rattle.sdr_machine.specs.Serving.{Locked, Settles}
 use Rattle.sdr_machine.specs.Transaction.{transaction_of}
 use Rattle.sdr_machine.proofs.GroundLemmas.{keeps_more}
-use Rattle.sdr_machine.proofs.LockLemmas.{acts_asked, acts_failed, agrees_untold, told}
+use Rattle.sdr_machine.proofs.LockLemmas.{acts_asked, acts_failed, agrees_untold, media_same, told}
 use Rattle.sdr_machine.proofs.WorkLemmas.{asks_closing, closes_so, keeps_closing}
 use Rattle.sdr_machine.proofs.ServedLemmas.{kept_undoomed, lock_done, lock_failed, turn_fits}
 use Rattle.sdr_machine.specs.Served.{KeepsGroundReady}
@@ -32,6 +32,7 @@ returns-in-Ok-clause-closes g c =
     c.self.view_is c.told.ensures refl (λ called. absurd (true≢false (sym called))) c.requires.sound c.in-Ok.ensures.left
     (keeps_more g.T.HasGround c.in-Ok.ensures.keeps)
     (subst (λ k. LeavesOr k g.T.HasGround old.base c.settle.new.base) keeps c.in-Ok.ensures.any_moment) tt
+    (media_same g.T.HasGround d.id _ old new (c.in-Ok.ensures.keeps.unasked refl))
     (λ v v' left. agrees_untold (g.T.HasGround.told old.base) v.now.world c.args.event.now (answers.Closed close) [] refl)
     (λ v v' line left. inl (closes_so old.roll new.roll d h _ close v v' c.closing-close.ensures
     (record { answer = refl; moves = refl; bytes = refl }) left roll))
@@ -48,6 +49,7 @@ returns-in-Err-Fault-clause-closes g c =
     c.self.view_is c.fail.ensures.answer c.requires.sound (c.in-Err-Fault.ensures.fault (ap Err c.in-Err-Fault.field-0-is))
     (keeps_more g.T.HasGround c.in-Err-Fault.ensures.keeps)
     (subst (λ k. LeavesOr k g.T.HasGround old.base c.settle.new.base) keeps c.in-Err-Fault.ensures.any_moment)
+    (media_same g.T.HasGround d.id _ old new (c.in-Err-Fault.ensures.keeps.unasked refl))
     c.fail.ensures.roll
     (λ v line faults. inr (record { asks = asks_closing (transaction_of h v.now) c.args.event.now (c.requires.closing v.now); faults = faults }))
 

@@ -3,7 +3,7 @@ use Rattle.sdr_model.specs.declared.event.Event.TheVariants as events
 use Rattle.sdr_machine.specs.Roll.{when_done, with_daemon, Roll, daemon_of}
 use Rattle.sdr_machine.specs.Serving.{Locked, Sees, after_look, machine_at}
 use Rattle.sdr_machine.proofs.GroundLemmas.{keeps_more}
-use Rattle.sdr_machine.proofs.LockLemmas.{acts_asked, acts_failed, agrees_untold, no_gap_cause, sight_no_fault, sight_untold, told}
+use Rattle.sdr_machine.proofs.LockLemmas.{acts_asked, acts_failed, agrees_untold, media_same, no_gap_cause, sight_no_fault, sight_untold, told}
 use Rattle.sdr_machine.proofs.WorkLemmas.{looks_so}
 use Rattle.sdr_machine.proofs.ServedLemmas.{lock_done, lock_failed, looked_free}
 use Rattle.sdr_machine.proofs.lock.Lock.look.Goals as goal
@@ -22,6 +22,7 @@ returns-in-Ok g c =
     (sight_no_fault answer c.in-Ok.ensures.kind) (λ called. absurd (true≢false (sym called))) c.requires.sound c.in-Ok.ensures.seen
     (keeps_more g.T.HasGround c.in-Ok.ensures.keeps) c.in-Ok.ensures.any_moment
     (no_gap_cause answer _ _ (sight_untold answer c.in-Ok.ensures.kind))
+    (media_same g.T.HasGround d.id _ old new (c.in-Ok.ensures.keeps.unasked refl))
     (λ v v' sees. agrees_untold (g.T.HasGround.told old.base) v.now.world (events.Look ticket) answer [] (sight_untold answer c.in-Ok.ensures.kind))
     (λ v v' line sees. inl (looks_so (machine_at old.roll v) (machine_at new.roll v') d _ ticket old.roll (record {
       told = record { answer = sees.seen; moves = refl; bytes = refl };
@@ -36,6 +37,7 @@ returns-in-Err g c =
     let new : Locked T = record { roll = c.fail.new.roll; base = c.sight.new.base } in
     acts_failed g.T.HasGround false _ d.id _ c.fail.result old _ new (with_daemon old.roll (when_done d))
     c.self.view_is c.fail.ensures.answer c.requires.sound c.in-Err.ensures.fault (keeps_more g.T.HasGround c.in-Err.ensures.keeps) c.in-Err.ensures.any_moment
+    (media_same g.T.HasGround d.id _ old new (c.in-Err.ensures.keeps.unasked refl))
     c.fail.ensures.roll (λ v line faults. inr faults)
 
 pub invariant_of-self : goal.invariant_of-self

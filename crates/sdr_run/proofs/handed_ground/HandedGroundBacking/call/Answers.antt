@@ -1,4 +1,4 @@
-use Rattle.std.proofs.Common.{subst, true}
+use Rattle.std.proofs.Common.{arith, subst, true}
 use Rattle.sdr_machine.specs.Crash.{LeavesBefore}
 use Rattle.sdr_machine.specs.Serving.{Brings, Calls, KeepsGround, MeetsFault}
 use Rattle.sdr_machine.specs.Standing.{GroundState}
@@ -17,6 +17,10 @@ returns-clause-answered g c =
     (λ reply memory both. subst (λ (o : Grounded D M). Brings (λ (x : Grounded D M) (v : GroundState). StandsWhere g.J.HandedIn.condition d.bytes d.moment d.may_hold_after x v) o c.call.new.self (Calls (g.M.Media.told o.media) c.args.call.now reply))
     c.self.view_is (brings_where g.J.HandedIn.condition d.bytes d.moment d.faults d.may_hold_after g.M.Media c.self.inside.ground c.call.new.self memory both))
     c.call.ensures.brings c.call.ensures.answered
+
+-- this ground doesn't tell how often its media were asked
+pub returns-clause-needs : goal.returns-clause-needs
+returns-clause-needs g c = record { each = λ v stands. omega arith }
 
 pub returns-clause-fault : goal.returns-clause-fault
 returns-clause-fault g c is =
