@@ -1,5 +1,5 @@
 -- What a call on a world in memory comes to, as a step with no heap.
-use Rattle.std.proofs.Common.{◌≡◌, ◌⊎◌, ◌≤◌, ◌<◌, ◌+◌, ℕ, List, [], Bool, true, false, Option, None, Some, inl, inr, length, nat_le, refl, sym, ap, ◌∙◌, subst, arith, MatchBool, MatchOption, true≢false}
+use Rattle.std.proofs.Common.{◌≡◌, ◌≤◌, ◌<◌, ◌+◌, ℕ, List, [], Bool, true, false, Option, None, Some, inl, inr, length, nat_le, refl, sym, ap, ◌∙◌, subst, arith, MatchBool, MatchOption, true≢false}
 use Rattle.std.proofs.lemmas.Bool.{ltb-false}
 use Rattle.std.proofs.lemmas.Bool.Decides.{nat_tests}
 use Rattle.std.specs.List.{list_any}

@@ -1,5 +1,5 @@
 -- Events of a run on a world in memory.
-use Rattle.std.proofs.Common.{◌≡◌, ◌∙◌, ◌≤◌, ◌+◌, ℕ, List, [], ◌∷◌, Bool, true, false, true≢false, Option, None, Some, Result, Ok, Err, IfOk, OnOk, OnErr, length, if◌then◌else◌, map, refl, sym, ap, subst, arith}
+use Rattle.std.proofs.Common.{◌≡◌, ◌∙◌, ◌≤◌, ◌+◌, ℕ, List, [], ◌∷◌, Bool, true, false, true≢false, Option, None, Some, Result, Ok, Err, IfOk, OnOk, OnErr, length, map, refl, sym, ap, subst, arith}
 use Rattle.std.specs.Prelude.{⊤}
 use Rattle.std.proofs.lemmas.List.{length-map}
 use Rattle.sdr_base.specs.Media.{Told}

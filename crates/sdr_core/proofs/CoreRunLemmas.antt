@@ -1,5 +1,5 @@
 -- A core as a run: what its events and its leaves make of it.
-use Rattle.std.proofs.Common.{◌≡◌, ◌≤◌, ◌+◌, ℕ, suc, List, refl, sym, subst}
+use Rattle.std.proofs.Common.{◌≤◌, ◌+◌, ℕ, suc, List, refl, sym, subst}
 use Rattle.sdr_machine.specs.Asked.{outside_asked}
 use Rattle.sdr_machine.specs.Core.{Core, CoreStep}
 use Rattle.sdr_machine.specs.Machine.{Made}

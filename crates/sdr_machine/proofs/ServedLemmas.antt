@@ -1,5 +1,5 @@
 -- What an event leaves of a ground that is ready for the roll of its lock.
-use Rattle.std.proofs.Common.{◌≡◌, ◌≤◌, ◌<◌, ◌∙◌, ◌==◌, ◌+◌, ◌-◌, ℕ, List, [], ◌∷◌, Bool, true, false, true≢false, Option, None, Some, is_some, arith, map, nat_le, refl, sym, ap, subst}
+use Rattle.std.proofs.Common.{◌≡◌, ◌≤◌, ◌<◌, ◌∙◌, ◌==◌, ◌+◌, ◌-◌, ℕ, List, Bool, true, false, true≢false, Option, None, Some, is_some, arith, map, nat_le, refl, sym, ap, subst}
 use Rattle.std.proofs.lemmas.Bool.Decides.{nat_tests}
 use Rattle.std.specs.Option.{option_map_or}
 use Rattle.std.specs.Prelude.{if◌then◌else◌}

@@ -23,7 +23,7 @@ use Rattle.sdr_machine.specs.Agreeing.{AgreesWith}
 use Rattle.sdr_machine.specs.Asked.{outside_asked, outside_needed}
 use Rattle.sdr_machine.specs.Crash.{LeavesOr}
 use Rattle.sdr_machine.specs.Lapses.{LapsesLast, HasLapseCause}
-use Rattle.sdr_machine.specs.Ground.{State, HasHeap, Steps, committed, rolled_back}
+use Rattle.sdr_machine.specs.Ground.{HasHeap, Steps, committed, rolled_back}
 use Rattle.sdr_machine.specs.Machine.{Machine, Made}
 use Rattle.sdr_machine.specs.Roll.{Roll, when_done, when_passed_over, after_wait, is_stalled, is_stuck, waits_for}
 use Rattle.sdr_machine.specs.Standing.{GroundState}

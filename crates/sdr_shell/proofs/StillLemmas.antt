@@ -73,16 +73,16 @@ module _ {M : Type 0} (m : MediaGhosts M) (script : List ScriptStep) (files file
 -- A script was run in memory, and what stopped the run was told behind its text.
 module _ {M : Type 0} (m : MediaGhosts M) (script : List ScriptStep) (files : M) (sink mid sink' : Seen) (ran : DryRun M) (status : ℕ)
     (dry : IsDry m script files (output_of sink) (output_of mid) ran) (tells : Telling false ran.played.starved ran.played.printing status mid sink') where
-  abbrev media : MediaChange
-  media = media_change m.told m.faults m.short files ran.media
+  abbrev seen_change : MediaChange
+  seen_change = media_change m.told m.faults m.short files ran.media
 
   -- what the status tells, by what stopped it
   told_by : (starved printing : Bool) → ran.played.starved ≡ starved → ran.played.printing ≡ printing → Telling false starved printing status mid sink'
   told_by starved printing one two = subst (λ b. Telling false starved b status mid sink') two (subst (λ b. Telling false b ran.played.printing status mid sink') one tells)
 
-  some_printed : (printing : Bool) → ran.played.printing ≡ printing → SomeRun media script (λ rest text. IsPrinted printing (output_of sink) (output_of mid) text)
+  some_printed : (printing : Bool) → ran.played.printing ≡ printing → SomeRun seen_change script (λ rest text. IsPrinted printing (output_of sink) (output_of mid) text)
   some_printed printing is =
-      some_weaker media script (λ rest text. IsPrinted ran.played.printing (output_of sink) (output_of mid) text)
+      some_weaker seen_change script (λ rest text. IsPrinted ran.played.printing (output_of sink) (output_of mid) text)
       (λ rest text. IsPrinted printing (output_of sink) (output_of mid) text)
       (λ rest text p. subst (λ b. IsPrinted b (output_of sink) (output_of mid) text) is p) (some_of m script files (output_of sink) (output_of mid) ran dry)
 
@@ -95,15 +95,15 @@ module _ {M : Type 0} (m : MediaGhosts M) (script : List ScriptStep) (files : M)
       by false true one two = inl (told_by false true one two).0
       by false false one two = inr (inl (told_by false false one two).0)
 
-  pub dry_done : status ≡ DONE → RunsWhole media script (Appends sink.bytes sink'.bytes)
+  pub dry_done : status ≡ DONE → RunsWhole seen_change script (Appends sink.bytes sink'.bytes)
   dry_done is = by ran.played.starved ran.played.printing refl refl
     where
-      by : (starved printing : Bool) → ran.played.starved ≡ starved → ran.played.printing ≡ printing → RunsWhole media script (Appends sink.bytes sink'.bytes)
+      by : (starved printing : Bool) → ran.played.starved ≡ starved → ran.played.printing ≡ printing → RunsWhole seen_change script (Appends sink.bytes sink'.bytes)
       by true true one two = let t = (told_by true true one two).0 in absurd (omega (arith, is, t))
       by true false one two = let t = (told_by true false one two).0 in absurd (omega (arith, is, t))
       by false false one two = let t = (told_by false false one two).0 in absurd (omega (arith, is, t))
       by false true one two =
-          subst (λ (s : Seen). RunsWhole media script (Appends sink.bytes s.bytes)) (sym (told_by false true one two).1)
+          subst (λ (s : Seen). RunsWhole seen_change script (Appends sink.bytes s.bytes)) (sym (told_by false true one two).1)
           (whole_of m script files (output_of sink) (output_of mid) ran dry one two)
 
   pub dry_fault : status ≡ OUTPUT_FAULT → Rose sink.faults sink'.faults
@@ -115,31 +115,31 @@ module _ {M : Type 0} (m : MediaGhosts M) (script : List ScriptStep) (files : M)
       by false true one two = let t = (told_by false true one two).0 in absurd (omega (arith, is, t))
       by false false one two = subst (λ (s : Seen). Rose sink.faults s.faults) (sym (told_by false false one two).1) (some_printed false two).printed.0
 
-  pub dry_part : status ≡ OUTPUT_FAULT → SomeRun media script (λ rest text. AppendsPart sink.bytes sink'.bytes text)
+  pub dry_part : status ≡ OUTPUT_FAULT → SomeRun seen_change script (λ rest text. AppendsPart sink.bytes sink'.bytes text)
   dry_part is = by ran.played.starved ran.played.printing refl refl
     where
-      by : (starved printing : Bool) → ran.played.starved ≡ starved → ran.played.printing ≡ printing → SomeRun media script (λ rest text. AppendsPart sink.bytes sink'.bytes text)
+      by : (starved printing : Bool) → ran.played.starved ≡ starved → ran.played.printing ≡ printing → SomeRun seen_change script (λ rest text. AppendsPart sink.bytes sink'.bytes text)
       by true true one two = let t = (told_by true true one two).0 in absurd (omega (arith, is, t))
       by true false one two = let t = (told_by true false one two).0 in absurd (omega (arith, is, t))
       by false true one two = let t = (told_by false true one two).0 in absurd (omega (arith, is, t))
       by false false one two =
-          subst (λ (s : Seen). SomeRun media script (λ rest text. AppendsPart sink.bytes s.bytes text)) (sym (told_by false false one two).1)
-          (some_weaker media script (λ rest text. IsPrinted false (output_of sink) (output_of mid) text) (λ rest text. AppendsPart sink.bytes mid.bytes text)
+          subst (λ (s : Seen). SomeRun seen_change script (λ rest text. AppendsPart sink.bytes s.bytes text)) (sym (told_by false false one two).1)
+          (some_weaker seen_change script (λ rest text. IsPrinted false (output_of sink) (output_of mid) text) (λ rest text. AppendsPart sink.bytes mid.bytes text)
           (λ rest text p. p.1) (some_printed false two))
 
   pub dry_starved : sink.faults ≤ mid.faults → status ≡ NO_MEMORY
-      → SomeRun media script (λ rest text. WritesOut sink.bytes sink'.bytes sink.faults sink'.faults (text ++ codes "no memory\n"))
+      → SomeRun seen_change script (λ rest text. WritesOut sink.bytes sink'.bytes sink.faults sink'.faults (text ++ codes "no memory\n"))
   dry_starved later is = by ran.played.starved ran.played.printing refl refl
     where
       by : (starved printing : Bool) → ran.played.starved ≡ starved → ran.played.printing ≡ printing
-          → SomeRun media script (λ rest text. WritesOut sink.bytes sink'.bytes sink.faults sink'.faults (text ++ codes "no memory\n"))
+          → SomeRun seen_change script (λ rest text. WritesOut sink.bytes sink'.bytes sink.faults sink'.faults (text ++ codes "no memory\n"))
       by false true one two = let t = (told_by false true one two).0 in absurd (omega (arith, is, t))
       by false false one two = let t = (told_by false false one two).0 in absurd (omega (arith, is, t))
       by true true one two =
-          some_behind media script sink.bytes mid.bytes sink'.bytes sink.faults mid.faults sink'.faults (codes "no memory\n") (some_printed true two) later (told_by true true one two).1
+          some_behind seen_change script sink.bytes mid.bytes sink'.bytes sink.faults mid.faults sink'.faults (codes "no memory\n") (some_printed true two) later (told_by true true one two).1
       by true false one two =
-          subst (λ (s : Seen). SomeRun media script (λ rest text. WritesOut sink.bytes s.bytes sink.faults s.faults (text ++ codes "no memory\n"))) (sym (told_by true false one two).1)
-          (some_weaker media script (λ rest text. IsPrinted false (output_of sink) (output_of mid) text)
+          subst (λ (s : Seen). SomeRun seen_change script (λ rest text. WritesOut sink.bytes s.bytes sink.faults s.faults (text ++ codes "no memory\n"))) (sym (told_by true false one two).1)
+          (some_weaker seen_change script (λ rest text. IsPrinted false (output_of sink) (output_of mid) text)
           (λ rest text. WritesOut sink.bytes mid.bytes sink.faults mid.faults (text ++ codes "no memory\n"))
           (λ rest text p. inr (p.0, part_more sink.bytes mid.bytes text (codes "no memory\n") p.1)) (some_printed false two))
 

@@ -136,8 +136,8 @@ impl<V: Kept> Turn<V> {
     }
 
     // Lets other threads go on: it spins, then yields, and after some calls sleeps while just so many numbers are done. A give
-    // wakes the thread that sleeps longest, which mostly is the next to be served. One that isn't wakes the next sleeper before
-    // it sleeps again, once for each count of numbers done.
+    // wakes the thread that sleeps longest, which need not be the next to be served. One that isn't wakes the next sleeper
+    // before it sleeps again, once for each count of numbers done.
     fn wait_past<R: Wait>(&self, rt: &R, waiting: &mut Waiting, done: u64) {
         if !waiting.backoff.is_completed() {
             waiting.backoff.snooze();

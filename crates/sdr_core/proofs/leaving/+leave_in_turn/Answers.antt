@@ -1,4 +1,4 @@
-use Rattle.std.proofs.Common.{ℕ, List, ◌≤◌, ◌+◌, ap, arith, length, subst, sym}
+use Rattle.std.proofs.Common.{ℕ, List, ap, arith, length, subst, sym}
 use Rattle.sdr_machine.specs.Leaving.{LeaveInTurn}
 use Rattle.sdr_core.proofs.LeavingLemmas.{first_of, none_of, turn_more, turn_none}
 use Rattle.sdr_core.specs.Going.{GoesUnasked}
