@@ -37,6 +37,29 @@ impl<D: Disk, M: Media, J: HandedIn> HandedGround<D, M, J> {
         HandedGround { ground }
     }
 
+    /// Rolls the open transaction back. It makes no call of the disk.
+    pub fn restore(&mut self) -> Result<(), Fault>
+        ensures back { OnOk result (Brings StandsInMemory self.old self.new RollsBack) }
+        ensures going { OnOk result (self.old.heap.cells.failed ≡ false → self.new.stopped ≡ false) }
+        ensures fault { OnErr result (Rose (D.faults self.old.heap.cells.disk)
+            (D.faults self.new.heap.cells.disk)) }
+        ensures still { StaysQuiet self.old self.new }
+        ensures seen { self.old.moment ≡ D.moment self.old.heap.cells.disk }
+    {
+        self.ground.restore()
+    }
+
+    /// Makes a call, in a transaction in which none was stopped. It makes no call of the disk.
+    pub fn serve(&mut self, call: &Call) -> Reply
+        requires going { self.old.stopped ≡ false }
+        ensures answered { Brings StandsInMemory self.old self.new
+            (Calls (M.told self.old.media) call.now result) }
+        ensures stopped { self.new.stopped ≡ dooms call.now result }
+        ensures unread { reads_by call.now result ≡ false → StaysQuiet self.old self.new }
+    {
+        self.ground.serve(call)
+    }
+
     /// The disk and the media. What the open transaction has done is lost.
     pub fn into_parts(self) -> (D, M)
         ensures disk { result.0 ≡ self.heap.cells.disk }

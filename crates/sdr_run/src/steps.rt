@@ -7,6 +7,7 @@ ghost use Rattle.sdr_run.specs.Steps.{StartsWith};
 ghost use Rattle.sdr_words.specs.Daemons.{daemons_of};
 
 use sdr_base::NoMemory;
+use sdr_load::LoadSteps;
 use sdr_model::ScriptStep;
 use std::alloc::Global;
 use std::marker::Model;
@@ -62,6 +63,18 @@ impl Steps for ScriptSteps<'_> {
             }
             None => Ok(()),
         }
+    }
+}
+
+impl Steps for LoadSteps {
+    ghost left = { λ s. s };
+
+    fn next(&self) -> Option<&ScriptStep> {
+        LoadSteps::next(self)
+    }
+
+    fn pass(&mut self) -> Result<(), NoMemory> {
+        LoadSteps::pass(self)
     }
 }
 

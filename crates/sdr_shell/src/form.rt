@@ -5,6 +5,7 @@ ghost use Rattle.sdr_log.specs.Frame.{IsInLimits};
 ghost use Rattle.sdr_shell.specs.Form.{asks_live, frame_from, form_of, OnFormat};
 ghost use Rattle.sdr_words.specs.Words.{as_number};
 
+use sdr_load::MOST_ROUNDS;
 use sdr_log::Frame;
 use sdr_words::number_of;
 use std::rc::RcStr;
@@ -19,6 +20,8 @@ pub enum Form {
     /// `run`: runs the daemons of the input's scripts on the heap of the disk, each in a thread. `run totals` prints the totals
     /// of the journal behind it.
     Run { totals: bool },
+    /// `load N`: runs a generated load of so many rounds on the heap of the disk, and prints a summary of it.
+    Load { rounds: u64 },
     /// `recover`: puts back the heap of the disk.
     Recover,
     /// `inspect`: prints the world of the heap; the disk is only read.
@@ -45,6 +48,18 @@ fn frame_of(log: &[u8], heap: &[u8]) -> Option<Frame>
     }
 }
 
+// The rounds that a word asks for: from 1 to the most that a load has.
+fn rounds_of(word: &[u8]) -> Option<u64>
+    ensures { result ≡ rounds_from (as_number word.now) }
+{
+    let rounds = number_of(word)?;
+    if rounds >= 1 && rounds <= MOST_ROUNDS {
+        Some(rounds)
+    } else {
+        None
+    }
+}
+
 /// The form that the words are, if they are one.
 pub fn form_of(words: &[RcStr]) -> Option<Form>
     ensures form { result ≡ form_of words.now }
@@ -58,6 +73,10 @@ pub fn form_of(words: &[RcStr]) -> Option<Form>
         [word] if word.as_str() == "inspect" => Some(Form::Inspect),
         [word, more] if word.as_str() == "run" && more.as_str() == "totals" => {
             Some(Form::Run { totals: true })
+        }
+        [word, rounds] if word.as_str() == "load" => {
+            let rounds = rounds_of(rounds.as_bytes())?;
+            Some(Form::Load { rounds })
         }
         [word, log, heap] if word.as_str() == "format" => {
             let frame = frame_of(log.as_bytes(), heap.as_bytes())?;

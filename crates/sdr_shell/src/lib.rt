@@ -26,6 +26,7 @@ mod formatting;
 mod inspecting;
 mod last_line;
 mod live_call;
+mod loading;
 mod outcome;
 mod recovering;
 mod replaying;
