@@ -1,10 +1,19 @@
 // A load that runs on the heap of a disk.
+ghost use Rattle.std.specs.Prelude.{◌≡◌, ◌≤◌, ◌↔◌, IfErr, IfOk, false};
+ghost use Rattle.run_load.specs.Listed.{load_name};
+ghost use Rattle.run_load.specs.Loading.{LoadsOn, TellsEnd, load_daemons};
+ghost use Rattle.sdr_base.specs.Causes.{Rose};
+ghost use Rattle.sdr_load.specs.Schedule.{script_for};
+ghost use Rattle.sdr_run.specs.Handed.{handed_as};
+ghost use Rattle.sdr_run.specs.Quiet.{StaysQuiet};
+ghost use Rattle.sdr_run.specs.Replaying.{IsNotRun, IsSettled};
+ghost use Rattle.sdr_station.specs.Grounded.{StandsSome};
 
 use crate::Summary;
 use crate::read_list;
 use sdr_base::{Bytes, IdleSink, Media, NoMemory};
 use sdr_disk::Disk;
-use sdr_load::{LoadSteps, daemons_of_loads};
+use sdr_load::{LoadSteps, MOST_ROUNDS, daemons_of_loads};
 use sdr_model::{Call, Journal};
 use sdr_run::{HandedGround, HandedIn, Ran, open_handed, play_recorded, shut_unrun};
 use sdr_station::Shut;
@@ -44,6 +53,10 @@ struct Outset {
 
 impl Outset {
     fn of(alloc: Global, rounds: u64) -> Result<Outset, NoMemory>
+        requires few { rounds ≤ MOST_ROUNDS }
+        ensures steps { IfOk result (λ o. o.steps ≡ script_for rounds) }
+        ensures daemons { IfOk result (λ o. o.daemons.items ≡ load_daemons rounds) }
+        ensures finds { IfOk result (λ o. o.question ≡ Call.Find load_name) }
     {
         daemons_of_loads();
         let last = (rounds + 1).min(4) as u8;
@@ -60,6 +73,15 @@ fn end_of<D: Disk, M: Media, J: HandedIn>(
     ran: &mut Ran<HandedGround<D, M, J>>,
     question: &Call,
 ) -> LoadEnd
+    requires finds { question.now ≡ Call.Find load_name }
+    requires stands { ran.old.failed ≡ false → StandsSome ran.old.base }
+    ensures end { TellsEnd ran.old result }
+    ensures fault { result ≡ LoadEnd.Unread → Rose (D.faults ran.old.base.heap.cells.disk)
+        (D.faults ran.new.base.heap.cells.disk) }
+    ensures still { StaysQuiet ran.old.base ran.new.base }
+    ensures others { ran.new ≡ record ran.old { base = ran.new.base } }
+    ensures seen { D.moment ran.new.base.heap.cells.disk ≡ ran.new.base.moment
+        → D.moment ran.new.base.heap.cells.disk ≡ ran.old.base.moment }
 {
     if ran.failed {
         return LoadEnd::Failed;
@@ -80,6 +102,12 @@ fn load_on<D: Disk, M: Media, J: HandedIn>(
     disk: D,
     media: M,
 ) -> Result<Loaded<D, M>, Shut<D, M>>
+    requires few { rounds ≤ MOST_ROUNDS }
+    requires handed { J.was ≡ handed_as D.Disk disk }
+    requires settled { J.condition ↔ IsSettled D.Disk disk }
+    ensures ran { IfOk result (LoadsOn D.Disk M.Media rounds disk media) }
+    ensures shut { IfErr result (λ shut. IsNotRun D.Disk disk shut.disk shut.why) }
+    ensures unread { IfErr result (λ shut. shut.media ≡ media) }
 {
     let base = match open_handed::<D, M, J>(alloc, disk, media) {
         Ok(base) => base,
@@ -100,13 +128,18 @@ fn load_on<D: Disk, M: Media, J: HandedIn>(
     }
 }
 
-/// Runs a load of so many rounds behind round 0 on the heap of a disk, which has these media. It asks none of them.
+/// Runs a load of so many rounds behind round 0 on the heap of a disk, which has these media, and sums up what stands there behind it. Where
+/// the heap isn't opened, or memory is wanting before the first step, the cause comes with the disk and the media.
 pub fn load<D: Disk, M: Media>(
     alloc: Global,
     rounds: u64,
     disk: D,
     media: M,
 ) -> Result<Loaded<D, M>, Shut<D, M>>
+    requires few { rounds ≤ MOST_ROUNDS }
+    ensures ran { IfOk result (LoadsOn D.Disk M.Media rounds disk media) }
+    ensures shut { IfErr result (λ shut. IsNotRun D.Disk disk shut.disk shut.why) }
+    ensures unread { IfErr result (λ shut. shut.media ≡ media) }
 {
     load_on::<D, M, Brand>(alloc, rounds, disk, media)
 }

@@ -1,4 +1,7 @@
 // What is told of a load.
+ghost use Rattle.std.specs.Prelude.{◌≡◌, ◌≤◌, ◌+◌, ◌++◌, length};
+ghost use Rattle.run_load.specs.Summing.{summed};
+ghost use Rattle.run_load.specs.SummaryText.{number_line, summary_text};
 
 use sdr_board::Totals;
 use sdr_model::Entry;
@@ -37,6 +40,7 @@ pub struct Summary {
 impl Summary {
     /// The summary of a journal, and of the list that stands behind it.
     pub fn of(journal: &[Entry], list: ListRead) -> Summary
+        ensures { result ≡ summed journal.now list }
     {
         let totals = Totals::of(journal);
         Summary {
@@ -50,6 +54,9 @@ impl Summary {
 
 // Adds a line of a word and a number.
 fn add_line(text: &mut Line, word: &[u8], number: u64)
+    requires room { length text.old + length word.now + 22 ≤ 1024 }
+    ensures text { text.new ≡ text.old ++ number_line word.now number }
+    ensures len { length text.new ≤ length text.old + length word.now + 22 }
 {
     text.push(word);
     text.field(number);
@@ -58,6 +65,7 @@ fn add_line(text: &mut Line, word: &[u8], number: u64)
 
 /// The five lines of the summary of a load of so many rounds.
 pub fn summary_line(rounds: u64, summary: &Summary) -> Line
+    ensures { result ≡ summary_text rounds summary.now }
 {
     let mut text = Line::new();
     add_line(&mut text, b"load", rounds);

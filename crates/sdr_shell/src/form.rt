@@ -1,8 +1,8 @@
 // The forms that the words of a command line have.
-ghost use Rattle.std.specs.Prelude.{◌≡◌, IfSome};
+ghost use Rattle.std.specs.Prelude.{◌≡◌, ◌≤◌, IfSome};
 ghost use Rattle.std.specs.Rc.{rc_str_bytes};
 ghost use Rattle.sdr_log.specs.Frame.{IsInLimits};
-ghost use Rattle.sdr_shell.specs.Form.{asks_live, frame_from, form_of, OnFormat};
+ghost use Rattle.sdr_shell.specs.Form.{asks_live, frame_from, form_of, rounds_from, OnFormat, OnLoad};
 ghost use Rattle.sdr_words.specs.Words.{as_number};
 
 use sdr_load::MOST_ROUNDS;
@@ -50,7 +50,8 @@ fn frame_of(log: &[u8], heap: &[u8]) -> Option<Frame>
 
 // The rounds that a word asks for: from 1 to the most that a load has.
 fn rounds_of(word: &[u8]) -> Option<u64>
-    ensures { result ≡ rounds_from (as_number word.now) }
+    ensures rounds { result ≡ rounds_from (as_number word.now) }
+    ensures few { IfSome result (λ rounds. rounds ≤ MOST_ROUNDS) }
 {
     let rounds = number_of(word)?;
     if rounds >= 1 && rounds <= MOST_ROUNDS {
@@ -64,6 +65,7 @@ fn rounds_of(word: &[u8]) -> Option<u64>
 pub fn form_of(words: &[RcStr]) -> Option<Form>
     ensures form { result ≡ form_of words.now }
     ensures limits { OnFormat result IsInLimits }
+    ensures rounds { OnLoad result (λ rounds. rounds ≤ MOST_ROUNDS) }
 {
     match words {
         [word] if word.as_str() == "run" => Some(Form::Run { totals: false }),

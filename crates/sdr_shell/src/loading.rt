@@ -1,4 +1,10 @@
 // A load on the heap of the disk, and what is said of it.
+ghost use Rattle.std.specs.Prelude.{◌≡◌, ◌≤◌};
+ghost use Rattle.sdr_core.specs.Caused.{HaveFailed, media_change};
+ghost use Rattle.sdr_load.specs.declared.round.TheConstants.{MOST_ROUNDS};
+ghost use Rattle.sdr_log.specs.Calls.{KeepsDisk};
+ghost use Rattle.sdr_shell.specs.Answers.{seen};
+ghost use Rattle.sdr_shell.specs.Loading.{AnswersLoad, TellsLoad};
 
 use crate::RunOutcome;
 use crate::last_line::{last_line, print_line};
@@ -12,6 +18,9 @@ use std::alloc::Global;
 
 // Tells how a load of so many rounds ended.
 fn tell_load<K: Sink>(rounds: u64, end: LoadEnd, output: &mut K) -> u8
+    ensures told { TellsLoad rounds end result
+        (seen K.taken K.faults output.old) (seen K.taken K.faults output.new) }
+    ensures later { K.faults output.old ≤ K.faults output.new }
 {
     match end {
         LoadEnd::Summed(summary) => {
@@ -34,6 +43,13 @@ pub fn load_disk<D: Disk, M: Media, K: Sink>(
     media: M,
     output: &mut K,
 ) -> RunOutcome<D, M>
+    requires few { rounds ≤ MOST_ROUNDS }
+    ensures answers { AnswersLoad rounds D.Disk M.Media result.status disk result.disk media
+        result.media result.journal (seen K.taken K.faults output.old) (seen K.taken K.faults output.new) }
+    ensures media { HaveFailed 0 0 (media_change M.told M.faults M.short media result.media) }
+    ensures later { (K.faults output.old ≤ K.faults output.new)
+        × (D.faults disk ≤ D.faults result.disk) }
+    ensures keeps { KeepsDisk D.size D.bytes disk result.disk }
 {
     match load(alloc, rounds, disk, media) {
         Ok(loaded) => {
