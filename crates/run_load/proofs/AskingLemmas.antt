@@ -103,7 +103,7 @@ asks_nothing g ready = record {
 }
 
 -- the same world twice but for the bytes shown
-shows_twice : (w x y : World) → x ≡ record w { shown = x.shown } → y ≡ record x { shown = y.shown } → y ≡ record w { shown = y.shown }
+pub shows_twice : (w x y : World) → x ≡ record w { shown = x.shown } → y ≡ record x { shown = y.shown } → y ≡ record w { shown = y.shown }
 shows_twice w x y first second = second ∙ ap (λ (z : World). record z { shown = y.shown }) first
 
 -- no call of the disk was made twice

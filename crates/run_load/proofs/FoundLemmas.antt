@@ -3,7 +3,7 @@ use Rattle.std.proofs.Common.{◌≡◌, ◌∙◌, ℕ, List, [], Option, None,
 use Rattle.std.specs.Option.{option_map, option_map_or}
 use Rattle.run_load.specs.Asking.{AsksOnly, IsAskable}
 use Rattle.run_load.specs.Listed.{bytes_named, elements_at, list_at, load_elements, load_object}
-use Rattle.run_load.specs.Reading.{HasList, HoldsList}
+use Rattle.run_load.specs.Reading.{HasList}
 use Rattle.run_load.specs.Summing.{load_list}
 use Rattle.run_load.specs.declared.summary.ListRead.{ListRead}
 use Rattle.sdr_machine.specs.Serving.{Brings, RollsBack}
@@ -25,37 +25,33 @@ listed w elements = record { elements = length elements; bytes = bytes_named w e
 pub no_object : (w : World) → load_object w ≡ None → no_elements ≡ load_list w
 no_object w none = sym (ap (λ (o : Option ℕ). listed w (option_map_or (elements_at w) o [])) none)
 
--- where what it finds is no list
-pub no_list : (w : World) (object : ℕ) → load_object w ≡ Some object → option_map (λ (row : SdrList). length row.elements) (list_at w object) ≡ None
-    → no_elements ≡ load_list w
-no_list w object found none =
-    sym (ap (λ (o : Option ℕ). listed w (option_map_or (elements_at w) o [])) found ∙ ap (listed w) (by (list_at w object) none))
+-- where what it finds is no list, as was told of a world that shows others
+pub no_list : (w w' : World) (object : ℕ) → load_object w ≡ Some object → w' ≡ record w { shown = w'.shown }
+    → option_map (λ (row : SdrList). length row.elements) (list_at w' object) ≡ None → no_elements ≡ load_list w
+no_list w w' object found same none =
+    sym (ap (λ (o : Option ℕ). listed w (option_map_or (elements_at w) o [])) found
+    ∙ ap (listed w) (by (list_at w object) (ap (λ (x : World). option_map (λ (row : SdrList). length row.elements) (list_at x object)) (sym same) ∙ none)))
   where
     by : (o : Option SdrList) → option_map (λ (row : SdrList). length row.elements) o ≡ None → option_map_or (λ (row : SdrList). row.elements) o [] ≡ []
     by None is = refl
     by (Some row) is = cc
 
--- where it is a list
-list_there : (w : World) (object count : ℕ) → option_map (λ (row : SdrList). length row.elements) (list_at w object) ≡ Some count → HasList object count w
+-- where a count of elements is told, there is a list of so many
+pub list_there : (w : World) (object count : ℕ) → option_map (λ (row : SdrList). length row.elements) (list_at w object) ≡ Some count → HasList object count w
 list_there w object count is = by (list_at w object) refl is
   where
     by : (o : Option SdrList) → list_at w object ≡ o → option_map (λ (row : SdrList). length row.elements) o ≡ Some count → HasList object count w
     by None at is = cc
     by (Some row) at is = record { row = row; there = at; long = cc }
 
-pub holds_list : {D M : Type 0} (g : Grounded D M) (object count : ℕ)
-    → ((v : GroundState) → StandsInMemory g v → Some count ≡ option_map (λ (row : SdrList). length row.elements) (list_at v.now.world object))
-    → HoldsList object count g
-holds_list g object count told = record { each = λ v at. list_there v.now.world object count (sym (told v at)) }
-
-pub list_read : (w : World) (object count bytes : ℕ) → load_object w ≡ Some object
-    → option_map (λ (row : SdrList). length row.elements) (list_at w object) ≡ Some count → bytes ≡ bytes_named w (elements_at w object)
-    → record { elements = count; bytes = bytes } ≡ load_list w
-list_read w object count bytes found told is =
-    let has = list_there w object count told in
-    let long : length (elements_at w object) ≡ count = ap (λ (o : Option SdrList). length (option_map_or (λ (row : SdrList). row.elements) o [])) has.there ∙ has.long in
+-- and its elements and bytes are those of the list that the name finds, as they were read of a world that shows others
+pub list_read : (w w' : World) (object count bytes : ℕ) → load_object w ≡ Some object → w' ≡ record w { shown = w'.shown } → HasList object count w'
+    → bytes ≡ bytes_named w' (elements_at w' object) → record { elements = count; bytes = bytes } ≡ load_list w
+list_read w w' object count bytes found same has is =
+    let long : length (elements_at w' object) ≡ count = ap (λ (o : Option SdrList). length (option_map_or (λ (row : SdrList). row.elements) o [])) has.there ∙ has.long in
     sym (ap (λ (o : Option ℕ). listed w (option_map_or (elements_at w) o [])) found
-    ∙ ap (λ (n : ℕ). record { elements = n; bytes = bytes_named w (elements_at w object) }) long
+    ∙ ap (λ (x : World). listed x (elements_at x object)) (sym same)
+    ∙ ap (λ (n : ℕ). record { elements = n; bytes = bytes_named w' (elements_at w' object) }) long
     ∙ ap (λ (n : ℕ). record { elements = count; bytes = n }) (sym is))
 
 -- a heap that was rolled back can be asked

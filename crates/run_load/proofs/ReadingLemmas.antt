@@ -10,7 +10,7 @@ use Rattle.run_load.proofs.AskingLemmas.{asks_then}
 use Rattle.run_load.proofs.ElementLemmas.{element_stands}
 use Rattle.run_load.specs.Asking.{AsksOnly, IsAskable, ShowsOther}
 use Rattle.run_load.specs.Listed.{bytes_named, elements_at, list_at, raw_bytes_at}
-use Rattle.run_load.specs.Reading.{HasList, HoldsList, IsAtPlace, ReadsTo}
+use Rattle.run_load.specs.Reading.{HasList, IsAtPlace, ReadsTo}
 use Rattle.law_steps.proofs.ListShapes.{no_element}
 use Rattle.sdr_base.specs.declared.line.TheConstants.{LINE, MOST_LINES}
 use Rattle.sdr_machine.specs.Serving.{SomeState}
@@ -80,27 +80,22 @@ take_next w elements place within =
     ∙ sum_by_push (λ (x : Element). raw_bytes_at w x.datum) (take place elements) e
     ∙ ap (λ (d : ℕ). bytes_named w (take place elements) + raw_bytes_at w d) (sym datum)
 
-module _ {D M : Type 0} (list count : ℕ) (start now : Grounded D M) (place element bytes : ℕ) (there : HoldsList list count start)
-    (reads : ReadsTo list place element bytes start now) (before : place < count) where
+module _ {D M : Type 0} (list count : ℕ) (start now : Grounded D M) (place element bytes : ℕ)
+    (reads : ReadsTo list count place element bytes start now) (before : place < count) where
   -- the element at the place is found in whatever the heap stands for, and it stands for the same world as at the start
-  record AtElement (v : GroundState) : Type 0 where
-    row : SdrList
-    is : list_at v.now.world list ≡ Some row
+  record AtElement (v : GroundState) (row : SdrList) : Type 0 where
     within : place < length row.elements
     later : SomeState StandsInMemory now (ShowsOther v)
     spot : spot_of later.for.now.world element ≡ Some (record { list = list; row = row; place = place })
 
-  at_element : (v : GroundState) → StandsInMemory start v → AtElement v
-  at_element v at =
-      let has = there.each v at in
-      let here = reads.each v at in
+  at_element : (v : GroundState) → StandsInMemory start v → (has : HasList list count v.now.world) → AtElement v has.row
+  at_element v at has =
+      let here = reads.each v at has in
       let s = reads.asks.each v at in
       let is_later : list_at s.for.now.world list ≡ Some has.row = ap (λ (w : World). list_at w list) s.tells.now ∙ has.there in
       let within : place < length has.row.elements = omega (arith, before, has.long) in
       let first : element ≡ element_addr has.row.elements place = here.element_is ∙ ap (λ es. element_addr es place) (elements_are v.now.world list has.row has.there) in
       record {
-        row = has.row;
-        is = has.there;
         within = within;
         later = s;
         spot = ap (λ (a : ℕ). spot_of s.for.now.world a) first
@@ -115,27 +110,28 @@ module _ {D M : Type 0} (list count : ℕ) (start now : Grounded D M) (place ele
       → AsksOnly mid more
       → ((v : GroundState) (s : Spot) → StandsInMemory more v → spot_of v.now.world element ≡ Some s → next ≡ element_addr s.row.elements (s.place + 1))
       → AsksOnly more new
-      → ReadsTo list (place + 1) next (bytes + length_of) start new
+      → ReadsTo list count (place + 1) next (bytes + length_of) start new
   reads_next mid more new datum length_of next data asked_data raw few asked_raw follows asked_next = record {
     asks = asks_then start now new reads.asks (asks_then now mid new asked_data (asks_then mid more new asked_raw asked_next));
-    each = λ v at.
-        let a = at_element v at in
-        let here = reads.each v at in
+    each = λ v at has.
+        let a = at_element v at has in
+        let row = has.row in
+        let here = reads.each v at has in
         let s = a.later in
         let m = asked_data.each s.for s.holds in
         let n = asked_raw.each m.for m.holds in
-        let es = elements_are v.now.world list a.row a.is in
-        let datum_is : datum ≡ datum_at a.row.elements place = data s.for _ s.holds a.spot in
+        let es = elements_are v.now.world list row has.there in
+        let datum_is : datum ≡ datum_at row.elements place = data s.for _ s.holds a.spot in
         let raw_is : length_of ≡ raw_bytes_at v.now.world datum =
         raw m.for m.holds ∙ ap (λ (w : World). raw_bytes_at w datum) m.tells.now ∙ ap (λ (w : World). raw_bytes_at w datum) s.tells.now in
-        let spot_now : spot_of n.for.now.world element ≡ Some (record { list = list; row = a.row; place = place }) =
+        let spot_now : spot_of n.for.now.world element ≡ Some (record { list = list; row = row; place = place }) =
         ap (λ (w : World). spot_of w element) n.tells.now ∙ ap (λ (w : World). spot_of w element) m.tells.now ∙ a.spot in
         record {
           element_is = follows n.for _ n.holds spot_now ∙ ap (λ xs. element_addr xs (place + 1)) (sym es);
           bytes_are =
               ap (λ (b : ℕ). b + length_of) (here.bytes_are ∙ ap (λ xs. bytes_named v.now.world (take place xs)) es)
-              ∙ ap (λ (b : ℕ). bytes_named v.now.world (take place a.row.elements) + b) (raw_is ∙ ap (raw_bytes_at v.now.world) datum_is)
-              ∙ sym (take_next v.now.world a.row.elements place a.within)
+              ∙ ap (λ (b : ℕ). bytes_named v.now.world (take place row.elements) + b) (raw_is ∙ ap (raw_bytes_at v.now.world) datum_is)
+              ∙ sym (take_next v.now.world row.elements place a.within)
               ∙ ap (λ xs. bytes_named v.now.world (take (place + 1) xs)) (sym es);
         };
     few = omega (arith, reads.few, few);
@@ -151,26 +147,23 @@ few_counted g v list at told is = subst (λ (o : Option ℕ). IfSome o (λ count
     by (Some row) there = few_in_list g v list row at there
 
 -- before the first place
-pub reads_first : {D M : Type 0} (list count : ℕ) (start now : Grounded D M) (first : ℕ) → HoldsList list count start → AsksOnly start now
+pub reads_first : {D M : Type 0} (list count : ℕ) (start now : Grounded D M) (first : ℕ) → AsksOnly start now
     → ((v : GroundState) (row : SdrList) → StandsInMemory start v → list_at v.now.world list ≡ Some row → first ≡ element_addr row.elements 0)
-    → ReadsTo list 0 first 0 start now
-reads_first list count start now first there asks is = record {
+    → ReadsTo list count 0 first 0 start now
+reads_first list count start now first asks is = record {
   asks = asks;
-  each = λ v at.
-      let has = there.each v at in
-      record {
-        element_is = is v has.row at has.there ∙ ap (λ es. element_addr es 0) (sym (elements_are v.now.world list has.row has.there));
-        bytes_are = refl;
-      };
+  each = λ v at has. record {
+    element_is = is v has.row at has.there ∙ ap (λ es. element_addr es 0) (sym (elements_are v.now.world list has.row has.there));
+    bytes_are = refl;
+  };
   few = omega arith;
 }
 
 -- behind the last place
-pub reads_all : {D M : Type 0} (list count place element bytes : ℕ) (start now : Grounded D M) → HoldsList list count start
-    → ReadsTo list place element bytes start now → count ≤ place → (v : GroundState) → StandsInMemory start v
+pub reads_all : {D M : Type 0} (list count place element bytes : ℕ) (start now : Grounded D M) → ReadsTo list count place element bytes start now
+    → count ≤ place → (v : GroundState) → StandsInMemory start v → HasList list count v.now.world
     → bytes ≡ bytes_named v.now.world (elements_at v.now.world list)
-reads_all list count place element bytes start now there reads all v at =
-    let has = there.each v at in
+reads_all list count place element bytes start now reads all v at has =
     let es = elements_are v.now.world list has.row has.there in
     let enough : length (elements_at v.now.world list) ≤ place = omega (arith, ap (λ (xs : List Element). length xs) es, has.long, all) in
-    (reads.each v at).bytes_are ∙ ap (bytes_named v.now.world) (take_all place (elements_at v.now.world list) enough)
+    (reads.each v at has).bytes_are ∙ ap (bytes_named v.now.world) (take_all place (elements_at v.now.world list) enough)

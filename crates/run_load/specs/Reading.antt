@@ -15,17 +15,13 @@ pub record HasList (addr count : ℕ) (w : World) : Type 0 where
   pub there : list_at w addr ≡ Some row
   pub long : length row.elements ≡ count
 
--- whatever the heap stands for, such a list is there
-pub record HoldsList {D M : Type 0} (addr count : ℕ) (g : Grounded D M) : Type 0 where
-  pub each : (v : GroundState) → StandsInMemory g v → HasList addr count v.now.world
-
 -- The element at this place of a list is here, and so many bytes were named by those before it.
 pub record IsAtPlace (addr place element bytes : ℕ) (w : World) : Type 0 where
   pub element_is : element ≡ element_addr (elements_at w addr) place
   pub bytes_are : bytes ≡ bytes_named w (take place (elements_at w addr))
 
--- the list is read up to a place
-pub record ReadsTo {D M : Type 0} (addr place element bytes : ℕ) (old now : Grounded D M) : Type 0 where
+-- A list of so many elements, if it is there, is read up to a place.
+pub record ReadsTo {D M : Type 0} (addr count place element bytes : ℕ) (old now : Grounded D M) : Type 0 where
   pub asks : AsksOnly old now
-  pub each : (v : GroundState) → StandsInMemory old v → IsAtPlace addr place element bytes v.now.world
+  pub each : (v : GroundState) → StandsInMemory old v → HasList addr count v.now.world → IsAtPlace addr place element bytes v.now.world
   pub few : bytes ≤ place * longest_raw

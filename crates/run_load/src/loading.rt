@@ -43,6 +43,16 @@ pub struct Loaded<D, M> {
     pub end: LoadEnd,
 }
 
+// The daemons of a load.
+fn daemons_in(alloc: Global, rounds: u64) -> Result<Vec<u8>, NoMemory>
+    requires few { rounds ≤ MOST_ROUNDS }
+    ensures { IfOk result (λ daemons. daemons.items ≡ load_daemons rounds) }
+{
+    daemons_of_loads();
+    let count = (rounds + 1).min(4) as u8;
+    (1..count + 1).collect(alloc)
+}
+
 // What a load takes before it begins: its steps, its daemons, and the call that finds its list.
 #[derive(Drop)]
 struct Outset {
@@ -58,12 +68,13 @@ impl Outset {
         ensures daemons { IfOk result (λ o. o.daemons.items ≡ load_daemons rounds) }
         ensures finds { IfOk result (λ o. o.question ≡ Call.Find load_name) }
     {
-        daemons_of_loads();
-        let last = (rounds + 1).min(4) as u8;
+        let steps = LoadSteps::new(alloc, rounds)?;
+        let daemons = daemons_in(alloc, rounds)?;
+        let name = Bytes::copied(alloc, b"load")?;
         Ok(Outset {
-            steps: LoadSteps::new(alloc, rounds)?,
-            daemons: (1..last + 1).collect(alloc)?,
-            question: Call::Find(Bytes::copied(alloc, b"load")?),
+            steps,
+            daemons,
+            question: Call::Find(name),
         })
     }
 }

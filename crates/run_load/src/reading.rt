@@ -2,7 +2,7 @@
 ghost use Rattle.std.specs.Prelude.{◌≡◌, ◌≤◌, ◌^◌, IfOk, OnErr, false};
 ghost use Rattle.run_load.specs.Asking.{AsksOnly, IsAskable};
 ghost use Rattle.run_load.specs.Listed.{bytes_named, elements_at, load_name};
-ghost use Rattle.run_load.specs.Reading.{HoldsList};
+ghost use Rattle.run_load.specs.Reading.{HasList};
 ghost use Rattle.run_load.specs.Summing.{load_list};
 ghost use Rattle.sdr_base.specs.Causes.{Rose};
 ghost use Rattle.sdr_machine.specs.Standing.{GroundState};
@@ -17,7 +17,7 @@ use sdr_machine::Fault;
 use sdr_model::Call;
 use sdr_run::{HandedGround, HandedIn};
 
-// How many bytes the raw objects have together that the data of a list's elements name.
+// How many bytes the raw objects have together that the data of the elements name of a list of so many.
 fn bytes_named<D: Disk, M: Media, J: HandedIn>(
     base: &mut HandedGround<D, M, J>,
     list: u64,
@@ -25,8 +25,8 @@ fn bytes_named<D: Disk, M: Media, J: HandedIn>(
 ) -> u64
     requires ready { IsAskable base.old }
     requires few { elements ≤ 2 ^ 32 }
-    requires there { HoldsList list elements base.old }
     ensures bytes { (v : GroundState) → StandsInMemory base.old v →
+        HasList list elements v.now.world →
         result ≡ bytes_named v.now.world (elements_at v.now.world list) }
     ensures asks { AsksOnly base.old base.new }
 {
