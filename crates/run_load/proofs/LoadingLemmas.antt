@@ -11,7 +11,7 @@ use Rattle.sdr_base.specs.Causes.{Rose}
 use Rattle.sdr_base.specs.Media.{Told}
 use Rattle.sdr_base.specs.declared.media.Media.{Ghosts as MediaGhosts}
 use Rattle.sdr_core.specs.Caused.{MediaChange, SeenMedia, from_to, seen_media}
-use Rattle.sdr_core.specs.CoreKept.{IsRunOf}
+use Rattle.sdr_core.specs.CoreKept.{RunStart}
 use Rattle.sdr_disk.specs.declared.disk.Disk.{Ghosts as DiskGhosts}
 use Rattle.sdr_load.proofs.RoundLemmas.{round_is_short}
 use Rattle.sdr_load.specs.Rounds.{round_of}
@@ -30,7 +30,7 @@ use Rattle.sdr_run.specs.Quiet.{StaysQuiet}
 use Rattle.sdr_run.specs.Recording.{PlaysOut}
 use Rattle.sdr_run.specs.Replaying.{IsSettled, RanOn, begins_on}
 use Rattle.sdr_run.specs.declared.recording.Ran.{Ran}
-use Rattle.sdr_station.specs.Grounded.{Grounded}
+use Rattle.sdr_station.specs.Grounded.{Grounded, StandsSome}
 use Rattle.sdr_station.specs.Opening.{first_on}
 use Rattle.sdr_words.specs.Daemons.{daemons_of}
 use Rattle.sdr_machine.specs.declared.has_ground.HasGround.{Ghosts}
@@ -118,3 +118,10 @@ module _ {D M : Type 0} (d : DiskGhosts D) (m : MediaGhosts M) (disk : D) (files
         (ends_so out out' ran end plays tells));
     cause = cause;
   }
+
+-- where the disk failed in no entry, the heap in memory stands for something
+pub sound_stands : {D M : Type 0} (d : DiskGhosts D) (m : MediaGhosts M) (condition : Type 0) (b : RunStart) (script : List ScriptStep) (before : Grounded D M)
+    (out out' : Output) (ran : Ran (Grounded D M)) → PlaysOut (ground_of d m condition) b script before out out' ran → ran.failed ≡ false → StandsSome ran.base
+sound_stands d m condition b script before out out' ran plays no =
+    let s = plays.run.rests (is_sound_of ran.failed (is_sound ran.journal) plays.failed no) in
+    record { for = s.for; holds = s.holds.memory }

@@ -10,6 +10,7 @@ use Rattle.run_load.specs.declared.loading.Loaded.{Loaded}
 use Rattle.run_load.specs.declared.summary.Summary.{Summary}
 use Rattle.sdr_base.specs.Causes.{Rose}
 use Rattle.sdr_base.specs.Pools.{Pools}
+use Rattle.sdr_base.specs.Written.{AppendsPart}
 use Rattle.sdr_base.specs.declared.media.Media.{Ghosts as MediaGhosts}
 use Rattle.sdr_disk.specs.declared.disk.Disk.{Ghosts as DiskGhosts}
 use Rattle.sdr_log.specs.Log.{put_back_of}
@@ -22,7 +23,7 @@ use Rattle.sdr_shell.proofs.ShutLemmas.{by_shut, shut_status}
 use Rattle.sdr_shell.specs.Answers.{Seen, Wrote, change_of}
 use Rattle.sdr_shell.specs.Shutting.{line_shut, status_shut}
 use Rattle.sdr_shell.specs.Loading.{AnswersLoad, HadLoad, IsWholeLoad, LoadComesTo, TellsLoad}
-use Rattle.sdr_shell.specs.declared.status.TheConstants.{DONE, USAGE, NOT_FORMATTED, DAMAGED, NO_MEMORY}
+use Rattle.sdr_shell.specs.declared.status.TheConstants.{DONE, USAGE, OUTPUT_FAULT, NOT_FORMATTED, DAMAGED, NO_MEMORY}
 use Rattle.sdr_stands.specs.Standing.{StandsForWhole}
 use Rattle.sdr_station.specs.declared.error.OpenError.{OpenError}
 use Rattle.sdr_station.specs.declared.error.OpenError.TheVariants as errors
@@ -133,3 +134,13 @@ pub answers_unloaded : {D M : Type 0} (d : DiskGhosts D) (m : MediaGhosts M) (ro
 answers_unloaded d m rounds disk disk' files files' journal why status sink sink' not_run unread none is written =
     load_answers d m rounds disk disk' files files' journal sink sink' status
     (LoadComesTo.shut why is (record { not_run = not_run; unread = unread; none = none; written = written }))
+
+-- a summary that was written whole or in part
+pub tells_summed : (rounds : ℕ) (summary : Summary) (line : List ℕ) (status : ℕ) (sink sink' : Seen) → line ≡ summary_text rounds summary
+    → (status ≡ DONE) ⊎ (status ≡ OUTPUT_FAULT) → (status ≡ DONE → Appends sink.bytes sink'.bytes line)
+    → (status ≡ OUTPUT_FAULT → AppendsPart sink.bytes sink'.bytes line) → (status ≡ OUTPUT_FAULT → Rose sink.faults sink'.faults)
+    → TellsLoad rounds (ends.Summed summary) status sink sink'
+tells_summed rounds summary line status sink sink' same (inl is) whole part cause =
+    inl (is, subst (λ (text : List ℕ). Appends sink.bytes sink'.bytes text) same (whole is))
+tells_summed rounds summary line status sink sink' same (inr is) whole part cause =
+    inr (is, cause is, subst (λ (text : List ℕ). AppendsPart sink.bytes sink'.bytes text) same (part is))

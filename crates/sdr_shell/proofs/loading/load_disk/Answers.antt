@@ -12,3 +12,16 @@ returns-in-Ok-clause-answers g c =
 
 pub returns-in-Ok-clause-media : goal.returns-in-Ok-clause-media
 returns-in-Ok-clause-media g c = failed_ever _ _ _ c.in-Ok.ensures.ran.on_heap.runs.0.caused
+
+pub returns-in-Ok-clause-later : goal.returns-in-Ok-clause-later
+returns-in-Ok-clause-later g c = (c.tell_load-status.ensures.later, c.in-Ok.ensures.ran.on_heap.leaves.later)
+
+pub returns-in-Ok-clause-keeps : goal.returns-in-Ok-clause-keeps
+returns-in-Ok-clause-keeps g c = c.in-Ok.ensures.ran.on_heap.leaves.keeps
+
+pub returns-in-Err-clause-answers : goal.returns-in-Err-clause-answers
+returns-in-Err-clause-answers g c =
+    let r = c.without_journal.result in
+    answers_unloaded g.D.Disk g.M.Media c.args.rounds c.args.disk r.disk c.args.media r.media r.journal c.in-Err.shut.why r.status
+    (seen g.K.Sink.taken g.K.Sink.faults c.args.output.now) (seen g.K.Sink.taken g.K.Sink.faults c.tell_shut-status.new.output) (search rules) (search rules)
+    (search rules) (search rules) (search rules)

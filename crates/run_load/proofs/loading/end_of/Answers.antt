@@ -1,0 +1,11 @@
+use Rattle.std.proofs.Common.{◌∙◌, List, ap, refl}
+use Rattle.run_load.specs.Summing.{summed}
+use Rattle.run_load.specs.declared.summary.ListRead.{ListRead}
+use Rattle.sdr_model.specs.declared.journal.Entry.{Entry}
+use Rattle.run_load.proofs.loading.end_of.Goals as goal
+
+pub returns-in-Ok-clause-end : goal.returns-in-Ok-clause-end
+returns-in-Ok-clause-end g c =
+    (c.if-failed.false, c.if-starved.false, λ v at.
+    c.of.ensures ∙ ap (λ (js : List Entry). summed js c.in-Ok.list) c.as_slice.ensures
+    ∙ ap (λ (l : ListRead). summed c.args.ran.now.journal l) (c.in-Ok.ensures.list v at))
