@@ -106,8 +106,8 @@ module _ (addr : ℕ) where
   none_in_thing k (things.List row) none = by (position is_there row.elements) refl
     where
       by : (o : Option ℕ) → position is_there row.elements ≡ o
-          → option_map (λ place. record { list = k; row = row; place = place }) (position is_there row.elements) ≡ None
-      by None at = ap (option_map (λ (place : ℕ). record { list = k; row = row; place = place })) at
+          → option_map {U = Spot} (λ place. record { list = k; row = row; place = place }) (position is_there row.elements) ≡ None
+      by None at = ap (option_map {U = Spot} (λ place. record { list = k; row = row; place = place })) at
       by (Some place) at =
           let there = position-Some is_there row.elements place no_element at in
           absurd (omega (arith, none, list_counts k row, counts_at is_there row.elements place no_element there.0 there.1))
@@ -131,8 +131,8 @@ module _ (addr : ℕ) where
       omega (arith, own, list_counts e.0 row, ap (λ (t : Thing). count_by begins_there (thing_blocks e.0 t)) thing) in
       let place = only_position is_there row.elements i no_element within here one in
       ap (λ (t : Thing). option_or (spot_in_thing addr e.0 (Some t)) (spot_among addr es)) thing
-      ∙ ap (λ (o : Option ℕ). option_or (option_map (λ (place : ℕ). record { list = e.0; row = row; place = place }) o) (spot_among addr es)) place
-      ∙ ap (λ (k : ℕ). Some (record { list = k; row = row; place = i })) at)
+      ∙ ap (λ (o : Option ℕ). option_or (option_map {U = Spot} (λ place. record { list = e.0; row = row; place = place }) o) (spot_among addr es)) place
+      ∙ ap (λ (k : ℕ). let spot : Spot = record { list = k; row = row; place = i } in Some spot) at)
       (λ apart.
       let later = sym (ap (λ b. cond b (Some e.1) (finite.find nat_cmp list es)) apart) ∙ found in
       let some : 1 ≤ count_by begins_there (all_blocks es) =
