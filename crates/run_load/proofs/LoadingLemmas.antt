@@ -1,9 +1,9 @@
 -- A load that was run on the heap of a disk.
-use Rattle.std.proofs.Common.{◌≡◌, ◌∙◌, ◌≤◌, ◌+◌, ◌*◌, ◌^◌, ℕ, zero, suc, List, [], ◌∷◌, ◌++◌, Bool, true, false, not, filter, length, nat_le, refl, sym, ap, subst, arith, true≢false}
+use Rattle.std.proofs.Common.{◌≡◌, ◌∙◌, ◌≤◌, ◌+◌, ◌*◌, ℕ, zero, suc, List, [], ◌∷◌, Bool, true, false, not, filter, length, nat_le, refl, sym, ap, subst, arith, true≢false}
 use Rattle.std.specs.Prelude.{◌↔◌, Option}
-use Rattle.std.specs.List.{flat_map, range_with_len}
+use Rattle.std.specs.List.{range_with_len}
 use Rattle.std.proofs.lemmas.List.{length-append}
-use Rattle.run_load.specs.Loading.{EndsSo, LoadsOn, RunsRounds, SumsUp, TellsEnd, load_daemons}
+use Rattle.run_load.specs.Loading.{EndsSo, LoadsOn, RunsRounds, TellsEnd, load_daemons}
 use Rattle.run_load.specs.declared.loading.LoadEnd.{LoadEnd}
 use Rattle.run_load.specs.declared.loading.LoadEnd.TheVariants as ends
 use Rattle.run_load.specs.declared.loading.Loaded.{Loaded}
@@ -26,13 +26,13 @@ use Rattle.sdr_model.specs.declared.script.ScriptStep.{ScriptStep}
 use Rattle.sdr_run.proofs.ReplayingLemmas.{ground_of, ran_opened}
 use Rattle.sdr_run.specs.Handed.{HandedDisk, StaysAsHanded, handed_as}
 use Rattle.sdr_run.specs.Opening.{OpenedSo}
-use Rattle.sdr_run.specs.Playing.{Output, Replays, ReplaysSteps, leave_of}
+use Rattle.sdr_run.specs.Playing.{Output, ReplaysSteps}
 use Rattle.sdr_run.specs.Recording.{PlaysOut}
 use Rattle.sdr_run.specs.Replaying.{IsSettled, RanOn, begins_on}
 use Rattle.sdr_run.specs.declared.recording.Ran.{Ran}
 use Rattle.sdr_station.specs.Grounded.{Grounded, StandsSome}
 use Rattle.sdr_station.specs.Opening.{first_on}
-use Rattle.sdr_words.specs.Daemons.{all_daemons, daemons_of}
+use Rattle.sdr_words.specs.Daemons.{all_daemons}
 use Rattle.sdr_machine.specs.declared.has_ground.HasGround.{Ghosts}
 
 -- a step for each statement

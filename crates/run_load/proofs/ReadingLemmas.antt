@@ -1,5 +1,5 @@
 -- A list of a heap that is read element by element.
-use Rattle.std.proofs.Common.{◌≡◌, ◌∙◌, ◌<◌, ◌≤◌, ◌+◌, ◌*◌, ◌++◌, ◌^◌, ℕ, List, [], ◌∷◌, Option, None, Some, Bool, true, false, length, get_or, take, refl, sym, ap, subst, arith, add-one, true≢false}
+use Rattle.std.proofs.Common.{◌≡◌, ◌∙◌, ◌<◌, ◌≤◌, ◌+◌, ◌^◌, ℕ, List, [], Option, None, Some, true, false, length, get_or, take, refl, sym, ap, subst, arith, add-one, true≢false}
 use Rattle.std.specs.Option.{option_map, option_map_or}
 use Rattle.std.specs.Prelude.{IfSome, is_some}
 use Rattle.std.proofs.Math.Seq.{take-suc}
@@ -8,11 +8,10 @@ use Rattle.std.proofs.lemmas.List.Sums.{sum_by_push}
 use Rattle.std.proofs.lemmas.Option.{slice_get-get_or}
 use Rattle.run_load.proofs.AskingLemmas.{asks_then}
 use Rattle.run_load.proofs.ElementLemmas.{element_stands}
-use Rattle.run_load.specs.Asking.{AsksOnly, IsAskable, ShowsOther}
+use Rattle.run_load.specs.Asking.{AsksOnly, ShowsOther}
 use Rattle.run_load.specs.Listed.{bytes_named, elements_at, list_at, raw_bytes_at}
-use Rattle.run_load.specs.Reading.{HasList, IsAtPlace, ReadsTo}
+use Rattle.run_load.specs.Reading.{HasList, ReadsTo}
 use Rattle.law_steps.proofs.ListShapes.{no_element}
-use Rattle.sdr_base.specs.declared.line.TheConstants.{LINE, MOST_LINES}
 use Rattle.sdr_machine.specs.Serving.{SomeState}
 use Rattle.sdr_machine.specs.Standing.{GroundState}
 use Rattle.sdr_model.specs.Limits.{longest_raw}

@@ -1,18 +1,18 @@
 -- What the reply to each question tells of the world.
-use Rattle.std.proofs.Common.{◌≡◌, ◌∙◌, ◌<◌, ◌+◌, ◌-◌, ℕ, Bool, true, false, List, [], length, map, Option, None, Some, nat_lt, refl, sym, ap, subst, arith}
+use Rattle.std.proofs.Common.{◌≡◌, ◌∙◌, ◌+◌, ◌-◌, ℕ, Bool, true, false, List, [], length, map, Option, None, Some, nat_lt, refl, sym, ap, arith}
 use Rattle.std.specs.Prelude.{MatchBool, MatchOption, is_some}
 use Rattle.std.specs.FinMap as finite
 use Rattle.std.specs.Option.{option_map, option_or}
 use Rattle.std.proofs.lemmas.Bool.{ltb-true}
 use Rattle.run_load.specs.Asking.{AnswersByRow, addr_in, object_in, tells_bytes, value_in}
-use Rattle.run_load.specs.Listed.{list_at, load_name, load_object, raw_bytes_at}
+use Rattle.run_load.specs.Listed.{list_at, load_name, load_object}
 use Rattle.law_steps.proofs.ThingLemmas.{raw_is}
 use Rattle.sdr_base.specs.Parts.{part}
 use Rattle.sdr_base.specs.declared.refusal.Refusal.{Refusal}
 use Rattle.sdr_base.specs.declared.refusal.Refusal.TheVariants as refusals
 use Rattle.sdr_model.specs.Accounts.{ticket_blocks}
 use Rattle.sdr_model.specs.Limits.{longest_read}
-use Rattle.sdr_model.specs.ListSteps.{as_list, datum_at, element_addr}
+use Rattle.sdr_model.specs.ListSteps.{datum_at, element_addr}
 use Rattle.sdr_model.specs.Names.{name_of}
 use Rattle.sdr_model.specs.RawSteps.{length_as}
 use Rattle.sdr_model.specs.Steps.{Outcome, ReadsBytes, Refuses}
@@ -20,7 +20,6 @@ use Rattle.sdr_model.specs.Things.{Spot, block_among, block_for_name, inner_amon
 use Rattle.sdr_model.specs.World.{World, as_raw, block_at, misnamed, spot_of, thing_at}
 use Rattle.sdr_model.specs.declared.answer.Reply.{Reply}
 use Rattle.sdr_model.specs.declared.answer.Reply.TheVariants as replies
-use Rattle.sdr_model.specs.declared.call.Call.{Call}
 use Rattle.sdr_model.specs.declared.call.Call.TheVariants as calls
 use Rattle.sdr_model.specs.declared.name.Name.{Name}
 use Rattle.sdr_model.specs.declared.things.SdrList.{SdrList}

@@ -1,4 +1,4 @@
-use Rattle.std.proofs.Common.{◌≡◌, ◌+◌, ◌∙◌, IfOk, List, ℕ, ap, arith, filter, min, nat_le, subst, sym}
+use Rattle.std.proofs.Common.{◌≡◌, ◌+◌, ◌∙◌, IfOk, List, ℕ, ap, arith, min, subst, sym}
 use Rattle.std.specs.List.{range_with_len}
 use Rattle.run_load.proofs.LoadingLemmas.{first_are}
 use Rattle.run_load.proofs.loading.daemons_in.Goals as goal

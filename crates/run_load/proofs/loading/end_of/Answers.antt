@@ -1,4 +1,4 @@
-use Rattle.std.proofs.Common.{◌∙◌, List, ap, refl}
+use Rattle.std.proofs.Common.{◌∙◌, List, ap}
 use Rattle.run_load.specs.Summing.{summed}
 use Rattle.run_load.specs.declared.summary.ListRead.{ListRead}
 use Rattle.sdr_model.specs.declared.journal.Entry.{Entry}
