@@ -1,6 +1,6 @@
 -- What a question of a heap comes to.
 use Rattle.std.proofs.Common.{◌≡◌, ◌∙◌, ℕ, List, [], ◌∷◌, ◌++◌, Bool, true, false, inl, inr, refl, sym, ap, subst, true≢false}
-use Rattle.run_load.specs.Asking.{AnswersByRow, AsksOnly, IsAskable, IsQuestion, ShowsOther}
+use Rattle.run_load.specs.Asking.{AnswersByRow, AsksOnly, IsAskable, IsQuestion}
 use Rattle.law_steps.proofs.StepLemmas.{reading_shows, refused_leaves}
 use Rattle.sdr_base.specs.Media.{Told}
 use Rattle.sdr_base.specs.Pools.{Pools}
@@ -10,9 +10,7 @@ use Rattle.sdr_machine.specs.Ground.{Ground, Replied, State, Steps, StepsOn}
 use Rattle.sdr_machine.specs.Serving.{Brings, Calls, SomeState}
 use Rattle.sdr_machine.specs.Standing.{GroundState}
 use Rattle.sdr_model.specs.Reading.{is_reading, reads_media}
-use Rattle.sdr_model.specs.Rows.{ByRow}
 use Rattle.sdr_model.specs.Step.{Step, StopsWith, is_answer}
-use Rattle.sdr_model.specs.Steps.{Outcome}
 use Rattle.sdr_model.specs.World.{World}
 use Rattle.sdr_model.specs.declared.answer.Reply.{Reply}
 use Rattle.sdr_model.specs.declared.answer.Reply.TheVariants as replies

@@ -1,11 +1,10 @@
 -- Where an element of a list stands in a valid world.
-use Rattle.std.proofs.Common.{◌≡◌, ◌∙◌, ◌==◌, ◌<◌, ◌≤◌, ◌+◌, ◌*◌, ℕ, zero, suc, List, [], ◌∷◌, ◌++◌, Bool, true, false, cond, map, length, get_or, nat_eq, position, Option, None, Some, refl, sym, ap, subst, arith}
+use Rattle.std.proofs.Common.{◌≡◌, ◌∙◌, ◌==◌, ◌<◌, ◌≤◌, ◌+◌, ℕ, zero, suc, List, [], ◌∷◌, ◌++◌, Bool, true, cond, map, length, get_or, nat_eq, position, Option, None, Some, refl, sym, ap, arith}
 use Rattle.std.specs.FinMap as finite
 use Rattle.std.specs.Cmp.{nat_eq_equiv}
 use Rattle.std.specs.List.{count_by, flat_map}
 use Rattle.std.specs.Option.{option_map, option_or}
 use Rattle.std.specs.Ordering.{is_eq, nat_cmp}
-use Rattle.std.proofs.lemmas.Bool.{eqb-true}
 use Rattle.std.proofs.lemmas.List.Quantifiers.{position-Some}
 use Rattle.std.proofs.lemmas.List.Sums.{sum_by-append}
 use Rattle.std.proofs.lemmas.Option.{slice_get-get_or}
@@ -106,8 +105,8 @@ module _ (addr : ℕ) where
   none_in_thing k (things.List row) none = by (position is_there row.elements) refl
     where
       by : (o : Option ℕ) → position is_there row.elements ≡ o
-          → option_map (λ place. record { list = k; row = row; place = place }) (position is_there row.elements) ≡ None
-      by None at = ap (option_map (λ (place : ℕ). record { list = k; row = row; place = place })) at
+          → option_map {U = Spot} (λ place. record { list = k; row = row; place = place }) (position is_there row.elements) ≡ None
+      by None at = ap (option_map {U = Spot} (λ place. record { list = k; row = row; place = place })) at
       by (Some place) at =
           let there = position-Some is_there row.elements place no_element at in
           absurd (omega (arith, none, list_counts k row, counts_at is_there row.elements place no_element there.0 there.1))
@@ -131,8 +130,8 @@ module _ (addr : ℕ) where
       omega (arith, own, list_counts e.0 row, ap (λ (t : Thing). count_by begins_there (thing_blocks e.0 t)) thing) in
       let place = only_position is_there row.elements i no_element within here one in
       ap (λ (t : Thing). option_or (spot_in_thing addr e.0 (Some t)) (spot_among addr es)) thing
-      ∙ ap (λ (o : Option ℕ). option_or (option_map (λ (place : ℕ). record { list = e.0; row = row; place = place }) o) (spot_among addr es)) place
-      ∙ ap (λ (k : ℕ). Some (record { list = k; row = row; place = i })) at)
+      ∙ ap (λ (o : Option ℕ). option_or (option_map {U = Spot} (λ place. record { list = e.0; row = row; place = place }) o) (spot_among addr es)) place
+      ∙ ap (λ (k : ℕ). let spot : Spot = record { list = k; row = row; place = i } in Some spot) at)
       (λ apart.
       let later = sym (ap (λ b. cond b (Some e.1) (finite.find nat_cmp list es)) apart) ∙ found in
       let some : 1 ≤ count_by begins_there (all_blocks es) =

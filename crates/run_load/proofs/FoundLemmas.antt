@@ -1,8 +1,8 @@
 -- The list that the name of a load finds.
 use Rattle.std.proofs.Common.{◌≡◌, ◌∙◌, ℕ, List, [], Option, None, Some, false, length, refl, sym, ap}
 use Rattle.std.specs.Option.{option_map, option_map_or}
-use Rattle.run_load.specs.Asking.{AsksOnly, IsAskable}
-use Rattle.run_load.specs.Listed.{bytes_named, elements_at, list_at, load_elements, load_object}
+use Rattle.run_load.specs.Asking.{IsAskable}
+use Rattle.run_load.specs.Listed.{bytes_named, elements_at, list_at, load_object}
 use Rattle.run_load.specs.Reading.{HasList}
 use Rattle.run_load.specs.Summing.{load_list}
 use Rattle.run_load.specs.declared.summary.ListRead.{ListRead}

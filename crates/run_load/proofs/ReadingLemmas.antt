@@ -1,5 +1,5 @@
 -- A list of a heap that is read element by element.
-use Rattle.std.proofs.Common.{◌≡◌, ◌∙◌, ◌<◌, ◌≤◌, ◌+◌, ◌*◌, ◌++◌, ◌^◌, ℕ, List, [], ◌∷◌, Option, None, Some, Bool, true, false, length, get_or, take, refl, sym, ap, subst, arith, add-one, true≢false}
+use Rattle.std.proofs.Common.{◌≡◌, ◌∙◌, ◌<◌, ◌≤◌, ◌+◌, ◌^◌, ℕ, List, [], Option, None, Some, true, false, length, get_or, take, refl, sym, ap, subst, arith, add-one, true≢false}
 use Rattle.std.specs.Option.{option_map, option_map_or}
 use Rattle.std.specs.Prelude.{IfSome, is_some}
 use Rattle.std.proofs.Math.Seq.{take-suc}
@@ -8,11 +8,10 @@ use Rattle.std.proofs.lemmas.List.Sums.{sum_by_push}
 use Rattle.std.proofs.lemmas.Option.{slice_get-get_or}
 use Rattle.run_load.proofs.AskingLemmas.{asks_then}
 use Rattle.run_load.proofs.ElementLemmas.{element_stands}
-use Rattle.run_load.specs.Asking.{AsksOnly, IsAskable, ShowsOther}
+use Rattle.run_load.specs.Asking.{AsksOnly, ShowsOther}
 use Rattle.run_load.specs.Listed.{bytes_named, elements_at, list_at, raw_bytes_at}
-use Rattle.run_load.specs.Reading.{HasList, IsAtPlace, ReadsTo}
+use Rattle.run_load.specs.Reading.{HasList, ReadsTo}
 use Rattle.law_steps.proofs.ListShapes.{no_element}
-use Rattle.sdr_base.specs.declared.line.TheConstants.{LINE, MOST_LINES}
 use Rattle.sdr_machine.specs.Serving.{SomeState}
 use Rattle.sdr_machine.specs.Standing.{GroundState}
 use Rattle.sdr_model.specs.Limits.{longest_raw}
@@ -76,7 +75,7 @@ take_next w elements place within =
     let e = get_or elements place no_element in
     let datum : datum_at elements place ≡ e.datum = ap datum_of (slice_get-get_or elements place no_element within) in
     ap (λ (n : ℕ). bytes_named w (take n elements)) (add-one place)
-    ∙ ap (bytes_named w) (take-suc place elements no_element within)
+    ∙ ap (bytes_named w) (take-suc elements place no_element within)
     ∙ sum_by_push (λ (x : Element). raw_bytes_at w x.datum) (take place elements) e
     ∙ ap (λ (d : ℕ). bytes_named w (take place elements) + raw_bytes_at w d) (sym datum)
 
@@ -111,7 +110,7 @@ module _ {D M : Type 0} (list count : ℕ) (start now : Grounded D M) (place ele
       → ((v : GroundState) (s : Spot) → StandsInMemory more v → spot_of v.now.world element ≡ Some s → next ≡ element_addr s.row.elements (s.place + 1))
       → AsksOnly more new
       → ReadsTo list count (place + 1) next (bytes + length_of) start new
-  reads_next mid more new datum length_of next data asked_data raw few asked_raw follows asked_next = record {
+  reads_next mid more new datum length_of next datum_told asked_data raw few asked_raw follows asked_next = record {
     asks = asks_then start now new reads.asks (asks_then now mid new asked_data (asks_then mid more new asked_raw asked_next));
     each = λ v at has.
         let a = at_element v at has in
@@ -121,7 +120,7 @@ module _ {D M : Type 0} (list count : ℕ) (start now : Grounded D M) (place ele
         let m = asked_data.each s.for s.holds in
         let n = asked_raw.each m.for m.holds in
         let es = elements_are v.now.world list row has.there in
-        let datum_is : datum ≡ datum_at row.elements place = data s.for _ s.holds a.spot in
+        let datum_is : datum ≡ datum_at row.elements place = datum_told s.for _ s.holds a.spot in
         let raw_is : length_of ≡ raw_bytes_at v.now.world datum =
         raw m.for m.holds ∙ ap (λ (w : World). raw_bytes_at w datum) m.tells.now ∙ ap (λ (w : World). raw_bytes_at w datum) s.tells.now in
         let spot_now : spot_of n.for.now.world element ≡ Some (record { list = list; row = row; place = place }) =

@@ -1,23 +1,25 @@
 -- What the reply to each question tells of the world.
-use Rattle.std.proofs.Common.{◌≡◌, ◌∙◌, ◌<◌, ◌+◌, ◌-◌, ℕ, Bool, true, false, List, [], length, Option, None, Some, nat_lt, refl, sym, ap, subst, arith}
+use Rattle.std.proofs.Common.{◌≡◌, ◌∙◌, ◌+◌, ◌-◌, ℕ, Bool, true, false, List, [], length, map, Option, None, Some, nat_lt, refl, sym, ap, arith}
 use Rattle.std.specs.Prelude.{MatchBool, MatchOption, is_some}
-use Rattle.std.specs.Option.{option_map, option_map_or, option_or}
+use Rattle.std.specs.FinMap as finite
+use Rattle.std.specs.Option.{option_map, option_or}
 use Rattle.std.proofs.lemmas.Bool.{ltb-true}
 use Rattle.run_load.specs.Asking.{AnswersByRow, addr_in, object_in, tells_bytes, value_in}
-use Rattle.run_load.specs.Listed.{list_at, load_name, load_object, raw_bytes_at}
+use Rattle.run_load.specs.Listed.{list_at, load_name, load_object}
 use Rattle.law_steps.proofs.ThingLemmas.{raw_is}
+use Rattle.sdr_base.specs.Parts.{part}
 use Rattle.sdr_base.specs.declared.refusal.Refusal.{Refusal}
 use Rattle.sdr_base.specs.declared.refusal.Refusal.TheVariants as refusals
+use Rattle.sdr_model.specs.Accounts.{ticket_blocks}
 use Rattle.sdr_model.specs.Limits.{longest_read}
-use Rattle.sdr_model.specs.ListSteps.{as_list, datum_at, element_addr}
+use Rattle.sdr_model.specs.ListSteps.{datum_at, element_addr}
 use Rattle.sdr_model.specs.Names.{name_of}
 use Rattle.sdr_model.specs.RawSteps.{length_as}
 use Rattle.sdr_model.specs.Steps.{Outcome, ReadsBytes, Refuses}
-use Rattle.sdr_model.specs.Things.{Spot, inner_among, own_block}
+use Rattle.sdr_model.specs.Things.{Spot, block_among, block_for_name, inner_among, own_block}
 use Rattle.sdr_model.specs.World.{World, as_raw, block_at, misnamed, spot_of, thing_at}
 use Rattle.sdr_model.specs.declared.answer.Reply.{Reply}
 use Rattle.sdr_model.specs.declared.answer.Reply.TheVariants as replies
-use Rattle.sdr_model.specs.declared.call.Call.{Call}
 use Rattle.sdr_model.specs.declared.call.Call.TheVariants as calls
 use Rattle.sdr_model.specs.declared.name.Name.{Name}
 use Rattle.sdr_model.specs.declared.things.SdrList.{SdrList}
@@ -78,13 +80,13 @@ module _ (w : World) (reply : Reply) where
   gives_bytes addr a = by (as_raw (thing_at w addr)) a.row
     where
       inside : (bytes : List ℕ) (b : Bool) → nat_lt (length bytes) (0 + 0) ≡ b
-          → MatchBool b (Refuses w a.outcome (refusals.OutOfBounds addr 0 0)) (ReadsBytes w a.outcome _ (replies.Bytes 0)) → tells_bytes reply ≡ true
+          → MatchBool b (Refuses w a.outcome (refusals.OutOfBounds addr 0 0)) (ReadsBytes w a.outcome (part 0 0 bytes) (replies.Bytes 0)) → tells_bytes reply ≡ true
       inside bytes true short h = absurd (omega (arith, ltb-true _ _ short))
       inside bytes false short h = ap tells_bytes (sym a.told ∙ h.2)
 
       by : (o : Option (List ℕ)) → MatchOption o (Refuses w a.outcome (misnamed w addr)) (λ bytes.
           MatchBool (nat_lt longest_read 0) (Refuses w a.outcome (refusals.BadLength 0 longest_read))
-          (MatchBool (nat_lt (length bytes) (0 + 0)) (Refuses w a.outcome (refusals.OutOfBounds addr 0 0)) (ReadsBytes w a.outcome _ (replies.Bytes 0))))
+          (MatchBool (nat_lt (length bytes) (0 + 0)) (Refuses w a.outcome (refusals.OutOfBounds addr 0 0)) (ReadsBytes w a.outcome (part 0 0 bytes) (replies.Bytes 0))))
           → tells_bytes reply ≡ is_some o
       by None h = ap tells_bytes (sym a.told ∙ h.2)
       by (Some bytes) h = inside bytes (nat_lt (length bytes) (0 + 0)) refl h
@@ -97,8 +99,13 @@ module _ (w : World) (reply : Reply) where
       (λ (b : UsedBlock). length_as b.kind b.bytes) reply a.told refl (λ b. refl) (block_at w addr) a.row
       ∙ ap (option_map (λ (b : UsedBlock). length_as b.kind b.bytes)) block ∙ ap Some all
     where
+      others : Option UsedBlock
+      others =
+          option_or (inner_among addr (finite.entries w.things))
+          (option_or (block_among addr (map block_for_name w.names)) (block_among addr (ticket_blocks w.accounts)))
+
       block : block_at w addr ≡ Some (own_block addr (things.Raw bytes))
-      block = ap (λ (o : Option Thing). option_or (option_map (own_block addr) o) (option_or _ _)) (raw_is (thing_at w addr) bytes raw)
+      block = ap (λ (o : Option Thing). option_or (option_map (own_block addr) o) others) (raw_is (thing_at w addr) bytes raw)
 
       all : 8 + length bytes - 8 ≡ length bytes
       all = omega arith

@@ -1,5 +1,5 @@
 -- The list that a load leaves in a world: the one that the name `load` finds.
-use Rattle.std.specs.Prelude.{ℕ, List, [], Option, codes, length, option_and_then, sum_by}
+use Rattle.std.specs.Prelude.{ℕ, List, [], Option, codes, length, sum_by}
 use Rattle.std.specs.Option.{option_map, option_map_or}
 use Rattle.sdr_model.specs.ListSteps.{as_list}
 use Rattle.sdr_model.specs.Names.{name_of}

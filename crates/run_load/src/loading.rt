@@ -1,13 +1,14 @@
 // A load that runs on the heap of a disk.
-ghost use Rattle.std.specs.Prelude.{◌≡◌, ◌≤◌, ◌↔◌, IfErr, IfOk, false};
+ghost use Rattle.std.specs.Prelude.{◌≡◌, ◌≤◌, ◌↔◌, IfErr, IfOk, false, filter, length, nat_le};
 ghost use Rattle.run_load.specs.Listed.{load_name};
 ghost use Rattle.run_load.specs.Loading.{LoadsOn, TellsEnd, load_daemons};
 ghost use Rattle.sdr_base.specs.Causes.{Rose};
 ghost use Rattle.sdr_load.specs.Schedule.{script_for};
-ghost use Rattle.sdr_run.specs.Handed.{handed_as};
+ghost use Rattle.sdr_run.specs.Handed.{StaysAsHanded, handed_as};
 ghost use Rattle.sdr_run.specs.Quiet.{StaysQuiet};
 ghost use Rattle.sdr_run.specs.Replaying.{IsNotRun, IsSettled};
 ghost use Rattle.sdr_station.specs.Grounded.{StandsSome};
+ghost use Rattle.sdr_words.specs.Daemons.{all_daemons};
 
 use crate::Summary;
 use crate::read_list;
@@ -43,14 +44,33 @@ pub struct Loaded<D, M> {
     pub end: LoadEnd,
 }
 
+// Whether a daemon is one of the first so many.
+fn is_among(daemon: u8, count: u8) -> bool
+    ensures { result ≡ nat_le daemon count }
+{
+    daemon <= count
+}
+
+// The first so many daemons.
+fn first_daemons(alloc: Global, count: u8) -> Result<Vec<u8>, NoMemory>
+    ensures first { IfOk result (λ daemons.
+        daemons.items ≡ filter (λ daemon. nat_le daemon count) all_daemons) }
+    ensures few { IfOk result (λ daemons. length daemons.items ≤ 16) }
+{
+    (1..17u8)
+        .filter(|daemon| is_among(*daemon, count))
+        .collect(alloc)
+}
+
 // The daemons of a load.
 fn daemons_in(alloc: Global, rounds: u64) -> Result<Vec<u8>, NoMemory>
     requires few { rounds ≤ MOST_ROUNDS }
-    ensures { IfOk result (λ daemons. daemons.items ≡ load_daemons rounds) }
+    ensures daemons { IfOk result (λ daemons. daemons.items ≡ load_daemons rounds) }
+    ensures few { IfOk result (λ daemons. length daemons.items ≤ 16) }
 {
     daemons_of_loads();
     let count = (rounds + 1).min(4) as u8;
-    (1..count + 1).collect(alloc)
+    first_daemons(alloc, count)
 }
 
 // What a load takes before it begins: its steps, its daemons, and the call that finds its list.
@@ -66,6 +86,7 @@ impl Outset {
         requires few { rounds ≤ MOST_ROUNDS }
         ensures steps { IfOk result (λ o. o.steps ≡ script_for rounds) }
         ensures daemons { IfOk result (λ o. o.daemons.items ≡ load_daemons rounds) }
+        ensures few { IfOk result (λ o. length o.daemons.items ≤ 16) }
         ensures finds { IfOk result (λ o. o.question ≡ Call.Find load_name) }
     {
         let steps = LoadSteps::new(alloc, rounds)?;
@@ -106,6 +127,33 @@ fn end_of<D: Disk, M: Media, J: HandedIn>(
     }
 }
 
+// What a load has come to that was run, by how it ended.
+fn sum_up<D: Disk, M: Media, J: HandedIn>(
+    mut ran: Ran<HandedGround<D, M, J>>,
+    question: &Call,
+) -> Loaded<D, M>
+    requires finds { question.now ≡ Call.Find load_name }
+    requires stands { ran.failed ≡ false → StandsSome ran.base }
+    ensures journal { result.journal ≡ ran.journal }
+    ensures end { TellsEnd ran result.end }
+    ensures fault { result.end ≡ LoadEnd.Unread → Rose (D.faults ran.base.heap.cells.disk)
+        (D.faults result.disk) }
+    ensures disk { result.disk ≡ ran.base.heap.cells.disk }
+    ensures media { result.media ≡ ran.base.media }
+    ensures size { D.size result.disk ≡ J.was.size }
+    ensures stays { StaysAsHanded J.was.bytes (D.bytes result.disk) ran.base.heap.cells.frame }
+    ensures seen { D.moment result.disk ≡ ran.base.moment }
+{
+    let end = end_of(&mut ran, question);
+    let (disk, media) = ran.base.into_parts();
+    Loaded {
+        journal: ran.journal,
+        disk,
+        media,
+        end,
+    }
+}
+
 // Runs a load on the heap of a disk.
 fn load_on<D: Disk, M: Media, J: HandedIn>(
     alloc: Global,
@@ -124,17 +172,18 @@ fn load_on<D: Disk, M: Media, J: HandedIn>(
         Ok(base) => base,
         Err(shut) => return Err(shut),
     };
-    let Ok(Outset { mut steps, daemons, question }) = Outset::of(alloc, rounds) else {
+    let Ok(outset) = Outset::of(alloc, rounds) else {
         return Err(shut_unrun(base));
     };
+    let Outset {
+        mut steps,
+        daemons,
+        question,
+    } = outset;
     match play_recorded::<HandedGround<D, M, J>, Brand, LoadSteps, IdleSink>(
         alloc, &daemons, &mut steps, base, &mut IdleSink::new(),
     ) {
-        Ok(mut ran) => {
-            let end = end_of(&mut ran, &question);
-            let (disk, media) = ran.base.into_parts();
-            Ok(Loaded { journal: ran.journal, disk, media, end })
-        }
+        Ok(ran) => Ok(sum_up(ran, &question)),
         Err(base) => Err(shut_unrun(base)),
     }
 }

@@ -1,5 +1,5 @@
 // The list that a load leaves, read element by element.
-ghost use Rattle.std.specs.Prelude.{◌≡◌, ◌≤◌, ◌^◌, IfOk, OnErr, false};
+ghost use Rattle.std.specs.Prelude.{◌≡◌, ◌≤◌, ◌^◌, IfOk, OnErr};
 ghost use Rattle.run_load.specs.Asking.{AsksOnly, IsAskable};
 ghost use Rattle.run_load.specs.Listed.{bytes_named, elements_at, load_name};
 ghost use Rattle.run_load.specs.Reading.{HasList};

@@ -1,5 +1,5 @@
 -- What a load answers follows from what it came to.
-use Rattle.std.proofs.Common.{◌≡◌, ◌≤◌, ◌⊎◌, ℕ, List, [], Bool, true, false, Some, refl, sym, subst, inl, inr, arith}
+use Rattle.std.proofs.Common.{◌≡◌, ◌⊎◌, ℕ, List, [], Bool, true, false, Some, refl, subst, inl, inr, arith}
 use Rattle.std.specs.Prelude.{⊤}
 use Rattle.std.specs.Io.KnownBytes.{Appends}
 use Rattle.run_load.specs.Loading.{EndsSo, LoadsOn, RunsRounds, SumsUp, load_daemons}
@@ -14,7 +14,6 @@ use Rattle.sdr_base.specs.Written.{AppendsPart}
 use Rattle.sdr_base.specs.declared.media.Media.{Ghosts as MediaGhosts}
 use Rattle.sdr_disk.specs.declared.disk.Disk.{Ghosts as DiskGhosts}
 use Rattle.sdr_log.specs.Log.{put_back_of}
-use Rattle.sdr_machine.specs.Crash.{is_sound}
 use Rattle.sdr_machine.specs.Ground.{State}
 use Rattle.sdr_model.specs.World.{World}
 use Rattle.sdr_model.specs.declared.journal.Entry.{Entry}

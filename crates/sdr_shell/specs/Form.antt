@@ -25,9 +25,13 @@ abbrev pub format_of : Option Frame → Option Form
 format_of (Some frame) = Some (forms.Format frame)
 format_of None = None
 
--- the rounds of a load, where there are from one to the most that it may have
+-- whether a load may have so many rounds: from one to the most
+abbrev pub are_rounds : ℕ → Bool
+are_rounds rounds = nat_le 1 rounds && nat_le rounds MOST_ROUNDS
+
+-- the rounds of a load, where it may have so many
 abbrev pub rounds_from : Option ℕ → Option ℕ
-rounds_from (Some rounds) = if nat_le 1 rounds && nat_le rounds MOST_ROUNDS then Some rounds else None
+rounds_from (Some rounds) = if are_rounds rounds then Some rounds else None
 rounds_from None = None
 
 -- the form `load` of so many rounds, where they are allowed

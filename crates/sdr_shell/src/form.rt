@@ -1,8 +1,8 @@
 // The forms that the words of a command line have.
-ghost use Rattle.std.specs.Prelude.{◌≡◌, ◌≤◌, IfSome};
+ghost use Rattle.std.specs.Prelude.{◌≡◌, ◌≤◌, IfSome, true};
 ghost use Rattle.std.specs.Rc.{rc_str_bytes};
 ghost use Rattle.sdr_log.specs.Frame.{IsInLimits};
-ghost use Rattle.sdr_shell.specs.Form.{asks_live, frame_from, form_of, rounds_from, OnFormat, OnLoad};
+ghost use Rattle.sdr_shell.specs.Form.{are_rounds, asks_live, frame_from, form_of, rounds_from, OnFormat, OnLoad};
 ghost use Rattle.sdr_words.specs.Words.{as_number};
 
 use sdr_load::MOST_ROUNDS;
@@ -48,13 +48,21 @@ fn frame_of(log: &[u8], heap: &[u8]) -> Option<Frame>
     }
 }
 
+// Whether a load may have so many rounds.
+fn are_rounds(rounds: u64) -> bool
+    ensures test { result ≡ are_rounds rounds }
+    ensures few { result ≡ true → rounds ≤ MOST_ROUNDS }
+{
+    rounds >= 1 && rounds <= MOST_ROUNDS
+}
+
 // The rounds that a word asks for: from 1 to the most that a load has.
 fn rounds_of(word: &[u8]) -> Option<u64>
     ensures rounds { result ≡ rounds_from (as_number word.now) }
     ensures few { IfSome result (λ rounds. rounds ≤ MOST_ROUNDS) }
 {
     let rounds = number_of(word)?;
-    if rounds >= 1 && rounds <= MOST_ROUNDS {
+    if are_rounds(rounds) {
         Some(rounds)
     } else {
         None

@@ -50,9 +50,9 @@ fn states(alloc: Global) -> Option<[Vec<u8>; 4]> {
     ])
 }
 
-// Whether what a crash leaves of a disk now is put back to the heap of one of these.
-fn is_left(alloc: Global, disk: &MemoryDisk, torn: Torn, states: &[Vec<u8>]) -> Option<bool> {
-    let image = disk.image_at(disk.now(), torn).ok()?;
+// Whether what a crash leaves of a disk now, with all that is pending on it filled, is put back to the heap of one of these.
+fn is_left(alloc: Global, disk: &MemoryDisk, states: &[Vec<u8>]) -> Option<bool> {
+    let image = disk.image_at(disk.now(), Torn::Filled(1)).ok()?;
     let mut output = MemorySink::new(alloc, Vec::new(alloc));
     let left = answered(alloc, &["replay"], image, Vec::new(alloc), b"", &mut output)?;
     let bytes = bytes_of(&left.disk)?;
@@ -67,8 +67,7 @@ fn fails_so(alloc: Global, call: u64, text: &[u8], states: &[Vec<u8>]) -> Option
     Some(
         outcome.status == DISK_FAULT
             && output.taken() == text
-            && is_left(alloc, &outcome.disk, Torn::Old, states)?
-            && is_left(alloc, &outcome.disk, Torn::Filled(1), states)?,
+            && is_left(alloc, &outcome.disk, states)?,
     )
 }
 

@@ -1,4 +1,4 @@
-use Rattle.std.proofs.Common.{arith, ◌+◌, ◌^◌, ◌*◌}
+use Rattle.std.proofs.Common.{arith}
 use Rattle.run_load.proofs.ReadingLemmas.{reads_all, reads_first, reads_next}
 use Rattle.run_load.proofs.reading.bytes_named.Goals as goal
 

@@ -1,4 +1,3 @@
-use Rattle.std.proofs.Common.{sym}
 use Rattle.run_load.proofs.AskingLemmas.{still_then}
 use Rattle.run_load.proofs.FoundLemmas.{asks_back, list_back}
 use Rattle.run_load.proofs.reading.read_list.Goals as goal
