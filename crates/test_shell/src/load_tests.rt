@@ -19,7 +19,14 @@ fn loaded(
     output: &mut MemorySink,
 ) -> Option<RunOutcome<MemoryDisk, NoMedia>> {
     let failing = vec![in alloc; call; 1].ok()?;
-    answered(alloc, &["load", rounds], formatted(alloc)?, failing, b"", output)
+    answered(
+        alloc,
+        &["load", rounds],
+        formatted(alloc)?,
+        failing,
+        b"",
+        output,
+    )
 }
 
 // How many calls of the disk an opening makes, and how many a load of two rounds makes with it, where it is done.
@@ -37,9 +44,22 @@ fn calls(alloc: Global) -> Option<(u64, u64)> {
 // The bytes of disks after no round, after round 0, and after one and two rounds more.
 fn states(alloc: Global) -> Option<[Vec<u8>; 4]> {
     let mut output = MemorySink::new(alloc, Vec::new(alloc));
-    let none = answered(alloc, &["replay"], formatted(alloc)?, Vec::new(alloc), b"", &mut output)?;
-    let first =
-        answered(alloc, &["replay"], formatted(alloc)?, Vec::new(alloc), FIRST, &mut output)?;
+    let none = answered(
+        alloc,
+        &["replay"],
+        formatted(alloc)?,
+        Vec::new(alloc),
+        b"",
+        &mut output,
+    )?;
+    let first = answered(
+        alloc,
+        &["replay"],
+        formatted(alloc)?,
+        Vec::new(alloc),
+        FIRST,
+        &mut output,
+    )?;
     let one = loaded(alloc, "1", 0, &mut output)?;
     let two = loaded(alloc, "2", 0, &mut output)?;
     Some([
@@ -76,13 +96,20 @@ fn wrong_call(alloc: Global) -> Option<(Option<u64>, u8)> {
     let (opening, all) = calls(alloc)?;
     let states = states(alloc)?;
     for call in 1..all.checked_add(1)? {
-        let text: &[u8] = if call <= opening { b"disk fault\n" } else { b"" };
+        let text: &[u8] = if call <= opening {
+            b"disk fault\n"
+        } else {
+            b""
+        };
         if !fails_so(alloc, call, text, &states)? {
             return Some((Some(call), 0));
         }
     }
     let mut output = MemorySink::new(alloc, Vec::new(alloc));
-    Some((None, loaded(alloc, "2", all.checked_add(1)?, &mut output)?.status))
+    Some((
+        None,
+        loaded(alloc, "2", all.checked_add(1)?, &mut output)?.status,
+    ))
 }
 
 #[test]
