@@ -121,12 +121,13 @@ module _ {D M : Type 0} (d : DiskGhosts D) (m : MediaGhosts M) (disk : D) (files
         (ran_opened d m disk files (script_for rounds) g condition met o was handed ran.journal ran.base result.disk
         (λ first. RunsRounds (from_to (shows files) (shows result.media)) first rounds ran.journal ran.starved
         × EndsSo (m.told files) first rounds ran.journal ran.starved result.end)
-        plays.run on size stays seen
-        (subst (λ (x : M). RunsRounds (from_to (shows x) (shows result.media)) (first_on g) rounds ran.journal ran.starved) o.with_media
-        (subst (λ (x : M). RunsRounds (from_to (shows g.media) (shows x)) (first_on g) rounds ran.journal ran.starved) (sym media_is)
-        (unprinted (from_to (shows g.media) (shows ran.base.media)) (first_on g) (script_for rounds) ran.journal ran.starved _ plays.replays)),
-        subst (λ (told : Option Told). EndsSo told (first_on g) rounds ran.journal ran.starved result.end) (ap m.told o.with_media)
-        (ends_so out out' ran result.end plays tells)));
+        plays.run on size stays seen (
+          subst (λ (x : M). RunsRounds (from_to (shows x) (shows result.media)) (first_on g) rounds ran.journal ran.starved) o.with_media
+              (subst (λ (x : M). RunsRounds (from_to (shows g.media) (shows x)) (first_on g) rounds ran.journal ran.starved) (sym media_is)
+              (unprinted (from_to (shows g.media) (shows ran.base.media)) (first_on g) (script_for rounds) ran.journal ran.starved _ plays.replays)),
+          subst (λ (told : Option Told). EndsSo told (first_on g) rounds ran.journal ran.starved result.end) (ap m.told o.with_media)
+              (ends_so out out' ran result.end plays tells),
+        ));
     cause = λ unread.
         let same : was.faults ≡ d.faults disk = ap (λ (w : HandedDisk). w.faults) handed in
         rose_later (d.faults disk) (d.faults ran.base.heap.cells.disk) (d.faults result.disk) (omega (arith, same, plays.run.counted)) (fault unread);

@@ -145,10 +145,7 @@ fn raw_length<D: Disk, M: Media, J: HandedIn>(base: &mut HandedGround<D, M, J>, 
 }
 
 /// How many bytes the raw object at an address has, 0 where there is none.
-pub fn raw_bytes<D: Disk, M: Media, J: HandedIn>(
-    base: &mut HandedGround<D, M, J>,
-    addr: u64,
-) -> u64
+pub fn raw_bytes<D: Disk, M: Media, J: HandedIn>(base: &mut HandedGround<D, M, J>, addr: u64) -> u64
     requires ready { IsAskable base.old }
     ensures bytes { (v : GroundState) → StandsInMemory base.old v →
         result ≡ raw_bytes_at v.now.world addr }

@@ -10,8 +10,7 @@ ghost use Rattle.sdr_run.specs.Replaying.{IsNotRun, IsSettled};
 ghost use Rattle.sdr_station.specs.Grounded.{StandsSome};
 ghost use Rattle.sdr_words.specs.Daemons.{all_daemons};
 
-use crate::Summary;
-use crate::read_list;
+use crate::{Summary, read_list};
 use sdr_base::{Bytes, IdleSink, Media, NoMemory};
 use sdr_disk::Disk;
 use sdr_load::{LoadSteps, MOST_ROUNDS, daemons_of_loads};
@@ -181,7 +180,11 @@ fn load_on<D: Disk, M: Media, J: HandedIn>(
         question,
     } = outset;
     match play_recorded::<HandedGround<D, M, J>, Brand, LoadSteps, IdleSink>(
-        alloc, &daemons, &mut steps, base, &mut IdleSink::new(),
+        alloc,
+        &daemons,
+        &mut steps,
+        base,
+        &mut IdleSink::new(),
     ) {
         Ok(ran) => Ok(sum_up(ran, &question)),
         Err(base) => Err(shut_unrun(base)),

@@ -24,6 +24,7 @@ use Rattle.sdr_shell.specs.Shutting.{line_shut, status_shut}
 use Rattle.sdr_shell.specs.Loading.{AnswersLoad, HadLoad, IsWholeLoad, LoadComesTo, TellsLoad}
 use Rattle.sdr_shell.specs.declared.status.TheConstants.{DONE, USAGE, OUTPUT_FAULT, NOT_FORMATTED, DAMAGED, NO_MEMORY}
 use Rattle.sdr_stands.specs.Standing.{StandsForWhole}
+use Rattle.sdr_station.specs.Opening.{first_on}
 use Rattle.sdr_station.specs.declared.error.OpenError.{OpenError}
 use Rattle.sdr_station.specs.declared.error.OpenError.TheVariants as errors
 
@@ -37,7 +38,10 @@ module _ {D M : Type 0} (d : DiskGhosts D) (m : MediaGhosts M) (rounds : ℕ) (d
       ground = ran.ground;
       with_media = ran.with_media;
       open_so = ran.open_so;
-      runs = (subst (λ (b : Bool). RunsRounds (change_of m files files') _ rounds journal b) is ran.runs.0, more _ ran.runs.1);
+      runs = (
+        subst (λ (b : Bool). RunsRounds (change_of m files files') (first_on ran.ground) rounds journal b) is ran.runs.0,
+        more (first_on ran.ground) ran.runs.1,
+      );
       legal = ran.legal;
       leaves = ran.leaves;
     };

@@ -1,5 +1,5 @@
 // A load on the heap of the disk, and what is said of it.
-ghost use Rattle.std.specs.Prelude.{◌≡◌, ◌≤◌};
+ghost use Rattle.std.specs.Prelude.{◌≤◌};
 ghost use Rattle.sdr_core.specs.Caused.{HaveFailed, media_change};
 ghost use Rattle.sdr_load.specs.declared.round.TheConstants.{MOST_ROUNDS};
 ghost use Rattle.sdr_log.specs.Calls.{KeepsDisk};
