@@ -69,15 +69,12 @@ module _ {D : Type 0} (bytes : D → List ℕ) (tells : D → Bool) (moment : D 
   }
 
   -- it failed behind reads
-  pub failed_behind : (f : Frame) (old mid new : D) → Reads bytes tells moment may_hold_after old mid →
-      MayPutBack f (bytes new) (may_hold_after new (moment new))
-      ⊎ FailsAtGate moment may_hold_after mid new (bytes mid) (bytes new) →
-      MayPutBack f (bytes new) (may_hold_after new (moment new))
-      ⊎ FailsAtGate moment may_hold_after old new (bytes old) (bytes new)
-  failed_behind f old mid new reads (inl may) = inl may
-  failed_behind f old mid new reads (inr at_gate) =
+  pub gate_later : (old mid new : D) → Reads bytes tells moment may_hold_after old mid →
+      FailsAtGate moment may_hold_after mid new (bytes mid) (bytes new) →
+      FailsAtGate moment may_hold_after old new (bytes old) (bytes new)
+  gate_later old mid new reads at_gate =
       let here = subst (λ (x : List ℕ). FailsAtGate moment may_hold_after mid new x (bytes new)) reads.same at_gate in
-      inr record {
+      record {
         frame = here.frame;
         records = here.records;
         logs = here.logs;
@@ -85,6 +82,14 @@ module _ {D : Type 0} (bytes : D → List ℕ) (tells : D → Bool) (moment : D 
         late = omega (arith, reads.time, here.late);
         gate = here.gate;
       }
+
+  pub failed_behind : (f : Frame) (old mid new : D) → Reads bytes tells moment may_hold_after old mid →
+      MayPutBack f (bytes new) (may_hold_after new (moment new))
+      ⊎ FailsAtGate moment may_hold_after mid new (bytes mid) (bytes new) →
+      MayPutBack f (bytes new) (may_hold_after new (moment new))
+      ⊎ FailsAtGate moment may_hold_after old new (bytes old) (bytes new)
+  failed_behind f old mid new reads (inl may) = inl may
+  failed_behind f old mid new reads (inr at_gate) = inr (gate_later old mid new reads at_gate)
 
   -- it failed in reads alone
   pub reads_failed : (f : Frame) (old new : D) → Reads bytes tells moment may_hold_after old new →

@@ -99,9 +99,3 @@ returns-clause-rest g c told m =
     let some : 0 < length c.as_slice.result.now =
     omega (arith, c.len.ensures, c.if-len-eq0.false, ap length c.as_slice.ensures) in
     c.in_ok-restore.ensures.rest (reads.tells ∙ told) l (reads_open reads _ m _ l some)
-
-pub returns-clause-back : goal.returns-clause-back
-returns-clause-back g c =
-    let reads = c.read_records.ensures.reads in
-    let l = logs_behind _ _ _ _ (sym reads.same) (sym c.as_slice.ensures) c.in_ok-records.ensures.logs in
-    back_behind _ _ _ _ _ _ reads.same (ap length c.as_slice.ensures ∙ sym c.len-2.ensures) (c.in_ok-restore.ensures.back l)
