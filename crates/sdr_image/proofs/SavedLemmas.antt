@@ -167,8 +167,6 @@ Saves-from {D = D} bytes_of tells moment may_hold_after old new disk f bytes old
           (subst (λ (b : List ℕ). HasChanged old.frame olds b (bytes_of disk) y) bytes_is
           (subst (λ (k : Frame). HasChanged k olds bytes (bytes_of disk) y) f_is (written some))));
       back = bytes_back f bytes (bytes_of new.disk) holds ∙ ap Some bytes_is;
-      holds = subst (λ (b : List ℕ). HasBytes old.frame b (bytes_of new.disk)) bytes_is
-          (subst (λ (k : Frame). HasBytes k bytes (bytes_of new.disk)) f_is holds);
       rests = rests;
     }
 

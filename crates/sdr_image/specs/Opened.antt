@@ -60,6 +60,10 @@ pub record HasBytes (f : Frame) (bytes disk : List ℕ) : Type 0 where
   pub gate : first_gate disk ≡ 0
   pub heap : heap_of f disk ≡ bytes
 
+-- unless it has failed, the disk of an image has the bytes at begin in its heap region, and no batch is open
+abbrev pub Holds : {D : Type 0} → (D → List ℕ) → Opened D → Type 0
+Holds bytes i = i.failed ≡ false → HasBytes i.frame i.begun (bytes i.disk)
+
 -- the disk is at rest, with this heap in its heap region
 pub record HoldsHeap (f : Frame) (bytes disk : List ℕ) (left : List ℕ → Type 0) : Type 0 where
   pub rest : IsAtRest f disk left

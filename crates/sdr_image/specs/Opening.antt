@@ -14,7 +14,7 @@ use Rattle.sdr_log.specs.declared.frame.Frame.{Frame}
 use Rattle.sdr_image.specs.declared.error.ImageError.{ImageError}
 use Rattle.sdr_image.specs.declared.error.ImageError.TheVariants as errors
 use Rattle.sdr_image.specs.declared.error.ImageShut.{ImageShut}
-use Rattle.sdr_image.specs.Opened.{HasBytes, Opened, Rests}
+use Rattle.sdr_image.specs.Opened.{Opened, Rests}
 use Rattle.sdr_image.specs.Undo.{Olds}
 
 -- what holds where the disk isn't formatted
@@ -59,15 +59,14 @@ FailsOpening bytes tells moment may_hold_after old new =
     → MayBeOpened (bytes new) (may_hold_after new (moment new))
     ⊎ FailsAtGate moment may_hold_after old new (bytes old) (bytes new))
 
--- An image that was just opened. The bytes are those of the heap that the disk gives; the open batches are put back, and
--- the bytes stand in the heap region; nothing is touched, and no transaction is open. The disk rests, where it may be opened.
+-- An image that was just opened. The bytes are those of the heap that the disk gives; the open batches are put back;
+-- nothing is touched, and no transaction is open. The disk rests, where it may be opened.
 pub record IsOpened {D : Type 0} (bytes : D → List ℕ) (tells : D → Bool) (moment : D → ℕ)
     (may_hold_after : D → ℕ → List ℕ → Type 0) (disk : D) (i : Opened D) : Type 0 where
   pub limits : IsInLimits i.frame
   pub head : frame_of (part 0 LINE (bytes disk)) ≡ Some i.frame
   pub heap : put_back_of (bytes disk) ≡ Some i.bytes
   pub back : PutsBack i.frame i.restored (bytes disk) (bytes i.disk)
-  pub holds : HasBytes i.frame i.bytes (bytes i.disk)
   pub rests : IfTells (tells disk) (MayBeOpened (bytes disk) (may_hold_after disk (moment disk))) →
       Rests bytes tells moment may_hold_after i
   pub begun : i.begun ≡ i.bytes

@@ -8,7 +8,7 @@ use Rattle.sdr_log.specs.Log.{AreLines, are_good, put_back_of}
 use Rattle.sdr_log.specs.declared.frame.Frame.{Frame}
 use Rattle.sdr_log.specs.declared.record.Record.{Record}
 use Rattle.sdr_image.specs.Changed.{HasChanged, lines_in}
-use Rattle.sdr_image.specs.Opened.{HasBytes, Opened, Rests}
+use Rattle.sdr_image.specs.Opened.{Opened, Rests}
 
 -- so many old lines have room, so many new ones, and their batch in so many bytes
 pub record HasMemory (room olds news batch : ℕ) : Type 0 where
@@ -31,7 +31,6 @@ pub record Saves {D : Type 0} (bytes : D → List ℕ) (tells : D → Bool) (mom
   pub written : old.touched ≢ [] →
       HasChanged old.frame (lines_in old.begun old.touched) old.bytes (bytes old.disk) (bytes new.disk)
   pub back : put_back_of (bytes new.disk) ≡ Some old.bytes
-  pub holds : HasBytes old.frame old.bytes (bytes new.disk)
   pub rests : old.touched ≢ [] → Rests bytes tells moment may_hold_after new
 
 -- how many writes and syncs the end of a transaction that touched so many lines makes at most: one for each and seven

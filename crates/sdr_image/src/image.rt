@@ -14,7 +14,7 @@ ghost use Rattle.sdr_log.specs.Left.{IsLeftFrom};
 ghost use Rattle.sdr_log.specs.Log.{first_gate, put_back_of};
 ghost use Rattle.sdr_log.specs.Logged.{GivesHeap, GivesSame};
 ghost use Rattle.sdr_image.specs.Changed.{GivesEither};
-ghost use Rattle.sdr_image.specs.Opened.{HasBytes, KeepsBegun, LeavesHeap, Rests, StaysAt};
+ghost use Rattle.sdr_image.specs.Opened.{Holds, KeepsBegun, LeavesHeap, Rests, StaysAt};
 ghost use Rattle.sdr_image.specs.Opened.{transaction_of};
 ghost use Rattle.sdr_image.specs.Opening.{MayBeOpened, OnNotFormatted, UnlessFault};
 ghost use Rattle.sdr_image.specs.Saved.{Saves, calls_of};
@@ -232,8 +232,6 @@ impl<D: Disk> Image<D> {
           is_open = false;
         }) }
         ensures back { OnOk result (GivesHeap self.old.begun (D.bytes self.new.disk)) }
-        ensures holds { OnOk result
-            (HasBytes self.old.frame self.old.begun (D.bytes self.new.disk)) }
         ensures rests { Rests D.bytes D.tells_crashes D.moment D.may_hold_after self.old
             → Rests D.bytes D.tells_crashes D.moment D.may_hold_after self.new }
 
@@ -351,6 +349,7 @@ impl<D: Disk> Image<D> {
     /// The disk. What was not committed is lost.
     pub fn into_disk(self) -> D
         ensures disk { result ≡ self.disk }
+        ensures holds { Holds D.bytes self }
         ensures leaves { self.failed ≡ false
             → Rests D.bytes D.tells_crashes D.moment D.may_hold_after self
             → LeavesHeap D.tells_crashes D.moment D.may_hold_after self.begun result }

@@ -4,7 +4,7 @@ use Rattle.sdr_disk.specs.Tells.{IfTells}
 use Rattle.sdr_log.specs.Log.{put_records}
 use Rattle.sdr_log.specs.declared.record.Record.{Record}
 use Rattle.sdr_log.specs.Logged.{GivesHeap}
-use Rattle.sdr_image.specs.Opened.{HasBytes, Opened}
+use Rattle.sdr_image.specs.Opened.{Opened}
 use Rattle.sdr_image.proofs.ImageLemmas.{IsImage-cancel}
 use Rattle.sdr_image.proofs.OpenedLemmas.{image_back, rests_now}
 use Rattle.sdr_image.proofs.image.Image.cancel.Goals as goal
@@ -21,12 +21,6 @@ returns-clause-back g c =
     subst (λ (heap : List ℕ). GivesHeap heap (g.D.Disk.bytes c.self.inside.disk))
     (ap (λ (v : Opened g.row.D.Denot). v.begun) c.self.view_is)
     (image_back _ _ _ _ _ _ _ c.self.invariant c.if-self.false)
-
-pub returns-clause-holds : goal.returns-clause-holds
-returns-clause-holds g c =
-    let old = c.self.inside in
-    subst (λ (v : Opened g.row.D.Denot). HasBytes v.frame v.begun (g.D.Disk.bytes old.disk)) c.self.view_is
-    (c.self.invariant.disk c.if-self.false)
 
 pub returns-clause-any_moment : goal.returns-clause-any_moment
 returns-clause-any_moment g c sound rests =

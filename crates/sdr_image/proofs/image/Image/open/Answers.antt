@@ -16,7 +16,6 @@ returns-in-Ok-clause-opened g c =
       head = e.found.head;
       heap = opened_heap loaded.frame loaded.restored loaded.bytes _ _ e.back e.bytes;
       back = e.back;
-      holds = e.bytes;
       rests = λ may sound told.
           let before = sym e.disk.tells ∙ told in
           subst (λ (heap : List ℕ). HoldsHeap loaded.frame heap (g.D.Disk.bytes c.load.new.disk)
