@@ -37,8 +37,7 @@ pub record AnswersForm {D M S K : Type 0} (d : DiskGhosts D) (m : MediaGhosts M)
   -- `format` reads no input, and answers by what it leaves on the disk
   pub format :
       OnFormat form (λ frame. (input' ≡ input)
-      × AnswersFormat result.status frame (d.size disk) (seen d.bytes d.faults disk) (seen d.bytes d.faults result.disk)
-      (seen k.taken k.faults output) (seen k.taken k.faults output'))
+      × AnswersFormat d result.status frame disk result.disk (seen k.taken k.faults output) (seen k.taken k.faults output'))
   -- on a disk that was formatted nothing is left to be synced
   pub synced : OnFormat form (λ _. HasFormatted result.status → IsSynced d.bytes d.moment d.may_hold_after result.disk)
   -- no count of faults falls, and the input is read so often at most
@@ -73,8 +72,8 @@ pub record AnswersForm {D M S K : Type 0} (d : DiskGhosts D) (m : MediaGhosts M)
   pub unread : (form ≢ Some forms.Dry) → (form ≢ Some forms.Replay) → is_live form ≡ false → result.media ≡ files
   -- by these statuses the disk is as it was, where the words ask for no heap to be opened
   pub same : opens_heap form ≡ false → LeavesDisk result.status → result.disk ≡ disk
-  -- the disk tells its bytes as before, and keeps its size
-  pub told : (is_some (d.bytes result.disk) ≡ is_some (d.bytes disk)) × (d.size result.disk ≡ d.size disk)
+  -- the disk is as long, and tells what a crash may leave if it did
+  pub keeps : KeepsDisk d.bytes d.tells_crashes disk result.disk
 
 -- What `top` answers to the words: by the form that they are.
 abbrev pub AnswersWords : {D M S K : Type 0} → DiskGhosts D → MediaGhosts M → SourceGhosts S → SinkGhosts K → List (RcStr Global) → D → M → S → S → K → K
