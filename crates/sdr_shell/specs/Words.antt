@@ -1,5 +1,5 @@
 -- What the public calls answer to the words of a command line.
-use Rattle.std.specs.Prelude.{◌≡◌, ◌≢◌, ◌≤◌, ◌+◌, ◌↔◌, Bool, IfSome, List, [], Option, None, Some, codes, false, is_some, length}
+use Rattle.std.specs.Prelude.{◌≡◌, ◌≢◌, ◌≤◌, ◌+◌, ◌↔◌, Bool, IfSome, List, [], Option, None, Some, codes, false, length}
 use Rattle.std.specs.declared.alloc.Global.{Global}
 use Rattle.std.specs.declared.rc.RcStr.{RcStr}
 use Rattle.sdr_base.specs.declared.media.Media.{Ghosts as MediaGhosts}
@@ -7,6 +7,7 @@ use Rattle.sdr_base.specs.declared.sink.Sink.{Ghosts as SinkGhosts}
 use Rattle.sdr_base.specs.declared.source.Source.{Ghosts as SourceGhosts}
 use Rattle.sdr_disk.specs.Pending.{IsSynced}
 use Rattle.sdr_disk.specs.declared.disk.Disk.{Ghosts as DiskGhosts}
+use Rattle.sdr_log.specs.Calls.{KeepsDisk}
 use Rattle.sdr_shell.specs.Answers.{AnswersDry, AnswersFormat, Wrote, seen}
 use Rattle.sdr_shell.specs.Form.{OnFormat, form_of, is_live, live_form, opens_heap, still_form}
 use Rattle.sdr_shell.specs.Inspecting.{AnswersInspect}
@@ -39,7 +40,7 @@ pub record AnswersForm {D M S K : Type 0} (d : DiskGhosts D) (m : MediaGhosts M)
       OnFormat form (λ frame. (input' ≡ input)
       × AnswersFormat d result.status frame disk result.disk (seen k.taken k.faults output) (seen k.taken k.faults output'))
   -- on a disk that was formatted nothing is left to be synced
-  pub synced : OnFormat form (λ _. HasFormatted result.status → IsSynced d.bytes d.moment d.may_hold_after result.disk)
+  pub synced : OnFormat form (λ _. HasFormatted result.status → IsSynced d.bytes d.tells_crashes d.moment d.may_hold_after result.disk)
   -- no count of faults falls, and the input is read so often at most
   pub counts :
       (s.faults input ≤ s.faults input') × (k.faults output ≤ k.faults output') × (d.faults disk ≤ d.faults result.disk)

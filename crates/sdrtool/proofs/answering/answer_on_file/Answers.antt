@@ -6,4 +6,4 @@ pub returns-in-Err : goal.returns-in-Err
 returns-in-Err g c = inl (record { status_is = refl; unread = refl; unprinted = refl })
 
 pub returns : goal.returns
-returns g c = inr (status_of _ c.answer-status.ensures tt)
+returns g c = inr (inr (status_of _ c.answer-status.ensures tt))
