@@ -19,7 +19,8 @@
 //!
 //! Only tested: that words are tried before a file is opened, that `dry` and a refused script open none, what standard error
 //! says, and each of the descriptors 0 to 2 closed, with each form (`tests/starters`); the program on files (`tests/run`),
-//! power loss after each write of a replay (`tests/crash`), a fault at each call on media (`tests/faults`).
+//! power loss after each write of a replay (`tests/crash`), a fault at each call on media (`tests/faults`), and on the file
+//! that is the disk (`tests/files`).
 #![tactic(auto)]
 
 ghost use Rattle.std.specs.Process.{exit_status};
