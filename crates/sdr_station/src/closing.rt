@@ -2,7 +2,7 @@
 ghost use Rattle.std.specs.Prelude.{◌≡◌, ◌≤◌, false, OnErr, OnOk};
 ghost use Rattle.sdr_base.specs.Transaction.{HasReason, IfRefused};
 ghost use Rattle.sdr_disk.specs.Moments.{AtEach};
-ghost use Rattle.sdr_disk.specs.Told.{Both, IfTold};
+ghost use Rattle.sdr_disk.specs.Tells.{IfTells};
 ghost use Rattle.sdr_image.specs.Changed.{GivesEither};
 ghost use Rattle.sdr_image.specs.Opened.{Rests, StaysAt, transaction_of};
 ghost use Rattle.sdr_log.specs.Calls.{KeepsDisk, KeepsOutside};
