@@ -19,8 +19,8 @@ impl HandedIn for Brand {
     ghost condition = { ⊤ };
 }
 
-/// A disk that tells what a crash may leave if it did as it was handed in. Whatever is made of it, this
-/// stays.
+/// A disk that tells what a crash may leave if it did as it was handed in. Whatever is made of it,
+/// this stays.
 pub struct Handed<D: Disk, J: HandedIn> {
     disk: D,
     of: PhantomData<J>,

@@ -87,7 +87,8 @@ impl<D: Disk, M: Media, F: Notify + Drop> HasGround for HeapGround<D, M, F> {
     ghost use Rattle.sdr_station.specs.Grounded as grounded;
     ghost use Rattle.sdr_station.specs.CrashNow as laws;
 
-    ghost stands = { λ g v. grounded.StandsForBoth D.bytes D.tells_crashes D.moment D.may_hold_after g v };
+    ghost stands = { λ g v.
+        grounded.StandsForBoth D.bytes D.tells_crashes D.moment D.may_hold_after g v };
 
     ghost moment = { λ g. g.moment };
 
@@ -107,7 +108,8 @@ impl<D: Disk, M: Media, F: Notify + Drop> HasGround for HeapGround<D, M, F> {
 
     ghost idle = { λ g. grounded.HasNoCalls g };
 
-    ghost left = { λ g m image. grounded.Leaves D.tells_crashes D.may_hold_after g.heap.cells.disk m image };
+    ghost left = { λ g m image.
+        grounded.Leaves D.tells_crashes D.may_hold_after g.heap.cells.disk m image };
 
     ghost opens = { λ image s. grounded.OpensAs image s };
 

@@ -218,7 +218,8 @@ impl OpenFile for BrokenFile {
     }
 }
 
-/// A file of as many bytes `s` as are read, to which nothing can be written, and that can't be synced.
+/// A file of as many bytes `s` as are read, to which nothing can be written, and that can't be
+/// synced.
 #[derive(Drop)]
 struct StoneFile;
 
