@@ -41,10 +41,13 @@ module _ {D : Type 0} (bytes : D → List ℕ) (tells : D → Bool) (moment : D 
         IsLogged f (bytes new) (may_hold_after new (moment new))
         ⊎ ((moment old + 2 < moment new) × PendsAtGate (bytes old) (bytes new) (may_hold_after new (moment new)))
     gate_failed (inl later) l =
-        inr (omega (arith, rises, later), record {
-          read = subst (λ (z : List ℕ). Agrees (range 64 1 ∷ []) z (bytes new)) same others;
-          pending = gate_pending;
-        })
+        inr (
+          omega (arith, rises, later),
+          record {
+            read = subst (λ (z : List ℕ). Agrees (range 64 1 ∷ []) z (bytes new)) same others;
+            pending = gate_pending;
+          },
+        )
     gate_failed (inr reads) l =
         inl (subst (λ (z : List ℕ). IsLogged f z (may_hold_after new (moment new))) (sym same ∙ sym reads.same)
         (logged_none f (bytes old) _ (may_hold_after new (moment new)) l
