@@ -2,6 +2,7 @@
 ghost use Rattle.std.specs.Prelude.{◌≡◌, ◌≤◌, ◌+◌, ◌/◌, length, IfErr, OnOk};
 ghost use Rattle.sdr_base.specs.Moves.{KeepsSome};
 ghost use Rattle.sdr_base.specs.Objects.{OnlyShort, OnlyUnmoved};
+ghost use Rattle.sdr_base.specs.Transaction.{LeavesTouched};
 ghost use Rattle.sdr_base.specs.Works.{Spends};
 ghost use Rattle.sdr_hash.specs.Calls.{ChangeStops, InsertsKey, InsertStops, RemovesKey, RevisesKey};
 ghost use Rattle.sdr_hash.specs.Changes.{AddsFirst, SomePlace, TakesOut};
@@ -22,6 +23,7 @@ pub fn insert<O: Objects>(o: &mut O, hash: Addr, key: &[u8], value: u64) -> Resu
     ensures inserted { OnOk result
         (InsertsKey hash key.now value (O.heap o.old) (O.heap o.new)) }
     ensures refused { IfErr result (InsertStops hash key.now (O.heap o.old) (O.heap o.new)) }
+    ensures untouched { IfErr result (LeavesTouched (O.transaction o.old) (O.transaction o.new)) }
     ensures works { Spends O.HasHeap
         (30 + (KEY_FROM + length key.now) / 32) o.old o.new result }
 {
@@ -60,6 +62,7 @@ pub fn revise<O: Objects>(o: &mut O, hash: Addr, key: &[u8], value: u64) -> Resu
     ensures revised { OnOk result
         (RevisesKey hash key.now value (O.heap o.old) (O.heap o.new)) }
     ensures refused { IfErr result (ChangeStops hash key.now (O.heap o.old) (O.heap o.new)) }
+    ensures untouched { IfErr result (LeavesTouched (O.transaction o.old) (O.transaction o.new)) }
     ensures works { Spends O.HasHeap 2 o.old o.new result }
 {
     let (_, place) = locate(o, hash, key)?;
@@ -73,6 +76,7 @@ pub fn remove<O: Objects>(o: &mut O, hash: Addr, key: &[u8]) -> Result<(), Stop>
     requires hash { IsHash (O.heap o.old).blocks hash }
     ensures removed { OnOk result (RemovesKey hash key.now (O.heap o.old) (O.heap o.new)) }
     ensures refused { IfErr result (ChangeStops hash key.now (O.heap o.old) (O.heap o.new)) }
+    ensures untouched { IfErr result (LeavesTouched (O.transaction o.old) (O.transaction o.new)) }
     ensures works { Spends O.HasHeap 28 o.old o.new result }
 {
     let (front, place) = locate(o, hash, key)?;

@@ -4,6 +4,7 @@ ghost use Rattle.sdr_base.specs.Blocks.{UsesRange};
 ghost use Rattle.sdr_base.specs.Moves.{KeepsSome};
 ghost use Rattle.sdr_base.specs.Objects.{OnlyUnmoved, with_given};
 ghost use Rattle.sdr_base.specs.Words.{HasWord};
+ghost use Rattle.sdr_base.specs.Transaction.{LeavesTouched};
 ghost use Rattle.sdr_base.specs.Works.{Spends};
 ghost use Rattle.sdr_hash.specs.Destroying.{DestroysHash, DestroyStops, entries_in};
 ghost use Rattle.sdr_hash.specs.Giving.{GivesBucket, GiveStops, SomeOpened, given};
@@ -22,6 +23,7 @@ pub fn destroy<O: Objects>(o: &mut O, hash: Addr) -> Result<(), Stop>
     requires hash { IsHash (O.heap o.old).blocks hash }
     ensures destroyed { OnOk result (DestroysHash hash (O.heap o.old) (O.heap o.new)) }
     ensures refused { IfErr result (DestroyStops hash (O.heap o.old) (O.heap o.new)) }
+    ensures untouched { IfErr result (LeavesTouched (O.transaction o.old) (O.transaction o.new)) }
     ensures works { Spends O.HasHeap
         (24 * (entries_in ((O.heap o.old).blocks hash) + 1)) o.old o.new result }
 {
@@ -45,6 +47,7 @@ fn give_bucket<O: Objects>(o: &mut O, front: Link, most: u64) -> Result<u64, Sto
     requires bucket { SomeOpened (O.heap o.old).blocks front most }
     ensures given { IfOk result (GivesBucket (O.heap o.old) (O.heap o.new) front most) }
     ensures refused { IfErr result (GiveStops front most (O.heap o.old) (O.heap o.new)) }
+    ensures untouched { IfErr result (LeavesTouched (O.transaction o.old) (O.transaction o.new)) }
     ensures works { Spends O.HasHeap (24 * given most result) o.old o.new result }
 {
     let mut entry = word(o, front.addr, front.field)?;

@@ -3,6 +3,7 @@ ghost use Rattle.std.specs.Prelude.{◌≡◌, ◌+◌, ◌/◌, ◌≤◌, ◌<
 ghost use Rattle.sdr_base.specs.Blocks.{IsKind};
 ghost use Rattle.sdr_base.specs.Moves.{KeepsSome};
 ghost use Rattle.sdr_base.specs.Objects.{with_mark};
+ghost use Rattle.sdr_base.specs.Transaction.{LeavesTouched};
 ghost use Rattle.sdr_base.specs.Works.{Looks, Spends};
 ghost use Rattle.sdr_base.specs.declared.layout.raw.TheConstants.{BYTES};
 ghost use Rattle.sdr_heap.specs.Raw.{HasTold, IsMissing, HasSourceWord};
@@ -21,6 +22,7 @@ pub fn malloc<O: Objects>(o: &mut O, bytes: u64) -> Result<Addr, Stop>
     requires spare { 1 ≤ (O.heap o.old).spare }
     ensures made { IfOk result (λ addr. MakesRaw bytes addr (O.heap o.old) (O.heap o.new)) }
     ensures refused { IfErr result (MallocStops bytes (O.heap o.old) (O.heap o.new)) }
+    ensures untouched { IfErr result (LeavesTouched (O.transaction o.old) (O.transaction o.new)) }
     ensures works { Spends O.HasHeap (24 + (BYTES + bytes) / 64) o.old o.new result }
 {
     check_failed(o)?;
@@ -42,6 +44,7 @@ pub fn free<O: Objects>(o: &mut O, addr: Addr) -> Result<(), Stop>
     requires raw { IsRaw (O.heap o.old).blocks addr }
     ensures given { OnOk result (Frees addr (O.heap o.old) (O.heap o.new)) }
     ensures refused { IfErr result (FreeStops addr (O.heap o.old) (O.heap o.new)) }
+    ensures untouched { IfErr result (LeavesTouched (O.transaction o.old) (O.transaction o.new)) }
     ensures works { Spends O.HasHeap 24 o.old o.new result }
 {
     match o.kind(addr)? {
@@ -63,6 +66,7 @@ fn free_raw<O: Objects>(o: &mut O, addr: Addr) -> Result<(), Stop>
     requires kind { IsKind ((O.heap o.old).blocks addr) Kind.Raw }
     ensures given { OnOk result (Frees addr (O.heap o.old) (O.heap o.new)) }
     ensures refused { IfErr result (FreeStops addr (O.heap o.old) (O.heap o.new)) }
+    ensures untouched { IfErr result (LeavesTouched (O.transaction o.old) (O.transaction o.new)) }
     ensures works { Spends O.HasHeap 24 o.old o.new result }
 {
     expect_unnamed(o, addr)?;
@@ -141,6 +145,7 @@ pub fn write<O: Objects>(o: &mut O, addr: Addr, place: u64, from: &[u8]) -> Resu
         (WritesRaw addr place from.now (O.heap o.old) (O.heap o.new)) }
     ensures refused { IfErr result (WriteStops ((O.heap o.old).blocks addr) addr place
         (length from.now) (O.heap o.old) (O.heap o.new)) }
+    ensures untouched { IfErr result (LeavesTouched (O.transaction o.old) (O.transaction o.new)) }
     ensures works { Spends O.HasHeap (2 + length from.now / 64) o.old o.new result }
 {
     let have = expect_kind(o, addr, Kind::Raw)?;

@@ -4,6 +4,7 @@ ghost use Rattle.sdr_base.specs.Blocks.{UsesRange};
 ghost use Rattle.sdr_base.specs.Moves.{KeepsSome};
 ghost use Rattle.sdr_base.specs.Objects.{OnlyUnmoved, with_given};
 ghost use Rattle.sdr_base.specs.Words.{HasWord};
+ghost use Rattle.sdr_base.specs.Transaction.{LeavesTouched};
 ghost use Rattle.sdr_base.specs.Works.{Spends};
 ghost use Rattle.sdr_list.specs.Destroying.{DestroysList, DestroyStops};
 ghost use Rattle.sdr_list.specs.Giving.{GivesChain, GiveStops, SomeChain};
@@ -21,6 +22,7 @@ pub fn destroy<O: Objects>(o: &mut O, list: Addr) -> Result<(), Stop>
     requires list { IsList (O.heap o.old).blocks list }
     ensures destroyed { OnOk result (DestroysList list (O.heap o.old) (O.heap o.new)) }
     ensures refused { IfErr result (DestroyStops list (O.heap o.old) (O.heap o.new)) }
+    ensures untouched { IfErr result (LeavesTouched (O.transaction o.old) (O.transaction o.new)) }
     ensures works { Spends O.HasHeap
         (24 * (elements_in ((O.heap o.old).blocks list) + 1)) o.old o.new result }
 {
@@ -52,6 +54,7 @@ fn give_chain<O: Objects>(o: &mut O, first: Addr, count: u64) -> Result<(), Stop
     requires chain { SomeChain (O.heap o.old).blocks first count }
     ensures given { OnOk result (GivesChain (O.heap o.old) (O.heap o.new) first count) }
     ensures refused { IfErr result (GiveStops first count (O.heap o.old) (O.heap o.new)) }
+    ensures untouched { IfErr result (LeavesTouched (O.transaction o.old) (O.transaction o.new)) }
     ensures works { Spends O.HasHeap (24 * count) o.old o.new result }
 {
     check_failed(o)?;

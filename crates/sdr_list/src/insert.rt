@@ -3,6 +3,7 @@ ghost use Rattle.std.specs.Prelude.{◌≡◌, ◌+◌, ◌≤◌, [], ◌∷◌
 ghost use Rattle.sdr_base.specs.Making.{Made};
 ghost use Rattle.sdr_base.specs.Moves.{KeepsSome};
 ghost use Rattle.sdr_base.specs.Objects.{OnlyShort};
+ghost use Rattle.sdr_base.specs.Transaction.{LeavesTouched};
 ghost use Rattle.sdr_base.specs.Works.{Spends};
 ghost use Rattle.sdr_base.specs.declared.kind.Kind.TheVariants as kinds;
 ghost use Rattle.sdr_base.specs.declared.moves.Move.TheVariants.{Took};
@@ -23,6 +24,7 @@ pub fn insert_first<O: Objects>(o: &mut O, list: Addr, datum: u64) -> Result<Add
     ensures inserted { IfOk result (λ addr.
         InsertsInList list (λ row. 0) datum addr (O.heap o.old) (O.heap o.new)) }
     ensures refused { IfErr result (InsertStops kinds.List list (O.heap o.old) (O.heap o.new)) }
+    ensures untouched { IfErr result (LeavesTouched (O.transaction o.old) (O.transaction o.new)) }
     ensures works { Spends O.HasHeap 35 o.old o.new result }
 {
     let first = list_word(o, list, words::FIRST)?;
@@ -37,6 +39,7 @@ pub fn insert_last<O: Objects>(o: &mut O, list: Addr, datum: u64) -> Result<Addr
     ensures inserted { IfOk result (λ addr. InsertsInList list
         (λ row. length row.elements) datum addr (O.heap o.old) (O.heap o.new)) }
     ensures refused { IfErr result (InsertStops kinds.List list (O.heap o.old) (O.heap o.new)) }
+    ensures untouched { IfErr result (LeavesTouched (O.transaction o.old) (O.transaction o.new)) }
     ensures works { Spends O.HasHeap 35 o.old o.new result }
 {
     let last = list_word(o, list, words::LAST)?;
@@ -52,6 +55,7 @@ pub fn insert_before<O: Objects>(o: &mut O, element: Addr, datum: u64) -> Result
         InsertsBeside element (λ place. place) datum addr (O.heap o.old) (O.heap o.new)) }
     ensures refused { IfErr result
         (InsertStops kinds.Element element (O.heap o.old) (O.heap o.new)) }
+    ensures untouched { IfErr result (LeavesTouched (O.transaction o.old) (O.transaction o.new)) }
     ensures works { Spends O.HasHeap 35 o.old o.new result }
 {
     let list = element_word(o, element, element_words::LIST)?;
@@ -68,6 +72,7 @@ pub fn insert_after<O: Objects>(o: &mut O, element: Addr, datum: u64) -> Result<
         InsertsBeside element (λ place. place + 1) datum addr (O.heap o.old) (O.heap o.new)) }
     ensures refused { IfErr result
         (InsertStops kinds.Element element (O.heap o.old) (O.heap o.new)) }
+    ensures untouched { IfErr result (LeavesTouched (O.transaction o.old) (O.transaction o.new)) }
     ensures works { Spends O.HasHeap 35 o.old o.new result }
 {
     let list = element_word(o, element, element_words::LIST)?;

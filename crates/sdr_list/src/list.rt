@@ -5,6 +5,7 @@ ghost use Rattle.sdr_base.specs.Lists.{addr_of, list_entries};
 ghost use Rattle.sdr_base.specs.Making.{MakesThing};
 ghost use Rattle.sdr_base.specs.Moves.{KeepsSome};
 ghost use Rattle.sdr_base.specs.Objects.{Misses, OnlyShort};
+ghost use Rattle.sdr_base.specs.Transaction.{LeavesTouched};
 ghost use Rattle.sdr_base.specs.Works.{Looks, Spends};
 ghost use Rattle.sdr_base.specs.declared.kind.Kind.TheVariants as kinds;
 ghost use Rattle.sdr_list.specs.Calls.{ChangeStops, SetsInList, TellsOfList};
@@ -56,6 +57,7 @@ pub fn set_user_data<O: Objects>(o: &mut O, list: Addr, user: u64) -> Result<(),
     ensures set { OnOk result
         (SetsInList list (λ row. record row { user = user }) (O.heap o.old) (O.heap o.new)) }
     ensures refused { IfErr result (ChangeStops kinds.List list (O.heap o.old) (O.heap o.new)) }
+    ensures untouched { IfErr result (LeavesTouched (O.transaction o.old) (O.transaction o.new)) }
     ensures works { Spends O.HasHeap 2 o.old o.new result }
 {
     expect_kind(o, list, Kind::List)?;

@@ -2,6 +2,7 @@
 ghost use Rattle.std.specs.Prelude.{◌≡◌, ◌≢◌, ◌≤◌, IfOk, IfErr};
 ghost use Rattle.sdr_base.specs.Moves.{KeepsSome};
 ghost use Rattle.sdr_base.specs.Objects.{Misses, OnlyFault};
+ghost use Rattle.sdr_base.specs.Transaction.{LeavesTouched};
 ghost use Rattle.sdr_base.specs.Works.{Looks, Spends};
 ghost use Rattle.sdr_base.specs.declared.kind.Kind.TheVariants as kinds;
 ghost use Rattle.sdr_list.specs.Calls.{InsertsInList, InsertStops, TellsOfList};
@@ -36,6 +37,7 @@ pub fn insert_ordered<O: Objects, F: Collate>(
     ensures ordered { IfOk result (StaysInOrder (F.order by.now.by) (O.heap o.old).blocks list
         (ordered_place (F.order by.now.by) (O.heap o.old).blocks datum) datum) }
     ensures refused { IfErr result (InsertStops kinds.List list (O.heap o.old) (O.heap o.new)) }
+    ensures untouched { IfErr result (LeavesTouched (O.transaction o.old) (O.transaction o.new)) }
     ensures works { Spends O.HasHeap 35 o.old o.new result }
 {
     expect_kind(o, list, Kind::List)?;

@@ -2,6 +2,7 @@
 ghost use Rattle.std.specs.Prelude.{◌≡◌, ◌+◌, ◌*◌, ◌/◌, ◌≤◌, ◌<◌, Some, None, IfOk, IfErr, OnOk};
 ghost use Rattle.sdr_base.specs.Moves.{KeepsSome};
 ghost use Rattle.sdr_base.specs.Objects.{Misses};
+ghost use Rattle.sdr_base.specs.Transaction.{LeavesTouched};
 ghost use Rattle.sdr_base.specs.Works.{Looks, Spends};
 ghost use Rattle.sdr_base.specs.declared.kind.Kind.TheVariants as kinds;
 ghost use Rattle.sdr_base.specs.declared.refusal.Refusal.TheVariants as Refusal;
@@ -26,6 +27,7 @@ pub fn create<O: Objects>(o: &mut O, rows: u64, size: u64, user: u64) -> Result<
     ensures made { IfOk result (λ table.
         MakesTable rows size user table (O.heap o.old) (O.heap o.new)) }
     ensures refused { IfErr result (CreateStops rows size (O.heap o.old) (O.heap o.new)) }
+    ensures untouched { IfErr result (LeavesTouched (O.transaction o.old) (O.transaction o.new)) }
     ensures works { Spends O.HasHeap (26 + (ROWS_FROM + rows * size) / 64) o.old o.new result }
 {
     check_failed(o)?;
@@ -98,6 +100,7 @@ pub fn destroy<O: Objects>(o: &mut O, table: Addr) -> Result<(), Stop>
     requires table { IsTable ((O.heap o.old).blocks table) }
     ensures destroyed { OnOk result (DestroysTable table (O.heap o.old) (O.heap o.new)) }
     ensures refused { IfErr result (DestroyStops table (O.heap o.old) (O.heap o.new)) }
+    ensures untouched { IfErr result (LeavesTouched (O.transaction o.old) (O.transaction o.new)) }
     ensures works { Spends O.HasHeap 24 o.old o.new result }
 {
     expect_kind(o, table, Kind::Table)?;

@@ -3,6 +3,7 @@ ghost use Rattle.std.specs.Prelude.{◌≡◌, ◌≤◌, ◌+◌, ◌==◌, Lis
 ghost use Rattle.sdr_base.specs.Blocks.{IsKind, UsesRange};
 ghost use Rattle.sdr_base.specs.Moves.{KeepsSome};
 ghost use Rattle.sdr_base.specs.Objects.{OnlyUnmoved};
+ghost use Rattle.sdr_base.specs.Transaction.{LeavesTouched};
 ghost use Rattle.sdr_base.specs.Works.{Spends};
 ghost use Rattle.sdr_base.specs.ZcoObjects.{ObjectRow};
 ghost use Rattle.sdr_base.specs.declared.kind.Kind.TheVariants as kinds;
@@ -33,6 +34,7 @@ pub fn bond<O: Objects>(o: &mut O, object: Addr, ticket: u64) -> Result<(), Stop
     requires object { IsToBond (O.heap o.old) object }
     ensures bonded { OnOk result (BondsObject object ticket (O.heap o.old) (O.heap o.new)) }
     ensures refused { IfErr result (BondStops object ticket (O.heap o.old) (O.heap o.new)) }
+    ensures untouched { IfErr result (LeavesTouched (O.transaction o.old) (O.transaction o.new)) }
     ensures works { (row : ObjectRow) (tickets : List Ticket) →
         KeepsWithQueue (O.heap o.old) object row tickets →
         Spends O.HasHeap (8 + ends_lines row) o.old o.new result }
@@ -53,6 +55,7 @@ fn bond_parts<O: Objects>(o: &mut O, object: Addr) -> Result<Chain, Stop>
     requires object { SomeToBond (O.heap o.old) object }
     ensures bonded { IfOk result (BondsParts object (O.heap o.old) (O.heap o.new)) }
     ensures refused { IfErr result (PartsStop object (O.heap o.old) (O.heap o.new)) }
+    ensures untouched { IfErr result (LeavesTouched (O.transaction o.old) (O.transaction o.new)) }
     ensures works { (row : ObjectRow) → KeepsObject (O.heap o.old).blocks object row →
         Spends O.HasHeap (ends_lines row) o.old o.new result }
 {

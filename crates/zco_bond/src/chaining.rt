@@ -1,6 +1,7 @@
 // Chains of headers and trailers that become extents.
 ghost use Rattle.std.specs.Prelude.{◌≡◌, ◌≤◌, List, sum_by, IfErr, IfOk};
 ghost use Rattle.sdr_base.specs.Moves.{KeepsSome};
+ghost use Rattle.sdr_base.specs.Transaction.{LeavesTouched};
 ghost use Rattle.sdr_base.specs.Works.{Spends};
 ghost use Rattle.sdr_base.specs.ZcoObjects.{CapsuleRow, ExtentRow};
 ghost use Rattle.zco_bond.specs.Chaining.{BondsChain, ChainsAt, ChainStops, SomeChains, bond_lines};
@@ -19,6 +20,7 @@ pub fn bond_chain<O: Objects>(o: &mut O, acct: Acct, first: Addr, gap: Gap) -> R
     requires chains { SomeChains (O.heap o.old) first gap }
     ensures bonded { IfOk result (BondsChain acct first gap (O.heap o.old) (O.heap o.new)) }
     ensures refused { IfErr result (ChainStops first gap (O.heap o.old) (O.heap o.new)) }
+    ensures untouched { IfErr result (LeavesTouched (O.transaction o.old) (O.transaction o.new)) }
     ensures works { (front : List ExtentRow) (rows : List CapsuleRow) →
         ChainsAt (O.heap o.old).blocks first gap front rows →
         Spends O.HasHeap (sum_by bond_lines rows) o.old o.new result }

@@ -1,6 +1,7 @@
 // Headers and trailers that come.
 ghost use Rattle.std.specs.Prelude.{◌≡◌, ◌≤◌, ◌+◌, ◌/◌, length, IfErr, OnOk};
 ghost use Rattle.sdr_base.specs.Moves.{KeepsSome};
+ghost use Rattle.sdr_base.specs.Transaction.{LeavesTouched};
 ghost use Rattle.sdr_base.specs.Works.{Spends};
 ghost use Rattle.zco_obj.specs.Capsules.{AddsCapsule, CapsuleStops, ChargesCapsule, IsCapsuleLength, TextRefused};
 ghost use Rattle.zco_obj.specs.Capsules.{with_header, with_trailer};
@@ -28,6 +29,7 @@ pub fn prepend_header<O: Objects>(
         (AddsCapsule with_header object ticket text.now (O.heap o.old) (O.heap o.new)) }
     ensures refused { IfErr result
         (CapsuleStops object ticket text.now (O.heap o.old) (O.heap o.new)) }
+    ensures untouched { IfErr result (LeavesTouched (O.transaction o.old) (O.transaction o.new)) }
     ensures works { Spends O.HasHeap
         (35 + (TEXT_FROM + length text.now) / 32) o.old o.new result }
 {
@@ -52,6 +54,7 @@ pub fn append_trailer<O: Objects>(
         (AddsCapsule with_trailer object ticket text.now (O.heap o.old) (O.heap o.new)) }
     ensures refused { IfErr result
         (CapsuleStops object ticket text.now (O.heap o.old) (O.heap o.new)) }
+    ensures untouched { IfErr result (LeavesTouched (O.transaction o.old) (O.transaction o.new)) }
     ensures works { Spends O.HasHeap
         (35 + (TEXT_FROM + length text.now) / 32) o.old o.new result }
 {
@@ -69,6 +72,7 @@ fn charge_capsule<O: Objects>(o: &mut O, object: Addr, ticket: u64, text: &[u8])
         (ChargesCapsule object ticket text.now (O.heap o.old) (O.heap o.new)) }
     ensures refused { IfErr result
         (CapsuleStops object ticket text.now (O.heap o.old) (O.heap o.new)) }
+    ensures untouched { IfErr result (LeavesTouched (O.transaction o.old) (O.transaction o.new)) }
     ensures works { Spends O.HasHeap 5 o.old o.new result }
 {
     expect_kind(o, object, Kind::Object)?;

@@ -3,6 +3,7 @@ ghost use Rattle.std.specs.Prelude.{◌≡◌, ◌≤◌, IfErr, OnOk};
 ghost use Rattle.sdr_base.specs.Blocks.{IsKind};
 ghost use Rattle.sdr_base.specs.Moves.{KeepsSome};
 ghost use Rattle.sdr_base.specs.Objects.{OnlyShort};
+ghost use Rattle.sdr_base.specs.Transaction.{LeavesTouched};
 ghost use Rattle.sdr_base.specs.Works.{Spends};
 ghost use Rattle.sdr_base.specs.declared.kind.Kind.TheVariants as kinds;
 ghost use Rattle.sdr_model.specs.Limits.{longest_source};
@@ -41,6 +42,7 @@ pub fn append_extent<O: Objects>(
     ensures refused { IfErr result (AppendStops object ticket
         (record { of = source_or_raw; offset = offset; bytes = bytes })
         (O.heap o.old) (O.heap o.new)) }
+    ensures untouched { IfErr result (LeavesTouched (O.transaction o.old) (O.transaction o.new)) }
     ensures works { Spends O.HasHeap 73 o.old o.new result }
     ensures works_source { IsKind ((O.heap o.old).blocks source_or_raw) kinds.Source →
         Spends O.HasHeap 42 o.old o.new result }
@@ -71,6 +73,7 @@ fn append_source<O: Objects>(
         (AppendsSource object ticket piece (O.heap o.old) (O.heap o.new)) }
     ensures refused { IfErr result
         (SourceStops object ticket piece (O.heap o.old) (O.heap o.new)) }
+    ensures untouched { IfErr result (LeavesTouched (O.transaction o.old) (O.transaction o.new)) }
     ensures works { Spends O.HasHeap 42 o.old o.new result }
 {
     let seen = see_source(o, piece.of)?;
@@ -99,6 +102,7 @@ fn append_raw<O: Objects>(
         (AppendsRaw object ticket piece (O.heap o.old) (O.heap o.new)) }
     ensures refused { IfErr result
         (RawPieceStops object ticket piece (O.heap o.old) (O.heap o.new)) }
+    ensures untouched { IfErr result (LeavesTouched (O.transaction o.old) (O.transaction o.new)) }
     ensures works { Spends O.HasHeap 73 o.old o.new result }
 {
     let have = expect_unnamed(o, piece.of)?;

@@ -2,6 +2,7 @@
 ghost use Rattle.std.specs.Prelude.{◌≡◌, ◌≤◌, ◌+◌, ◌*◌, ◌^◌, List, length, IfErr, IfOk, OnOk};
 ghost use Rattle.sdr_base.specs.Blocks.{IsKind};
 ghost use Rattle.sdr_base.specs.Moves.{KeepsSome};
+ghost use Rattle.sdr_base.specs.Transaction.{LeavesTouched};
 ghost use Rattle.sdr_base.specs.Works.{Spends};
 ghost use Rattle.sdr_base.specs.ZcoObjects.{CapsuleRow, ExtentRow, ObjectRow};
 ghost use Rattle.sdr_base.specs.declared.kind.Kind.TheVariants as kinds;
@@ -40,6 +41,7 @@ pub fn destroy<O: Objects>(o: &mut O, object: Addr) -> Result<(), Stop>
     requires object { IsWithSources (O.heap o.old) object }
     ensures destroyed { OnOk result (DestroysObject object (O.heap o.old) (O.heap o.new)) }
     ensures refused { IfErr result (DestroyStops object (O.heap o.old) (O.heap o.new)) }
+    ensures untouched { IfErr result (LeavesTouched (O.transaction o.old) (O.transaction o.new)) }
     ensures works { (row : ObjectRow) (sources : List NamedSource) →
         KeepsSources (O.heap o.old).blocks object row sources →
         Spends O.HasHeap (27 + parts_lines row sources) o.old o.new result }
@@ -61,6 +63,7 @@ fn give_parts<O: Objects>(o: &mut O, object: Addr, acct: Acct) -> Result<Amounts
     ensures given { IfOk result (GivesParts object (O.heap o.old) (O.heap o.new)) }
     ensures most { IfOk result (AreAtMost (2 ^ 63)) }
     ensures refused { IfErr result (PartStops object (O.heap o.old) (O.heap o.new)) }
+    ensures untouched { IfErr result (LeavesTouched (O.transaction o.old) (O.transaction o.new)) }
     ensures works { (row : ObjectRow) (sources : List NamedSource) →
         KeepsSources (O.heap o.old).blocks object row sources →
         Spends O.HasHeap (parts_lines row sources) o.old o.new result }
@@ -80,6 +83,7 @@ fn give_capsules<O: Objects>(o: &mut O, first: Addr) -> Result<u64, Stop>
     ensures given { IfOk result (GivesCapsules first (O.heap o.old) (O.heap o.new)) }
     ensures most { IfOk result (λ charged. charged ≤ 2 ^ 33) }
     ensures refused { IfErr result (CapsuleGiveStops first (O.heap o.old) (O.heap o.new)) }
+    ensures untouched { IfErr result (LeavesTouched (O.transaction o.old) (O.transaction o.new)) }
     ensures works { (rows : List CapsuleRow) → CapsulesAt (O.heap o.old).blocks first rows →
         Spends O.HasHeap (24 * length rows) o.old o.new result }
 {
@@ -106,6 +110,7 @@ pub fn give_extents<O: Objects>(o: &mut O, acct: Acct, first: Addr) -> Result<Am
     ensures given { IfOk result (GivesExtents acct first (O.heap o.old) (O.heap o.new)) }
     ensures most { IfOk result (AreAtMost (2 ^ 62 + 2 ^ 27)) }
     ensures refused { IfErr result (ExtentsGiveStops acct first (O.heap o.old) (O.heap o.new)) }
+    ensures untouched { IfErr result (LeavesTouched (O.transaction o.old) (O.transaction o.new)) }
     ensures works { (extents : List ExtentRow) (sources : List NamedSource) →
         UsesAt acct (O.heap o.old).blocks first extents sources →
         Spends O.HasHeap (uses_lines extents sources) o.old o.new result }
@@ -132,6 +137,7 @@ fn give_extent<O: Objects>(o: &mut O, acct: Acct, extent: Addr) -> Result<GivenE
     ensures given { IfOk result (GivesExtent acct extent (O.heap o.old) (O.heap o.new)) }
     ensures most { IfOk result (λ given. AreAtMost (2 ^ 40 + 32) given.charged) }
     ensures refused { IfErr result (ExtentGiveStops acct extent (O.heap o.old) (O.heap o.new)) }
+    ensures untouched { IfErr result (LeavesTouched (O.transaction o.old) (O.transaction o.new)) }
     ensures works { Spends O.HasHeap
         (28 + 24 * going_with (O.heap o.old).blocks extent) o.old o.new result }
 {

@@ -1,6 +1,7 @@
 // Headers and trailers that go.
 ghost use Rattle.std.specs.Prelude.{◌≡◌, ◌≢◌, ◌≤◌, IfErr, OnOk};
 ghost use Rattle.sdr_base.specs.Moves.{KeepsSome};
+ghost use Rattle.sdr_base.specs.Transaction.{LeavesTouched};
 ghost use Rattle.sdr_base.specs.Works.{Spends};
 ghost use Rattle.zco_obj.specs.Chains.{SomeSpot};
 ghost use Rattle.zco_obj.specs.Discards.{DiscardsCapsule, DiscardsSpot, DiscardStops, SpotStops};
@@ -28,6 +29,7 @@ pub fn discard_first_header<O: Objects>(o: &mut O, object: Addr) -> Result<(), S
         (DiscardsCapsule first_header without_header object (O.heap o.old) (O.heap o.new)) }
     ensures refused { IfErr result
         (DiscardStops first_header object (O.heap o.old) (O.heap o.new)) }
+    ensures untouched { IfErr result (LeavesTouched (O.transaction o.old) (O.transaction o.new)) }
     ensures works { Spends O.HasHeap 31 o.old o.new result }
 {
     expect_kind(o, object, Kind::Object)?;
@@ -49,6 +51,7 @@ pub fn discard_last_trailer<O: Objects>(o: &mut O, object: Addr) -> Result<(), S
         (DiscardsCapsule last_trailer without_trailer object (O.heap o.old) (O.heap o.new)) }
     ensures refused { IfErr result
         (DiscardStops last_trailer object (O.heap o.old) (O.heap o.new)) }
+    ensures untouched { IfErr result (LeavesTouched (O.transaction o.old) (O.transaction o.new)) }
     ensures works { Spends O.HasHeap 31 o.old o.new result }
 {
     expect_kind(o, object, Kind::Object)?;
@@ -79,6 +82,7 @@ fn discard<O: Objects>(
     ensures discarded { OnOk result
         (DiscardsSpot side object prev gone seen.next (O.heap o.old) (O.heap o.new)) }
     ensures refused { IfErr result (SpotStops gone (O.heap o.old) (O.heap o.new)) }
+    ensures untouched { IfErr result (LeavesTouched (O.transaction o.old) (O.transaction o.new)) }
     ensures works { Spends O.HasHeap 31 o.old o.new result }
 {
     let acct = account(o, object)?;

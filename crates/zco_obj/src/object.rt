@@ -3,6 +3,7 @@ ghost use Rattle.std.specs.Prelude.{◌≡◌, ◌≤◌, IfOk, IfErr};
 ghost use Rattle.sdr_base.specs.Moves.{KeepsSome};
 ghost use Rattle.sdr_base.specs.Making.{MakesThing};
 ghost use Rattle.sdr_base.specs.Objects.{OnlyFault, OnlyShort};
+ghost use Rattle.sdr_base.specs.Transaction.{LeavesTouched};
 ghost use Rattle.sdr_base.specs.Works.{Looks, Spends};
 ghost use Rattle.sdr_base.specs.ZcoObjects.{object_entries};
 ghost use Rattle.sdr_model.specs.Charges.{object_bytes};
@@ -36,6 +37,7 @@ pub fn create<O: Objects>(o: &mut O, acct: Acct, ticket: u64) -> Result<Addr, St
     ensures made { IfOk result (λ object.
         CreatesObject acct ticket object (O.heap o.old) (O.heap o.new)) }
     ensures refused { IfErr result (CreateStops acct ticket (O.heap o.old) (O.heap o.new)) }
+    ensures untouched { IfErr result (LeavesTouched (O.transaction o.old) (O.transaction o.new)) }
     ensures works { Spends O.HasHeap 34 o.old o.new result }
 {
     charge(o, acct, ticket, &heap_amounts(OBJECT_BYTES))?;

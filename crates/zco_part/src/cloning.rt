@@ -3,6 +3,7 @@ ghost use Rattle.std.specs.Prelude.{◌≡◌, ◌≤◌, ◌+◌, ◌*◌, List
 ghost use Rattle.sdr_base.specs.Blocks.{IsKind};
 ghost use Rattle.sdr_base.specs.Moves.{KeepsSome};
 ghost use Rattle.sdr_base.specs.Objects.{OnlyFault};
+ghost use Rattle.sdr_base.specs.Transaction.{LeavesTouched};
 ghost use Rattle.sdr_base.specs.Works.{Looks, Spends};
 ghost use Rattle.sdr_base.specs.ZcoObjects.{ObjectRow};
 ghost use Rattle.sdr_base.specs.declared.kind.Kind.TheVariants as kinds;
@@ -52,6 +53,7 @@ pub fn clone_part<O: Objects>(
         (ClonesPart object ticket offset bytes (O.heap o.old) (O.heap o.new)) }
     ensures refused { IfErr result
         (CloneStops object ticket offset bytes (O.heap o.old) (O.heap o.new)) }
+    ensures untouched { IfErr result (LeavesTouched (O.transaction o.old) (O.transaction o.new)) }
     ensures works { (row : ObjectRow) (tickets : List Ticket) (sources : List NamedSource) →
         KeepsToClone (O.heap o.old) object row tickets sources →
         Spends O.HasHeap (34 + 33 * length (asked offset bytes row)) o.old o.new result }
@@ -95,6 +97,7 @@ fn make_clone<O: Objects>(
         (ClonesPart object ticket offset bytes (O.heap o.old) (O.heap o.new)) }
     ensures refused { IfErr result
         (CloneStops object ticket offset bytes (O.heap o.old) (O.heap o.new)) }
+    ensures untouched { IfErr result (LeavesTouched (O.transaction o.old) (O.transaction o.new)) }
     ensures works { (row : ObjectRow) (tickets : List Ticket) (sources : List NamedSource) →
         KeepsToClone (O.heap o.old) object row tickets sources →
         Spends O.HasHeap (34 + 33 * length (asked offset bytes row)) o.old o.new result }
@@ -136,6 +139,7 @@ fn charge_clone<O: Objects>(o: &mut O, acct: Acct, ticket: u64, asked: Asked) ->
     ensures charged { OnOk result
         (ChargesClone acct ticket asked (O.heap o.old) (O.heap o.new)) }
     ensures refused { IfErr result (StopsClone acct ticket asked (O.heap o.old) (O.heap o.new)) }
+    ensures untouched { IfErr result (LeavesTouched (O.transaction o.old) (O.transaction o.new)) }
     ensures works { Spends O.HasHeap 5 o.old o.new result }
 {
     let extents = chain_charge(o, asked.first, asked.span)?;

@@ -4,6 +4,7 @@ ghost use Rattle.sdr_base.specs.Blocks.{UsesRange};
 ghost use Rattle.sdr_base.specs.Moves.{KeepsSome};
 ghost use Rattle.sdr_base.specs.Objects.{OnlyShort, OnlyUnmoved};
 ghost use Rattle.sdr_base.specs.Words.{TakesBytes};
+ghost use Rattle.sdr_base.specs.Transaction.{LeavesTouched};
 ghost use Rattle.sdr_base.specs.Works.{Spends};
 ghost use Rattle.sdr_base.specs.ZcoObjects.{ExtentRow};
 ghost use Rattle.sdr_base.specs.declared.account.Acct.{Acct};
@@ -31,6 +32,7 @@ pub fn copy_chain<O: Objects>(o: &mut O, copy: Addr, first: Addr, span: Span) ->
     requires chain { SomeCopy copy (O.heap o.old) first span }
     ensures copied { OnOk result (CopiesChain copy first span (O.heap o.old) (O.heap o.new)) }
     ensures refused { IfErr result (CopyStops copy first span (O.heap o.old) (O.heap o.new)) }
+    ensures untouched { IfErr result (LeavesTouched (O.transaction o.old) (O.transaction o.new)) }
     ensures works { (acct : Acct) (extents : List ExtentRow) (sources : List NamedSource) →
         CopyAt copy acct (O.heap o.old).blocks first extents sources →
         Spends O.HasHeap (33 * length (parts span extents)) o.old o.new result }
@@ -58,6 +60,7 @@ fn name_piece<O: Objects>(o: &mut O, object: Addr, piece: ExtentPiece) -> Result
     requires short { piece.bytes ≤ longest_source }
     ensures named { OnOk result (NamesPiece object piece (O.heap o.old) (O.heap o.new)) }
     ensures refused { IfErr result (PieceStops piece (O.heap o.old) (O.heap o.new)) }
+    ensures untouched { IfErr result (LeavesTouched (O.transaction o.old) (O.transaction o.new)) }
     ensures works { Spends O.HasHeap (33 * length (filled piece)) o.old o.new result }
 {
     if piece.bytes == 0 {

@@ -2,6 +2,7 @@
 ghost use Rattle.std.specs.Prelude.{◌≡◌, ◌+◌, ◌*◌, ◌≤◌, IfOk, IfErr, OnOk};
 ghost use Rattle.sdr_base.specs.Moves.{KeepsSome};
 ghost use Rattle.sdr_base.specs.Objects.{Misses, OnlyFault, OnlyUnmoved};
+ghost use Rattle.sdr_base.specs.Transaction.{LeavesTouched};
 ghost use Rattle.sdr_base.specs.Works.{Looks, Spends};
 ghost use Rattle.sdr_base.specs.declared.kind.Kind.TheVariants as kinds;
 ghost use Rattle.zco_ref.specs.Counting.{Attaches, CountsUses, Detaches, DetachStops, TellsUses, count_field};
@@ -59,6 +60,7 @@ pub fn detach<O: Objects>(o: &mut O, source: Addr, acct: Acct) -> Result<bool, S
     requires source { SomeAttached acct (O.heap o.old).blocks source }
     ensures detached { IfOk result (Detaches source acct (O.heap o.old) (O.heap o.new)) }
     ensures refused { IfErr result (DetachStops source (O.heap o.old) (O.heap o.new)) }
+    ensures untouched { IfErr result (LeavesTouched (O.transaction o.old) (O.transaction o.new)) }
     ensures works { Spends O.HasHeap
         (4 + 24 * going ((O.heap o.old).blocks source)) o.old o.new result }
 {

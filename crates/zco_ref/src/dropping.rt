@@ -1,6 +1,7 @@
 // The end of a source.
 ghost use Rattle.std.specs.Prelude.{◌≡◌, ◌+◌, ◌*◌, ◌≤◌, IfErr, OnOk};
 ghost use Rattle.sdr_base.specs.Moves.{KeepsSome};
+ghost use Rattle.sdr_base.specs.Transaction.{LeavesTouched};
 ghost use Rattle.sdr_base.specs.Works.{Spends};
 ghost use Rattle.zco_ref.specs.Dropping.{DestroysSource, DestroyStops};
 ghost use Rattle.zco_ref.specs.Going.{Vanishes, VanishStops, blocks_with};
@@ -20,6 +21,7 @@ pub fn destroy_ref<O: Objects>(o: &mut O, source: Addr) -> Result<(), Stop>
     requires source { IsTied (O.heap o.old).blocks source }
     ensures destroyed { OnOk result (DestroysSource source (O.heap o.old) (O.heap o.new)) }
     ensures refused { IfErr result (DestroyStops source (O.heap o.old) (O.heap o.new)) }
+    ensures untouched { IfErr result (LeavesTouched (O.transaction o.old) (O.transaction o.new)) }
     ensures works { Spends O.HasHeap 28 o.old o.new result }
 {
     expect_kind(o, source, Kind::Source)?;
@@ -49,6 +51,7 @@ pub fn vanish<O: Objects>(o: &mut O, source: Addr, seen: Seen) -> Result<(), Sto
     ensures gone { OnOk result (Vanishes source (O.heap o.old) (O.heap o.new)) }
     ensures refused { IfErr result
         (VanishStops seen.medium seen.subject (O.heap o.old) (O.heap o.new)) }
+    ensures untouched { IfErr result (LeavesTouched (O.transaction o.old) (O.transaction o.new)) }
     ensures works { Spends O.HasHeap (4 + 24 * blocks_with seen.medium) o.old o.new result }
 {
     match seen.medium {

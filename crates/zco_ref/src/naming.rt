@@ -1,6 +1,7 @@
 // Sources of raw objects.
 ghost use Rattle.std.specs.Prelude.{◌≡◌, ◌≤◌, IfOk, IfErr};
 ghost use Rattle.sdr_base.specs.Moves.{KeepsSome};
+ghost use Rattle.sdr_base.specs.Transaction.{LeavesTouched};
 ghost use Rattle.sdr_base.specs.Works.{Looks, Spends};
 ghost use Rattle.sdr_base.specs.declared.medium.Medium.TheVariants as media;
 ghost use Rattle.zco_ref.specs.Kept.{IsRaw};
@@ -19,6 +20,7 @@ pub fn obj_ref<O: Objects>(o: &mut O, raw: Addr) -> Result<Addr, Stop>
     ensures made { IfOk result (λ source.
         MakesRawSource media.Obj raw source (O.heap o.old) (O.heap o.new)) }
     ensures refused { IfErr result (NamingStops raw (O.heap o.old) (O.heap o.new)) }
+    ensures untouched { IfErr result (LeavesTouched (O.transaction o.old) (O.transaction o.new)) }
     ensures works { Spends O.HasHeap 31 o.old o.new result }
 {
     raw_source(o, raw, Medium::Obj)
@@ -33,6 +35,7 @@ pub fn heap_source<O: Objects>(o: &mut O, raw: Addr) -> Result<Addr, Stop>
     ensures made { IfOk result (λ source.
         MakesRawSource media.Heap raw source (O.heap o.old) (O.heap o.new)) }
     ensures refused { IfErr result (NamingStops raw (O.heap o.old) (O.heap o.new)) }
+    ensures untouched { IfErr result (LeavesTouched (O.transaction o.old) (O.transaction o.new)) }
     ensures works { Spends O.HasHeap 31 o.old o.new result }
 {
     raw_source(o, raw, Medium::Heap)
@@ -46,6 +49,7 @@ fn raw_source<O: Objects>(o: &mut O, raw: Addr, medium: Medium) -> Result<Addr, 
     ensures made { IfOk result (λ source.
         MakesRawSource medium raw source (O.heap o.old) (O.heap o.new)) }
     ensures refused { IfErr result (NamingStops raw (O.heap o.old) (O.heap o.new)) }
+    ensures untouched { IfErr result (LeavesTouched (O.transaction o.old) (O.transaction o.new)) }
     ensures works { Spends O.HasHeap 31 o.old o.new result }
 {
     let bytes = expect_unnamed(o, raw)?;

@@ -2,6 +2,7 @@
 ghost use Rattle.std.specs.Prelude.{◌≡◌, ◌≤◌, ◌+◌, ◌*◌, List, IfErr, OnOk};
 ghost use Rattle.sdr_base.specs.Moves.{KeepsSome};
 ghost use Rattle.sdr_base.specs.Objects.{OnlyUnmoved};
+ghost use Rattle.sdr_base.specs.Transaction.{LeavesTouched};
 ghost use Rattle.sdr_base.specs.Works.{Spends};
 ghost use Rattle.sdr_base.specs.declared.account.Acct.TheVariants as accts;
 ghost use Rattle.sdr_model.specs.declared.accounts.Ticket.{Ticket as GhostTicket};
@@ -23,6 +24,7 @@ pub fn shred<O: Objects, F: Notify>(o: &mut O, ticket: u64, notice: &Notice<F>) 
     requires outbound { SomeQueue (O.heap o.old) accts.Outbound }
     ensures shredded { OnOk result (ShredsTicket ticket (O.heap o.old) (O.heap o.new)) }
     ensures refused { IfErr result (ShredStops ticket (O.heap o.old) (O.heap o.new)) }
+    ensures untouched { IfErr result (LeavesTouched (O.transaction o.old) (O.transaction o.new)) }
     ensures works { (inbound outbound : List GhostTicket) →
         KeepsQueue (O.heap o.old) accts.Inbound inbound →
         KeepsQueue (O.heap o.old) accts.Outbound outbound →

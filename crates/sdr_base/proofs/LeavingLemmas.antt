@@ -1,0 +1,74 @@
+-- Which calls leave the lines touched as they were when they are refused.
+use Rattle.std.proofs.Common.{◌≡◌, ◌∙◌, ℕ}
+use Rattle.std.specs.Prelude.{Option, Some, None, Result, Ok, Err, IfErr}
+use Rattle.sdr_base.specs.Objects.{Heap, OnlyFault, OnlyFull, OnlyShort, OnlyUnmoved}
+use Rattle.sdr_base.specs.Transaction.{LeavesTouched, LeavesUnlessFull, NoneLeaves, Transaction}
+use Rattle.sdr_base.specs.declared.refusal.Refusal.TheVariants.{LogFull, NoBlock}
+use Rattle.sdr_base.specs.declared.stop.Stop.{Stop}
+use Rattle.sdr_base.specs.declared.stop.Stop.TheVariants.{Refused, DiskFault, MediaFault, Failed}
+
+module _ (a b : Transaction) where
+  -- a call that stops by a fault alone
+  pub fault_leaves : (stop : Stop) → OnlyFault stop → LeavesTouched a b stop
+  fault_leaves (Refused refusal) only = absurd only
+  fault_leaves DiskFault only = tt
+  fault_leaves MediaFault only = tt
+  fault_leaves Failed only = tt
+
+  -- or for want of log room
+  pub unmoved_leaves : {old new : Heap} (stop : Stop) → OnlyUnmoved old new stop → LeavesTouched a b stop
+  unmoved_leaves (Refused (LogFull lines room)) only = tt
+  unmoved_leaves (Refused refusal) only = absurd only
+  unmoved_leaves DiskFault only = tt
+  unmoved_leaves MediaFault only = tt
+  unmoved_leaves Failed only = tt
+
+  -- or of a block
+  pub short_leaves : {need : ℕ} {old new : Heap} (stop : Stop) → OnlyShort need old new stop → LeavesTouched a b stop
+  short_leaves (Refused (NoBlock need)) only = tt
+  short_leaves (Refused (LogFull lines room)) only = tt
+  short_leaves (Refused refusal) only = absurd only
+  short_leaves DiskFault only = tt
+  short_leaves MediaFault only = tt
+  short_leaves Failed only = tt
+
+  -- a pool's call stops for want of log room or by a fault alone
+  pub full_leaves : (stop : Stop) → OnlyFull stop → LeavesUnlessFull a b stop
+  full_leaves (Refused (LogFull lines room)) only = tt
+  full_leaves (Refused refusal) only = absurd only
+  full_leaves DiskFault only = tt
+  full_leaves MediaFault only = tt
+  full_leaves Failed only = tt
+
+  -- a call that touched no line more, whatever it answers
+  pub same_leaves : (stop : Stop) → b.touched ≡ a.touched → LeavesTouched a b stop
+  same_leaves (Refused (NoBlock need)) same = tt
+  same_leaves (Refused (LogFull lines room)) same = tt
+  same_leaves (Refused refusal) same = same
+  same_leaves DiskFault same = tt
+  same_leaves MediaFault same = tt
+  same_leaves Failed same = tt
+
+-- a call behind one that touched no line more
+pub leaves_then : {a b c : Transaction} (stop : Stop) → b.touched ≡ a.touched → LeavesTouched b c stop → LeavesTouched a c stop
+leaves_then (Refused (NoBlock need)) same left = left
+leaves_then (Refused (LogFull lines room)) same left = left
+leaves_then (Refused refusal) same left = left ∙ same
+leaves_then DiskFault same left = left
+leaves_then MediaFault same left = left
+leaves_then Failed same left = left
+
+-- the same, of a call's whole result
+pub leaves_behind : {T : Type 0} {a b c : Transaction} (r : Result T Stop) → b.touched ≡ a.touched → IfErr r (LeavesTouched b c) →
+    IfErr r (LeavesTouched a c)
+leaves_behind (Ok value) same left = tt
+leaves_behind (Err stop) same left = leaves_then stop same left
+
+-- a pool's call behind one that touched no line more
+pub none_behind : {A : Type 0} {a b c : Transaction} (r : Result (Option A) Stop) → b.touched ≡ a.touched → NoneLeaves b c r →
+    NoneLeaves a c r
+none_behind (Ok None) same left = left ∙ same
+none_behind (Ok (Some block)) same left = left
+none_behind (Err stop) same left = left
+
+pub ruleset leaving = (fault_leaves, unmoved_leaves, short_leaves, leaves_then, leaves_behind, same_leaves)
