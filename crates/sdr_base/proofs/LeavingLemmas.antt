@@ -16,21 +16,21 @@ module _ (a b : Transaction) where
   fault_leaves Failed only = tt
 
   -- or for want of log room
-  pub unmoved_leaves : {old new : Heap} (stop : Stop) → OnlyUnmoved old new stop → LeavesTouched a b stop
-  unmoved_leaves (Refused (LogFull lines room)) only = tt
-  unmoved_leaves (Refused refusal) only = absurd only
-  unmoved_leaves DiskFault only = tt
-  unmoved_leaves MediaFault only = tt
-  unmoved_leaves Failed only = tt
+  pub unmoved_leaves : (old new : Heap) (stop : Stop) → OnlyUnmoved old new stop → LeavesTouched a b stop
+  unmoved_leaves old new (Refused (LogFull lines room)) only = tt
+  unmoved_leaves old new (Refused refusal) only = absurd only
+  unmoved_leaves old new DiskFault only = tt
+  unmoved_leaves old new MediaFault only = tt
+  unmoved_leaves old new Failed only = tt
 
   -- or of a block
-  pub short_leaves : {need : ℕ} {old new : Heap} (stop : Stop) → OnlyShort need old new stop → LeavesTouched a b stop
-  short_leaves (Refused (NoBlock need)) only = tt
-  short_leaves (Refused (LogFull lines room)) only = tt
-  short_leaves (Refused refusal) only = absurd only
-  short_leaves DiskFault only = tt
-  short_leaves MediaFault only = tt
-  short_leaves Failed only = tt
+  pub short_leaves : (need : ℕ) (old new : Heap) (stop : Stop) → OnlyShort need old new stop → LeavesTouched a b stop
+  short_leaves need old new (Refused (NoBlock missing)) only = tt
+  short_leaves need old new (Refused (LogFull lines room)) only = tt
+  short_leaves need old new (Refused refusal) only = absurd only
+  short_leaves need old new DiskFault only = tt
+  short_leaves need old new MediaFault only = tt
+  short_leaves need old new Failed only = tt
 
   -- a pool's call stops for want of log room or by a fault alone
   pub full_leaves : (stop : Stop) → OnlyFull stop → LeavesUnlessFull a b stop
@@ -49,26 +49,50 @@ module _ (a b : Transaction) where
   same_leaves MediaFault same = tt
   same_leaves Failed same = tt
 
+  -- the same, of a call's whole result
+  pub fault_result : {T : Type 0} (r : Result T Stop) → IfErr r OnlyFault → IfErr r (LeavesTouched a b)
+  fault_result (Ok value) only = tt
+  fault_result (Err stop) only = fault_leaves stop only
+
+  pub unmoved_result : {T : Type 0} (old new : Heap) (r : Result T Stop) → IfErr r (OnlyUnmoved old new) → IfErr r (LeavesTouched a b)
+  unmoved_result old new (Ok value) only = tt
+  unmoved_result old new (Err stop) only = unmoved_leaves old new stop only
+
+  pub short_result : {T : Type 0} (need : ℕ) (old new : Heap) (r : Result T Stop) → IfErr r (OnlyShort need old new) →
+      IfErr r (LeavesTouched a b)
+  short_result need old new (Ok value) only = tt
+  short_result need old new (Err stop) only = short_leaves need old new stop only
+
 -- a call behind one that touched no line more
-pub leaves_then : {a b c : Transaction} (stop : Stop) → b.touched ≡ a.touched → LeavesTouched b c stop → LeavesTouched a c stop
-leaves_then (Refused (NoBlock need)) same left = left
-leaves_then (Refused (LogFull lines room)) same left = left
-leaves_then (Refused refusal) same left = left ∙ same
-leaves_then DiskFault same left = left
-leaves_then MediaFault same left = left
-leaves_then Failed same left = left
+pub leaves_then : (a b c : Transaction) (stop : Stop) → b.touched ≡ a.touched → LeavesTouched b c stop → LeavesTouched a c stop
+leaves_then a b c (Refused (NoBlock need)) same left = left
+leaves_then a b c (Refused (LogFull lines room)) same left = left
+leaves_then a b c (Refused refusal) same left = left ∙ same
+leaves_then a b c DiskFault same left = left
+leaves_then a b c MediaFault same left = left
+leaves_then a b c Failed same left = left
 
 -- the same, of a call's whole result
-pub leaves_behind : {T : Type 0} {a b c : Transaction} (r : Result T Stop) → b.touched ≡ a.touched → IfErr r (LeavesTouched b c) →
+pub leaves_behind : {T : Type 0} (a b c : Transaction) (r : Result T Stop) → b.touched ≡ a.touched → IfErr r (LeavesTouched b c) →
     IfErr r (LeavesTouched a c)
-leaves_behind (Ok value) same left = tt
-leaves_behind (Err stop) same left = leaves_then stop same left
+leaves_behind a b c (Ok value) same left = tt
+leaves_behind a b c (Err stop) same left = leaves_then a b c stop same left
 
 -- a pool's call behind one that touched no line more
-pub none_behind : {A : Type 0} {a b c : Transaction} (r : Result (Option A) Stop) → b.touched ≡ a.touched → NoneLeaves b c r →
+pub none_behind : {A : Type 0} (a b c : Transaction) (r : Result (Option A) Stop) → b.touched ≡ a.touched → NoneLeaves b c r →
     NoneLeaves a c r
-none_behind (Ok None) same left = left ∙ same
-none_behind (Ok (Some block)) same left = left
-none_behind (Err stop) same left = left
+none_behind a b c (Ok None) same left = left ∙ same
+none_behind a b c (Ok (Some block)) same left = left
+none_behind a b c (Err stop) same left = left
 
-pub ruleset leaving = (fault_leaves, unmoved_leaves, short_leaves, leaves_then, leaves_behind, same_leaves)
+pub ruleset leaving = (
+  fault_leaves,
+  unmoved_leaves,
+  short_leaves,
+  same_leaves,
+  fault_result,
+  unmoved_result,
+  short_result,
+  leaves_then,
+  leaves_behind,
+)

@@ -28,7 +28,7 @@ pub trait Objects: HasHeap {
             TakesZeros kind need addr (Self.heap self.old) (Self.heap self.new)) }
         ensures refused { IfErr result (OnlyShort need (Self.heap self.old) (Self.heap self.new)) }
         ensures works { Spends Self.HasHeap (24 + need / 64) self.old self.new result }
-        ensures left { IfErr result
+        ensures untouched { IfErr result
             (LeavesUnlessFull (Self.transaction self.old) (Self.transaction self.new)) };
 
     /// Gives the block at an address back. Its mark stays.

@@ -17,6 +17,7 @@ use sdr_base::limits::LONGEST_NAME;
 use sdr_base::{Addr, Objects, Refusal, Stop, check_failed, word};
 
 /// Puts a new name at the end of the catalogue, for an object of this type.
+#[tactic(auto, using(sdr_base::proofs::LeavingLemmas::leaving))]
 pub fn catlg<O: Objects>(o: &mut O, name: &[u8], kind: u32, object: u64) -> Result<(), Stop>
     requires kept { KeepsSome (O.keeps o.old) }
     requires spare { 1 ≤ (O.heap o.old).spare }
@@ -55,6 +56,7 @@ fn add_last<O: Objects>(o: &mut O, name: &[u8], kind: u32, object: u64) -> Resul
 }
 
 /// Takes a name out of the catalogue. Its object stays.
+#[tactic(auto, using(sdr_base::proofs::LeavingLemmas::leaving))]
 pub fn uncatlg<O: Objects>(o: &mut O, name: &[u8]) -> Result<(), Stop>
     requires kept { KeepsSome (O.keeps o.old) }
     requires spare { 1 ≤ (O.heap o.old).spare }

@@ -16,6 +16,7 @@ use sdr_base::layout::{hash as hash_words, hash_entry as words};
 use sdr_base::{Addr, Objects, Refusal, Stop, set_word, word};
 
 /// Puts a new key with its value into a hash, in front of its bucket.
+#[tactic(auto, using(sdr_base::proofs::LeavingLemmas::leaving))]
 pub fn insert<O: Objects>(o: &mut O, hash: Addr, key: &[u8], value: u64) -> Result<(), Stop>
     requires kept { KeepsSome (O.keeps o.old) }
     requires spare { 1 ≤ (O.heap o.old).spare }
@@ -56,6 +57,7 @@ fn add_first<O: Objects>(o: &mut O, front: Link, key: &[u8], value: u64) -> Resu
 }
 
 /// Sets the value of a key that a hash has.
+#[tactic(auto, using(sdr_base::proofs::LeavingLemmas::leaving))]
 pub fn revise<O: Objects>(o: &mut O, hash: Addr, key: &[u8], value: u64) -> Result<(), Stop>
     requires kept { KeepsSome (O.keeps o.old) }
     requires hash { IsHash (O.heap o.old).blocks hash }
@@ -70,6 +72,7 @@ pub fn revise<O: Objects>(o: &mut O, hash: Addr, key: &[u8], value: u64) -> Resu
 }
 
 /// Takes a key out of a hash. What its value names stays.
+#[tactic(auto, using(sdr_base::proofs::LeavingLemmas::leaving))]
 pub fn remove<O: Objects>(o: &mut O, hash: Addr, key: &[u8]) -> Result<(), Stop>
     requires kept { KeepsSome (O.keeps o.old) }
     requires spare { 1 ≤ (O.heap o.old).spare }

@@ -17,6 +17,7 @@ use sdr_base::{Addr, Objects, Stop, word};
 
 /// Gives the entries of a hash back, bucket by bucket, the newest of a bucket first, and then the
 /// hash. What the values name stays.
+#[tactic(auto, using(sdr_base::proofs::LeavingLemmas::leaving))]
 pub fn destroy<O: Objects>(o: &mut O, hash: Addr) -> Result<(), Stop>
     requires kept { KeepsSome (O.keeps o.old) }
     requires spare { entries_in ((O.heap o.old).blocks hash) + 1 ≤ (O.heap o.old).spare }
@@ -41,6 +42,7 @@ pub fn destroy<O: Objects>(o: &mut O, hash: Addr) -> Result<(), Stop>
 
 // Gives the entries of a bucket back, the first one first. There are so many at most, and it answers
 // how many fewer there were.
+#[tactic(auto, using(sdr_base::proofs::LeavingLemmas::leaving))]
 fn give_bucket<O: Objects>(o: &mut O, front: Link, most: u64) -> Result<u64, Stop>
     requires kept { KeepsSome (O.keeps o.old) }
     requires spare { most ≤ (O.heap o.old).spare }

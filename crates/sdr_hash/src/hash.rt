@@ -19,6 +19,7 @@ use sdr_base::{Addr, Kind, Objects, Refusal, Stop, WORD, check_failed, expect_ki
 pub const FRONTS_FROM: u64 = 24;
 
 /// Makes a hash without entries, for keys of so many bytes.
+#[tactic(auto, using(sdr_base::proofs::LeavingLemmas::leaving))]
 pub fn create<O: Objects>(o: &mut O, key_length: u64, buckets: u64) -> Result<Addr, Stop>
     requires kept { KeepsSome (O.keeps o.old) }
     requires spare { 1 ≤ (O.heap o.old).spare }

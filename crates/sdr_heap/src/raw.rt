@@ -17,6 +17,7 @@ use sdr_base::{Addr, Kind, Objects, Refusal, Stop, check_failed, expect_kind};
 use zco_ref::expect_unnamed;
 
 /// Makes a raw object of so many zero bytes, which no source names.
+#[tactic(auto, using(sdr_base::proofs::LeavingLemmas::leaving))]
 pub fn malloc<O: Objects>(o: &mut O, bytes: u64) -> Result<Addr, Stop>
     requires kept { KeepsSome (O.keeps o.old) }
     requires spare { 1 ≤ (O.heap o.old).spare }
@@ -37,7 +38,7 @@ pub fn malloc<O: Objects>(o: &mut O, bytes: u64) -> Result<Addr, Stop>
 
 /// Gives a raw object or a string back. It is refused `InUse` where a source names the raw object,
 /// with how many extents of both accounts name that.
-#[tactic(auto, using(crate::proofs::RawLemmas::freeing))]
+#[tactic(auto, using(sdr_base::proofs::LeavingLemmas::leaving, crate::proofs::RawLemmas::freeing))]
 pub fn free<O: Objects>(o: &mut O, addr: Addr) -> Result<(), Stop>
     requires kept { KeepsSome (O.keeps o.old) }
     requires spare { 1 ≤ (O.heap o.old).spare }
@@ -59,6 +60,7 @@ pub fn free<O: Objects>(o: &mut O, addr: Addr) -> Result<(), Stop>
 }
 
 // Gives a raw object back, unless a source names it.
+#[tactic(auto, using(sdr_base::proofs::LeavingLemmas::leaving))]
 fn free_raw<O: Objects>(o: &mut O, addr: Addr) -> Result<(), Stop>
     requires kept { KeepsSome (O.keeps o.old) }
     requires spare { 1 ≤ (O.heap o.old).spare }
@@ -138,6 +140,7 @@ pub fn read<O: Objects>(o: &mut O, addr: Addr, place: u64, into: &mut [u8]) -> R
 }
 
 /// Writes bytes into a raw object from a place on, where it was taken or staged in this transaction.
+#[tactic(auto, using(sdr_base::proofs::LeavingLemmas::leaving))]
 pub fn write<O: Objects>(o: &mut O, addr: Addr, place: u64, from: &[u8]) -> Result<(), Stop>
     requires kept { KeepsSome (O.keeps o.old) }
     requires whole { HasSourceWord ((O.heap o.old).blocks addr) }

@@ -16,6 +16,7 @@ use sdr_base::{Addr, Objects, Stop, check_failed, word};
 
 /// Gives the elements of a list back, the first one first, and then the list. What the data name
 /// stays.
+#[tactic(auto, using(sdr_base::proofs::LeavingLemmas::leaving))]
 pub fn destroy<O: Objects>(o: &mut O, list: Addr) -> Result<(), Stop>
     requires kept { KeepsSome (O.keeps o.old) }
     requires spare { elements_in ((O.heap o.old).blocks list) + 1 ≤ (O.heap o.old).spare }
@@ -48,6 +49,7 @@ fn give_one<O: Objects>(o: &mut O, element: Addr) -> Result<Addr, Stop>
 }
 
 // Gives so many elements of a chain back, the first one first.
+#[tactic(auto, using(sdr_base::proofs::LeavingLemmas::leaving))]
 fn give_chain<O: Objects>(o: &mut O, first: Addr, count: u64) -> Result<(), Stop>
     requires kept { KeepsSome (O.keeps o.old) }
     requires spare { count ≤ (O.heap o.old).spare }

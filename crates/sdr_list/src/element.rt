@@ -52,6 +52,7 @@ pub fn datum<O: Objects>(o: &mut O, element: Addr) -> Result<u64, Stop>
 }
 
 /// Sets the datum of an element.
+#[tactic(auto, using(sdr_base::proofs::LeavingLemmas::leaving))]
 pub fn set_datum<O: Objects>(o: &mut O, element: Addr, datum: u64) -> Result<(), Stop>
     requires kept { KeepsSome (O.keeps o.old) }
     requires element { IsElement (O.heap o.old).blocks element }

@@ -17,6 +17,7 @@ use sdr_base::layout::{element as element_words, list as words};
 use sdr_base::{Addr, Kind, Objects, Stop, set_word, take_words, word};
 
 /// Makes a new first element of a list.
+#[tactic(auto, using(sdr_base::proofs::LeavingLemmas::leaving))]
 pub fn insert_first<O: Objects>(o: &mut O, list: Addr, datum: u64) -> Result<Addr, Stop>
     requires kept { KeepsSome (O.keeps o.old) }
     requires spare { 1 ≤ (O.heap o.old).spare }
@@ -32,6 +33,7 @@ pub fn insert_first<O: Objects>(o: &mut O, list: Addr, datum: u64) -> Result<Add
 }
 
 /// Makes a new last element of a list.
+#[tactic(auto, using(sdr_base::proofs::LeavingLemmas::leaving))]
 pub fn insert_last<O: Objects>(o: &mut O, list: Addr, datum: u64) -> Result<Addr, Stop>
     requires kept { KeepsSome (O.keeps o.old) }
     requires spare { 1 ≤ (O.heap o.old).spare }
@@ -47,6 +49,7 @@ pub fn insert_last<O: Objects>(o: &mut O, list: Addr, datum: u64) -> Result<Addr
 }
 
 /// Makes a new element before another, in its list.
+#[tactic(auto, using(sdr_base::proofs::LeavingLemmas::leaving))]
 pub fn insert_before<O: Objects>(o: &mut O, element: Addr, datum: u64) -> Result<Addr, Stop>
     requires kept { KeepsSome (O.keeps o.old) }
     requires spare { 1 ≤ (O.heap o.old).spare }
@@ -64,6 +67,7 @@ pub fn insert_before<O: Objects>(o: &mut O, element: Addr, datum: u64) -> Result
 }
 
 /// Makes a new element behind another, in its list.
+#[tactic(auto, using(sdr_base::proofs::LeavingLemmas::leaving))]
 pub fn insert_after<O: Objects>(o: &mut O, element: Addr, datum: u64) -> Result<Addr, Stop>
     requires kept { KeepsSome (O.keeps o.old) }
     requires spare { 1 ≤ (O.heap o.old).spare }

@@ -51,6 +51,7 @@ pub fn user_data<O: Objects>(o: &mut O, list: Addr) -> Result<u64, Stop>
 }
 
 /// Sets the user's number of a list.
+#[tactic(auto, using(sdr_base::proofs::LeavingLemmas::leaving))]
 pub fn set_user_data<O: Objects>(o: &mut O, list: Addr, user: u64) -> Result<(), Stop>
     requires kept { KeepsSome (O.keeps o.old) }
     requires list { IsList (O.heap o.old).blocks list }

@@ -21,6 +21,7 @@ use sdr_base::{Addr, Kind, Objects, Stop, expect_kind, word};
 
 /// Makes a new element of a list behind the last one whose key is less than or equal to that of
 /// the datum, else first. Each key is read once.
+#[tactic(auto, using(sdr_base::proofs::LeavingLemmas::leaving))]
 pub fn insert_ordered<O: Objects, F: Collate>(
     o: &mut O,
     list: Addr,

@@ -17,6 +17,7 @@ use sdr_base::layout::{element as words, list as list_words};
 use sdr_base::{Addr, Objects, Stop, set_word, word};
 
 /// Takes an element out of its list, and gives it back. What its datum names stays.
+#[tactic(auto, using(sdr_base::proofs::LeavingLemmas::leaving))]
 pub fn delete<O: Objects>(o: &mut O, element: Addr) -> Result<(), Stop>
     requires kept { KeepsSome (O.keeps o.old) }
     requires spare { 1 ≤ (O.heap o.old).spare }

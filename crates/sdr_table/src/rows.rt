@@ -34,6 +34,7 @@ pub fn row<O: Objects>(o: &mut O, table: Addr, row: u64, into: &mut [u8; 4096]) 
 }
 
 /// Sets a row of a table to bytes of its size.
+#[tactic(auto, using(sdr_base::proofs::LeavingLemmas::leaving))]
 pub fn set_row<O: Objects>(o: &mut O, table: Addr, row: u64, from: &[u8]) -> Result<(), Stop>
     requires kept { KeepsSome (O.keeps o.old) }
     requires table { IsTable ((O.heap o.old).blocks table) }

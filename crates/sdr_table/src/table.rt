@@ -21,6 +21,7 @@ pub const LARGEST_TABLE: u64 = 1_048_576;
 pub const ROWS_FROM: u64 = 24;
 
 /// Makes a table of so many rows of so many zero bytes, with the user's number.
+#[tactic(auto, using(sdr_base::proofs::LeavingLemmas::leaving))]
 pub fn create<O: Objects>(o: &mut O, rows: u64, size: u64, user: u64) -> Result<Addr, Stop>
     requires kept { KeepsSome (O.keeps o.old) }
     requires spare { 1 ≤ (O.heap o.old).spare }
@@ -94,6 +95,7 @@ pub fn user_data<O: Objects>(o: &mut O, table: Addr) -> Result<u64, Stop>
 }
 
 /// Gives a table back.
+#[tactic(auto, using(sdr_base::proofs::LeavingLemmas::leaving))]
 pub fn destroy<O: Objects>(o: &mut O, table: Addr) -> Result<(), Stop>
     requires kept { KeepsSome (O.keeps o.old) }
     requires spare { 1 ≤ (O.heap o.old).spare }

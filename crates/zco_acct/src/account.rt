@@ -128,6 +128,7 @@ pub fn maxima<O: Objects>(o: &mut O, acct: Acct) -> Result<Amounts, Stop>
 
 /// Sets the maximum of a space in an account, in bytes, of which 2^40 are the most. It doesn't
 /// serve the account's queue.
+#[tactic(auto, using(sdr_base::proofs::LeavingLemmas::leaving))]
 pub fn set_maximum<O: Objects>(o: &mut O, acct: Acct, space: Space, value: u64) -> Result<(), Stop>
     requires kept { KeepsSome (O.keeps o.old) }
     ensures set { OnOk result (SetsMaximum acct space value (O.heap o.old) (O.heap o.new)) }

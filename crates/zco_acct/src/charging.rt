@@ -20,6 +20,7 @@ use sdr_model::amounts::{NOTHING, amount, first_above, is_nothing, minus, plus};
 /// Charges an account so many bytes of each space. What is left of the grant of the ticket of this
 /// number covers what it can, and gives that up; what it doesn't cover is occupied from then on. 0
 /// is no ticket.
+#[tactic(auto, using(sdr_base::proofs::LeavingLemmas::leaving))]
 pub fn charge<O: Objects>(o: &mut O, acct: Acct, ticket: u64, amounts: &Amounts) -> Result<(), Stop>
     requires kept { KeepsSome (O.keeps o.old) }
     requires queue { SomeQueue (O.heap o.old) acct }

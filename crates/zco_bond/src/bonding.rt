@@ -29,6 +29,7 @@ use zco_obj::{account, extents_length, first_parts};
 /// It is refused `BadAddress` or `WrongKind` where the object isn't there, `BadTicket`, `NotAwarded`,
 /// `Queue` or `NoSpace` by the account; and `NoBlock` or `LogFull`, behind which the transaction has
 /// to be cancelled.
+#[tactic(auto, using(sdr_base::proofs::LeavingLemmas::leaving))]
 pub fn bond<O: Objects>(o: &mut O, object: Addr, ticket: u64) -> Result<(), Stop>
     requires kept { KeepsSome (O.keeps o.old) }
     requires object { IsToBond (O.heap o.old) object }
@@ -50,6 +51,7 @@ pub fn bond<O: Objects>(o: &mut O, object: Addr, ticket: u64) -> Result<(), Stop
 
 // Makes extents of an object's headers and trailers, and one chain of all its extents, of which it
 // answers the ends.
+#[tactic(auto, using(sdr_base::proofs::LeavingLemmas::leaving))]
 fn bond_parts<O: Objects>(o: &mut O, object: Addr) -> Result<Chain, Stop>
     requires kept { KeepsSome (O.keeps o.old) }
     requires object { SomeToBond (O.heap o.old) object }

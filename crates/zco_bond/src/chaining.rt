@@ -15,6 +15,7 @@ use zco_obj::{TOO_MANY_PARTS, see_capsule};
 // Makes extents at a place of the headers or trailers of a chain, one after another, and gives
 // those back. Where there is none, the extents on either side are what is answered. It is linear
 // in the chain.
+#[tactic(auto, using(sdr_base::proofs::LeavingLemmas::leaving))]
 pub fn bond_chain<O: Objects>(o: &mut O, acct: Acct, first: Addr, gap: Gap) -> Result<Chain, Stop>
     requires kept { KeepsSome (O.keeps o.old) }
     requires chains { SomeChains (O.heap o.old) first gap }

@@ -39,6 +39,7 @@ fn bond_rise<O: Objects>(o: &mut O, first: Addr) -> Result<u64, Stop>
 }
 
 // Charges an object's account for what the object charges more once it is bonded.
+#[tactic(auto, using(sdr_base::proofs::LeavingLemmas::leaving))]
 pub fn charge_bond<O: Objects>(o: &mut O, object: Addr, ticket: u64) -> Result<(), Stop>
     requires kept { KeepsSome (O.keeps o.old) }
     requires object { SomeWithQueue (O.heap o.old) object }

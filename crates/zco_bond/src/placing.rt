@@ -33,6 +33,7 @@ fn insert_extent<O: Objects>(o: &mut O, source: Addr, bytes: u64, gap: Gap) -> R
 
 // Makes an extent at a place of a header or trailer, and gives that back. An extent of the account
 // names its source, which has taken over a raw object of the text.
+#[tactic(auto, using(sdr_base::proofs::LeavingLemmas::leaving))]
 pub fn bond_text<O: Objects>(o: &mut O, acct: Acct, text: Text, gap: Gap) -> Result<Addr, Stop>
     requires kept { KeepsSome (O.keeps o.old) }
     requires spare { 4 ≤ (O.heap o.old).spare }

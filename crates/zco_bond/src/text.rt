@@ -52,6 +52,7 @@ fn copy_text<O: Objects>(o: &mut O, text: Text) -> Result<Addr, Stop>
 }
 
 // Makes a source of a text, which takes over a raw object of it.
+#[tactic(auto, using(sdr_base::proofs::LeavingLemmas::leaving))]
 pub fn make_source<O: Objects>(o: &mut O, text: Text) -> Result<Addr, Stop>
     requires kept { KeepsSome (O.keeps o.old) }
     requires spare { 2 ≤ (O.heap o.old).spare }

@@ -16,6 +16,7 @@ use sdr_base::{Addr, Kind, Objects, Refusal, Stop, expect_kind, word};
 
 /// Puts a header in front of an object's others, and charges the object's account for it. What is
 /// left of the grant of the ticket of this number covers what it can; 0 is no ticket.
+#[tactic(auto, using(sdr_base::proofs::LeavingLemmas::leaving))]
 pub fn prepend_header<O: Objects>(
     o: &mut O,
     object: Addr,
@@ -41,6 +42,7 @@ pub fn prepend_header<O: Objects>(
 
 /// Puts a trailer behind an object's others, and charges the object's account for it. What is left
 /// of the grant of the ticket of this number covers what it can; 0 is no ticket.
+#[tactic(auto, using(sdr_base::proofs::LeavingLemmas::leaving))]
 pub fn append_trailer<O: Objects>(
     o: &mut O,
     object: Addr,
@@ -65,6 +67,7 @@ pub fn append_trailer<O: Objects>(
 }
 
 // Charges an object's account for a header or trailer of this text.
+#[tactic(auto, using(sdr_base::proofs::LeavingLemmas::leaving))]
 fn charge_capsule<O: Objects>(o: &mut O, object: Addr, ticket: u64, text: &[u8]) -> Result<(), Stop>
     requires kept { KeepsSome (O.keeps o.old) }
     requires object { IsWithQueue (O.heap o.old) object }

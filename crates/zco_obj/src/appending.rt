@@ -24,6 +24,7 @@ use zco_ref::{attach, expect_unnamed, heap_source};
 /// raw object, which no source may name, a source of its own is made first, which takes it over.
 /// The object's part grows where it reached the end of what was there. What is left of the grant of
 /// the ticket of this number covers what it can; 0 is no ticket.
+#[tactic(auto, using(sdr_base::proofs::LeavingLemmas::leaving))]
 pub fn append_extent<O: Objects>(
     o: &mut O,
     object: Addr,
@@ -60,6 +61,7 @@ pub fn append_extent<O: Objects>(
 }
 
 // Puts a part of a source behind an object's extents, and charges the object's account for it.
+#[tactic(auto, using(sdr_base::proofs::LeavingLemmas::leaving))]
 fn append_source<O: Objects>(
     o: &mut O,
     object: Addr,
@@ -87,6 +89,7 @@ fn append_source<O: Objects>(
 
 // Puts a part of a raw object behind an object's extents, whose account is charged for it. A source
 // takes the raw object over before.
+#[tactic(auto, using(sdr_base::proofs::LeavingLemmas::leaving))]
 fn append_raw<O: Objects>(
     o: &mut O,
     object: Addr,

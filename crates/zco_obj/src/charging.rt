@@ -57,6 +57,7 @@ pub fn capsule_bytes(bytes: u64) -> u64
 }
 
 /// Charges the account of an object.
+#[tactic(auto, using(sdr_base::proofs::LeavingLemmas::leaving))]
 pub fn charge_object<O: Objects>(
     o: &mut O,
     object: Addr,

@@ -36,6 +36,7 @@ struct GivenExtent {
 /// account what they charged. A source that has taken over a raw object, or is flagged, goes with
 /// the last extent that names it, before that, and before it the raw object that it has taken over.
 /// It is linear in the parts, and doesn't serve the account's queue.
+#[tactic(auto, using(sdr_base::proofs::LeavingLemmas::leaving))]
 pub fn destroy<O: Objects>(o: &mut O, object: Addr) -> Result<(), Stop>
     requires kept { KeepsSome (O.keeps o.old) }
     requires object { IsWithSources (O.heap o.old) object }
@@ -56,6 +57,7 @@ pub fn destroy<O: Objects>(o: &mut O, object: Addr) -> Result<(), Stop>
 }
 
 // Gives the parts of an object back, and answers what they charged.
+#[tactic(auto, using(sdr_base::proofs::LeavingLemmas::leaving))]
 fn give_parts<O: Objects>(o: &mut O, object: Addr, acct: Acct) -> Result<Amounts, Stop>
     requires kept { KeepsSome (O.keeps o.old) }
     requires object { SomeWithSources (O.heap o.old) object }
@@ -77,6 +79,7 @@ fn give_parts<O: Objects>(o: &mut O, object: Addr, acct: Acct) -> Result<Amounts
 
 // Gives the headers or trailers of a chain back, and answers how many bytes of heap space they
 // charged.
+#[tactic(auto, using(sdr_base::proofs::LeavingLemmas::leaving))]
 fn give_capsules<O: Objects>(o: &mut O, first: Addr) -> Result<u64, Stop>
     requires kept { KeepsSome (O.keeps o.old) }
     requires chain { SomeCapsulesToGive (O.heap o.old) first }
@@ -104,6 +107,7 @@ fn give_capsules<O: Objects>(o: &mut O, first: Addr) -> Result<u64, Stop>
 
 /// Gives the extents of a chain back, each after what goes with it, and answers what they charged.
 /// At most their blocks and those of their sources go. It is linear in the extents.
+#[tactic(auto, using(sdr_base::proofs::LeavingLemmas::leaving))]
 pub fn give_extents<O: Objects>(o: &mut O, acct: Acct, first: Addr) -> Result<Amounts, Stop>
     requires kept { KeepsSome (O.keeps o.old) }
     requires chain { SomeUses acct (O.heap o.old) first }
@@ -130,6 +134,7 @@ pub fn give_extents<O: Objects>(o: &mut O, acct: Acct, first: Addr) -> Result<Am
 }
 
 // Gives an extent back, once its source counts one less, and is gone where it goes with it.
+#[tactic(auto, using(sdr_base::proofs::LeavingLemmas::leaving))]
 fn give_extent<O: Objects>(o: &mut O, acct: Acct, extent: Addr) -> Result<GivenExtent, Stop>
     requires kept { KeepsSome (O.keeps o.old) }
     requires spare { 1 + going_with (O.heap o.old).blocks extent ≤ (O.heap o.old).spare }

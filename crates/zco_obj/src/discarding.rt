@@ -21,6 +21,7 @@ use zco_acct::release;
 
 /// Gives the first header of an object back, and what it charged. It doesn't serve the account's
 /// queue.
+#[tactic(auto, using(sdr_base::proofs::LeavingLemmas::leaving))]
 pub fn discard_first_header<O: Objects>(o: &mut O, object: Addr) -> Result<(), Stop>
     requires kept { KeepsSome (O.keeps o.old) }
     requires spare { 1 ≤ (O.heap o.old).spare }
@@ -43,6 +44,7 @@ pub fn discard_first_header<O: Objects>(o: &mut O, object: Addr) -> Result<(), S
 
 /// Gives the last trailer of an object back, and what it charged. It is linear in the trailers. It
 /// doesn't serve the account's queue.
+#[tactic(auto, using(sdr_base::proofs::LeavingLemmas::leaving))]
 pub fn discard_last_trailer<O: Objects>(o: &mut O, object: Addr) -> Result<(), Stop>
     requires kept { KeepsSome (O.keeps o.old) }
     requires spare { 1 ≤ (O.heap o.old).spare }
@@ -66,6 +68,7 @@ pub fn discard_last_trailer<O: Objects>(o: &mut O, object: Addr) -> Result<(), S
 
 // Gives a header or trailer back that stands behind another, or is its chain's first where that is
 // 0, and what it charged.
+#[tactic(auto, using(sdr_base::proofs::LeavingLemmas::leaving))]
 fn discard<O: Objects>(
     o: &mut O,
     object: Addr,

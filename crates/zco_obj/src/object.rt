@@ -30,6 +30,7 @@ pub struct Firsts {
 
 /// Makes an object with nothing in it in an account, and charges the account for it. What is left
 /// of the grant of the ticket of this number covers what it can; 0 is no ticket.
+#[tactic(auto, using(sdr_base::proofs::LeavingLemmas::leaving))]
 pub fn create<O: Objects>(o: &mut O, acct: Acct, ticket: u64) -> Result<Addr, Stop>
     requires kept { KeepsSome (O.keeps o.old) }
     requires spare { 1 ≤ (O.heap o.old).spare }

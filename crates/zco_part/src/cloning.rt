@@ -40,6 +40,7 @@ struct Asked {
 /// It is refused `BadAddress` or `WrongKind` where the object isn't there, `BadRange` for no byte or
 /// more than its part has from the place on, `BadTicket`, `NotAwarded`, `Queue` or `NoSpace` by the
 /// account; and `NoBlock` or `LogFull`, behind which the transaction has to be cancelled.
+#[tactic(auto, using(sdr_base::proofs::LeavingLemmas::leaving))]
 pub fn clone_part<O: Objects>(
     o: &mut O,
     object: Addr,
@@ -83,6 +84,7 @@ fn check_range(offset: u64, bytes: u64, have: u64) -> Result<(), Stop>
 }
 
 // Makes an object of a range that the part of an object has, and charges its account.
+#[tactic(auto, using(sdr_base::proofs::LeavingLemmas::leaving))]
 fn make_clone<O: Objects>(
     o: &mut O,
     object: Addr,
@@ -132,6 +134,7 @@ fn see_asked<O: Objects>(o: &mut O, object: Addr, offset: u64, bytes: u64) -> Re
 }
 
 // Charges an account for an object of what is asked for.
+#[tactic(auto, using(sdr_base::proofs::LeavingLemmas::leaving))]
 fn charge_clone<O: Objects>(o: &mut O, acct: Acct, ticket: u64, asked: Asked) -> Result<(), Stop>
     requires kept { KeepsSome (O.keeps o.old) }
     requires queue { SomeQueue (O.heap o.old) acct }

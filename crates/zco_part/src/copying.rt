@@ -27,6 +27,7 @@ use zco_ref::attach;
 
 // Fills an empty object with one extent for each extent of the chain that the span meets, cut at the
 // span's ends. Each source counts one more. It is linear in the chain.
+#[tactic(auto, using(sdr_base::proofs::LeavingLemmas::leaving))]
 pub fn copy_chain<O: Objects>(o: &mut O, copy: Addr, first: Addr, span: Span) -> Result<(), Stop>
     requires kept { KeepsSome (O.keeps o.old) }
     requires chain { SomeCopy copy (O.heap o.old) first span }
@@ -53,6 +54,7 @@ pub fn copy_chain<O: Objects>(o: &mut O, copy: Addr, first: Addr, span: Span) ->
 }
 
 // Gives an object that is whole an extent of a piece, unless the piece has no byte.
+#[tactic(auto, using(sdr_base::proofs::LeavingLemmas::leaving))]
 fn name_piece<O: Objects>(o: &mut O, object: Addr, piece: ExtentPiece) -> Result<(), Stop>
     requires kept { KeepsSome (O.keeps o.old) }
     requires spare { length (filled piece) ≤ (O.heap o.old).spare }

@@ -15,6 +15,7 @@ use zco_obj::extents_length;
 ///
 /// It is refused `BadAddress` or `WrongKind` where the object isn't there, `BadRange` where the
 /// extents have fewer bytes, and `LogFull`, behind which the transaction has to be cancelled.
+#[tactic(auto, using(sdr_base::proofs::LeavingLemmas::leaving))]
 pub fn delimit<O: Objects>(o: &mut O, object: Addr, offset: u64, bytes: u64) -> Result<(), Stop>
     requires kept { KeepsSome (O.keeps o.old) }
     requires object { IsObject (O.heap o.old).blocks object }

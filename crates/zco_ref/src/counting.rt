@@ -54,6 +54,7 @@ pub fn attach<O: Objects>(o: &mut O, source: Addr, acct: Acct) -> Result<(), Sto
 
 /// Counts an extent less of an account that names a source, and answers whether the source went with
 /// it: it was the last one, and the source is flagged or has taken over a raw object, which went too.
+#[tactic(auto, using(sdr_base::proofs::LeavingLemmas::leaving))]
 pub fn detach<O: Objects>(o: &mut O, source: Addr, acct: Acct) -> Result<bool, Stop>
     requires kept { KeepsSome (O.keeps o.old) }
     requires spare { going ((O.heap o.old).blocks source) ≤ (O.heap o.old).spare }

@@ -15,6 +15,7 @@ use sdr_base::{Addr, Kind, Medium, Objects, Refusal, Stop, expect_kind, set_word
 /// Gives a source back where no extent names it, and else flags it: it goes with its last extent. A
 /// source that has taken over a raw object is refused as of the wrong kind, and a flagged one as not
 /// found.
+#[tactic(auto, using(sdr_base::proofs::LeavingLemmas::leaving))]
 pub fn destroy_ref<O: Objects>(o: &mut O, source: Addr) -> Result<(), Stop>
     requires kept { KeepsSome (O.keeps o.old) }
     requires spare { 1 ≤ (O.heap o.old).spare }
@@ -43,6 +44,7 @@ pub fn destroy_ref<O: Objects>(o: &mut O, source: Addr) -> Result<(), Stop>
 
 // Gives a source back, and before it the raw object that it has taken over. One that stays with its
 // owner is named by no source from then on.
+#[tactic(auto, using(sdr_base::proofs::LeavingLemmas::leaving))]
 pub fn vanish<O: Objects>(o: &mut O, source: Addr, seen: Seen) -> Result<(), Stop>
     requires kept { KeepsSome (O.keeps o.old) }
     requires spare { blocks_with seen.medium ≤ (O.heap o.old).spare }

@@ -20,6 +20,7 @@ use sdr_base::{
 pub const PATH_FROM: usize = 48;
 
 /// Makes a source of the first bytes of a file, so many. The file isn't looked at.
+#[tactic(auto, using(sdr_base::proofs::LeavingLemmas::leaving))]
 pub fn file_ref<O: Objects>(o: &mut O, path: &[u8], bytes: u64) -> Result<Addr, Stop>
     requires kept { KeepsSome (O.keeps o.old) }
     requires spare { 1 ≤ (O.heap o.old).spare }
@@ -37,6 +38,7 @@ pub fn file_ref<O: Objects>(o: &mut O, path: &[u8], bytes: u64) -> Result<Addr, 
 }
 
 /// Makes a source of the first bytes of an item of bulk storage, so many. The item isn't looked at.
+#[tactic(auto, using(sdr_base::proofs::LeavingLemmas::leaving))]
 pub fn bulk_ref<O: Objects>(o: &mut O, item: u64, bytes: u64) -> Result<Addr, Stop>
     requires kept { KeepsSome (O.keeps o.old) }
     requires spare { 1 ≤ (O.heap o.old).spare }

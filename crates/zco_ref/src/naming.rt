@@ -13,6 +13,7 @@ use sdr_base::layout::raw as words;
 use sdr_base::{Addr, Kind, Medium, Objects, Refusal, Stop, expect_kind, set_word, word};
 
 /// Makes a source of a raw object, which stays with its owner.
+#[tactic(auto, using(sdr_base::proofs::LeavingLemmas::leaving))]
 pub fn obj_ref<O: Objects>(o: &mut O, raw: Addr) -> Result<Addr, Stop>
     requires kept { KeepsSome (O.keeps o.old) }
     requires spare { 1 ≤ (O.heap o.old).spare }
@@ -28,6 +29,7 @@ pub fn obj_ref<O: Objects>(o: &mut O, raw: Addr) -> Result<Addr, Stop>
 
 /// Makes a source of a raw object, which takes it over: the raw object goes with the source, before
 /// it, once no extent names the source any more.
+#[tactic(auto, using(sdr_base::proofs::LeavingLemmas::leaving))]
 pub fn heap_source<O: Objects>(o: &mut O, raw: Addr) -> Result<Addr, Stop>
     requires kept { KeepsSome (O.keeps o.old) }
     requires spare { 1 ≤ (O.heap o.old).spare }
@@ -42,6 +44,7 @@ pub fn heap_source<O: Objects>(o: &mut O, raw: Addr) -> Result<Addr, Stop>
 }
 
 // Makes a source of a raw object, and names it there.
+#[tactic(auto, using(sdr_base::proofs::LeavingLemmas::leaving))]
 fn raw_source<O: Objects>(o: &mut O, raw: Addr, medium: Medium) -> Result<Addr, Stop>
     requires kept { KeepsSome (O.keeps o.old) }
     requires spare { 1 ≤ (O.heap o.old).spare }

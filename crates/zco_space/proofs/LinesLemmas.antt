@@ -1,5 +1,5 @@
 -- Which lines the service of a queue touches.
-use Rattle.std.proofs.Common.{◌≡◌, ◌⊎◌, inl, inr, ◌+◌, ◌≤◌, ℕ, List, [], ◌∷◌, ◌++◌, Bool, true, false, not, cond, length, take, drop}
+use Rattle.std.proofs.Common.{◌≡◌, ◌⊎◌, inl, inr, ◌+◌, ◌≤◌, ℕ, List, [], ◌∷◌, ◌++◌, Bool, true, false, not, cond, length, refl, take, drop}
 use Rattle.std.proofs.Common.{append_assoc, arith, ap, sym, ◌∙◌, subst, length-append, take-append-drop}
 use Rattle.std.proofs.lemmas.List.{append-nil, take-take, take_at}
 use Rattle.std.proofs.lemmas.List.Concat.{flat_map-append}
@@ -35,21 +35,26 @@ serving_front acct (t ∷ first) others line has =
     subst (λ (l : List ℕ). Contains l line) (sym split)
     (Contains-append_left (occupied_lines acct ++ flat_map lines_for (t ∷ first)) (flat_map lines_for others) line has)
 
+some_lines : (acct : Acct) (first : List Ticket) (t : Ticket) →
+    serving_lines acct (first ++ t ∷ []) ≡ occupied_lines acct ++ flat_map lines_for (first ++ t ∷ [])
+some_lines acct [] t = refl
+some_lines acct (u ∷ first) t = refl
+
 -- those of the last grant are among those of all
-serving_last : (acct : Acct) (first : List Ticket) (t : Ticket) (line : ℕ) → Contains (occupied_lines acct ++ grant_lines t.block) line →
+serving_last : (acct : Acct) (first : List Ticket) (t : Ticket) (line : ℕ) → Contains (grant_lines t.block ++ occupied_lines acct) line →
     Contains (serving_lines acct (first ++ t ∷ [])) line
-serving_last acct [] t line has =
-    subst (λ (l : List ℕ). Contains (occupied_lines acct ++ l) line) (sym (flat_last t)) has
-serving_last acct (u ∷ first) t line has =
-    elim (Contains-append_cases (occupied_lines acct) (grant_lines t.block) line has) [
+serving_last acct first t line has =
+    let all = flat_map lines_for (first ++ t ∷ []) in
+    let split : all ≡ flat_map lines_for first ++ grant_lines t.block =
+    flat_map-append lines_for first (t ∷ []) ∙ ap (λ (l : List ℕ). flat_map lines_for first ++ l) (flat_last t) in
+    subst (λ (l : List ℕ). Contains l line) (sym (some_lines acct first t))
+    (elim (Contains-append_cases (grant_lines t.block) (occupied_lines acct) line has) [
       | inl here ↦
-          Contains-append_left (occupied_lines acct) (flat_map lines_for (u ∷ (first ++ t ∷ []))) line here
-      | inr here ↦
-          Contains-append_right (occupied_lines acct) (flat_map lines_for (u ∷ (first ++ t ∷ []))) line
-          (subst (λ (l : List ℕ). Contains l line)
-          (sym (flat_map-append lines_for (u ∷ first) (t ∷ []) ∙ ap (λ (l : List ℕ). flat_map lines_for (u ∷ first) ++ l) (flat_last t)))
-          (Contains-append_right (flat_map lines_for (u ∷ first)) (grant_lines t.block) line here))
-    ]
+          Contains-append_right (occupied_lines acct) all line
+          (subst (λ (l : List ℕ). Contains l line) (sym split)
+          (Contains-append_right (flat_map lines_for first) (grant_lines t.block) line here))
+      | inr here ↦ Contains-append_left (occupied_lines acct) all line here
+    ])
 
 -- the lines of the first so many grants are among those of the first so many or more
 pub serving_upto : {T : Type 0} (acct : Acct) (few more : ℕ) (tickets : List Ticket) {a b : Transaction} {r : Result T Stop} → few ≤ more →
@@ -65,11 +70,11 @@ serving_upto {T} acct few more tickets {a} {b} {r} le t =
 -- a grant behind others, with a call between that touches no line
 pub grants_then : {T U : Type 0} (acct : Acct) (first : List Ticket) (t : Ticket) {a b c d : Transaction} {v : U} {r : Result T Stop} →
     TouchesWithin (serving_lines acct first) a b (Ok v) → c.touched ≡ b.touched →
-    TouchesWithin (occupied_lines acct ++ grant_lines t.block) c d r → TouchesWithin (serving_lines acct (first ++ t ∷ [])) a d r
+    TouchesWithin (grant_lines t.block ++ occupied_lines acct) c d r → TouchesWithin (serving_lines acct (first ++ t ∷ [])) a d r
 grants_then {T} {U} acct first t {a} {b} {c} {d} {v} {r} before same grant =
     let looked : TouchesWithin [] b c (Ok v) = within_none [] (Ok v) same in
     within_more (serving_lines acct (first ++ t ∷ []))
-    (λ line has. elim (Contains-append_cases (serving_lines acct first) ([] ++ (occupied_lines acct ++ grant_lines t.block)) line has) [
+    (λ line has. elim (Contains-append_cases (serving_lines acct first) ([] ++ (grant_lines t.block ++ occupied_lines acct)) line has) [
       | inl was ↦ serving_front acct first (t ∷ []) line was
       | inr new ↦ serving_last acct first t line new
     ])

@@ -20,6 +20,7 @@ use zco_acct::{Notice, Notify, Sought, last_word, maxima, search};
 /// Asks an account for so many bytes of each space, and serves its queue. Of two tickets that wait,
 /// the one of the greater coarse priority goes first, then that of the greater fine one, then the
 /// older. It answers the new ticket's number, and whether it was granted at once.
+#[tactic(auto, using(sdr_base::proofs::LeavingLemmas::leaving))]
 pub fn request<O: Objects, F: Notify>(
     o: &mut O,
     acct: Acct,

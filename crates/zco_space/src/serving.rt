@@ -73,7 +73,7 @@ fn grant<O: Objects>(
         (GrantsTicket acct ticket.now taken.now (O.heap o.old) (O.heap o.new)) }
     ensures refused { IfErr result (OnlyUnmoved (O.heap o.old) (O.heap o.new)) }
     ensures works { Spends O.HasHeap 5 o.old o.new result }
-    ensures lines { TouchesWithin (occupied_lines acct ++ grant_lines ticket.now.block)
+    ensures lines { TouchesWithin (grant_lines ticket.now.block ++ occupied_lines acct)
         (O.transaction o.old) (O.transaction o.new) result }
 {
     put_grant(o, ticket.block, &ticket.asked)?;

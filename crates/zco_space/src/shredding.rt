@@ -17,6 +17,7 @@ use zco_acct::{Found, Notice, Notify, release};
 
 /// Ends the ticket of this number, of either account, gives back what is left of its grant, and
 /// serves its account's queue.
+#[tactic(auto, using(sdr_base::proofs::LeavingLemmas::leaving))]
 pub fn shred<O: Objects, F: Notify>(o: &mut O, ticket: u64, notice: &Notice<F>) -> Result<(), Stop>
     requires kept { KeepsSome (O.keeps o.old) }
     requires spare { 1 ≤ (O.heap o.old).spare }

@@ -36,6 +36,7 @@ struct Span {
 ///
 /// It is refused `BadAddress` or `WrongKind` where the object isn't there, and `LogFull`, behind which
 /// the transaction has to be cancelled.
+#[tactic(auto, using(sdr_base::proofs::LeavingLemmas::leaving))]
 pub fn strip<O: Objects>(o: &mut O, object: Addr) -> Result<(), Stop>
     requires kept { KeepsSome (O.keeps o.old) }
     requires object { IsToStrip (O.heap o.old) object }
