@@ -27,4 +27,5 @@ returns-in-None-clause-chosen g c =
 
 pub returns-in-None-clause-none : goal.returns-in-None-clause-none
 returns-in-None-clause-none g c =
-    none_behind _ _ _ c.take-in-None.result (rw c.in-None.is at c.in_ok-addr.ensures.none) c.take-in-None.ensures.none
+    let t = g.C.Cells.transaction in
+    none_behind (t c.args.c.now) (t c.take.new.c) (t c.take-in-None.new.c) c.take-in-None.result (rw c.in-None.is at c.in_ok-addr.ensures.none) c.take-in-None.ensures.none

@@ -68,4 +68,6 @@ returns-in-None-clause-others g c =
     (returns-in-None-clause-taken g c)
 
 pub returns-in-None-clause-none : goal.returns-in-None-clause-none
-returns-in-None-clause-none g c = none_behind _ _ _ c.take_new.result c.in_ok-block.ensures.room.touched c.take_new.ensures.none
+returns-in-None-clause-none g c =
+    let t = g.C.Cells.transaction in
+    none_behind (t c.args.c.now) (t c.find.new.c) (t c.take_new.new.c) c.take_new.result c.in_ok-block.ensures.room.touched c.take_new.ensures.none

@@ -75,4 +75,6 @@ returns-clause-kept g c = TakesSmall-kept _ _ c.args.words _ c.requires.pools (r
 
 pub returns-then-front-eq0-clause-none : goal.returns-then-front-eq0-clause-none
 returns-then-front-eq0-clause-none g c =
-    none_behind _ _ _ c.take_new.result (c.in_ok-front.ensures.room.touched ∙ c.in_ok-low.ensures.room.touched) c.take_new.ensures.none
+    let t = g.C.Cells.transaction in
+    none_behind (t c.args.c.now) (t c.read_number-2.new.c) (t c.take_new.new.c) c.take_new.result
+    (c.in_ok-front.ensures.room.touched ∙ c.in_ok-low.ensures.room.touched) c.take_new.ensures.none

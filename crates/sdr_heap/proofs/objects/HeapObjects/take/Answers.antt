@@ -123,7 +123,8 @@ returns-clause-works g c =
 pub returns-in_err-addr-clause-untouched : goal.returns-in_err-addr-clause-untouched
 returns-in_err-addr-clause-untouched g c =
     let p = err_from_is_err_and c.from_residual.result c.from_residual.ensures.1 in
-    rw (p.1, p.2) (full_leaves _ _ _ c.in_err-addr.ensures.refused)
+    rw (p.1, p.2)
+    (full_leaves (g.C.Cells.transaction c.args.self.now.cells) (g.C.Cells.transaction c.choose.new.c) _ c.in_err-addr.ensures.refused)
 
 pub returns-in_default-clause-untouched : goal.returns-in_default-clause-untouched
 returns-in_default-clause-untouched g c =
@@ -133,4 +134,5 @@ returns-in_default-clause-untouched g c =
 pub returns-in_err-label-clause-untouched : goal.returns-in_err-label-clause-untouched
 returns-in_err-label-clause-untouched g c =
     let p = err_from_is_err_and c.from_residual-in_err-label.result c.from_residual-in_err-label.ensures.1 in
-    rw (p.1, p.2) (full_leaves _ _ _ c.in_err-label.ensures.refused)
+    rw (p.1, p.2)
+    (full_leaves (g.C.Cells.transaction c.args.self.now.cells) (g.C.Cells.transaction c.label.new.c) _ c.in_err-label.ensures.refused)
