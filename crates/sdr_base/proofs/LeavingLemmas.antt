@@ -3,11 +3,65 @@ use Rattle.std.proofs.Common.{◌≡◌, ◌∙◌, ℕ}
 use Rattle.std.specs.Prelude.{Option, Some, None, Result, Ok, Err, IfErr}
 use Rattle.sdr_base.specs.Objects.{Heap, OnlyFault, OnlyFull, OnlyShort, OnlyUnmoved}
 use Rattle.sdr_base.specs.Transaction.{LeavesTouched, LeavesUnlessFull, NoneLeaves, Transaction}
+use Rattle.sdr_base.specs.Wanting.{OnlyWanting}
 use Rattle.sdr_base.specs.declared.refusal.Refusal.TheVariants.{LogFull, NoBlock}
 use Rattle.sdr_base.specs.declared.stop.Stop.{Stop}
 use Rattle.sdr_base.specs.declared.stop.Stop.TheVariants.{Refused, DiskFault, MediaFault, Failed}
 
+-- a call that stops by a fault alone
+pub fault_wants : (stop : Stop) → OnlyFault stop → OnlyWanting stop
+fault_wants (Refused refusal) only = absurd only
+fault_wants DiskFault only = tt
+fault_wants MediaFault only = only
+fault_wants Failed only = tt
+
+-- or for want of log room
+pub unmoved_wants : (old new : Heap) (stop : Stop) → OnlyUnmoved old new stop → OnlyWanting stop
+unmoved_wants old new (Refused (LogFull lines room)) only = tt
+unmoved_wants old new (Refused refusal) only = absurd only
+unmoved_wants old new DiskFault only = tt
+unmoved_wants old new MediaFault only = only
+unmoved_wants old new Failed only = tt
+
+-- or of a block
+pub short_wants : (need : ℕ) (old new : Heap) (stop : Stop) → OnlyShort need old new stop → OnlyWanting stop
+short_wants need old new (Refused (NoBlock missing)) only = tt
+short_wants need old new (Refused (LogFull lines room)) only = tt
+short_wants need old new (Refused refusal) only = absurd only
+short_wants need old new DiskFault only = tt
+short_wants need old new MediaFault only = only
+short_wants need old new Failed only = tt
+
+-- the same, of a call's whole result
+pub fault_result_wants : {T : Type 0} (r : Result T Stop) → IfErr r OnlyFault → IfErr r OnlyWanting
+fault_result_wants (Ok value) only = tt
+fault_result_wants (Err stop) only = fault_wants stop only
+
+pub unmoved_result_wants : {T : Type 0} (old new : Heap) (r : Result T Stop) → IfErr r (OnlyUnmoved old new) → IfErr r OnlyWanting
+unmoved_result_wants old new (Ok value) only = tt
+unmoved_result_wants old new (Err stop) only = unmoved_wants old new stop only
+
+pub short_result_wants : {T : Type 0} (need : ℕ) (old new : Heap) (r : Result T Stop) → IfErr r (OnlyShort need old new) →
+    IfErr r OnlyWanting
+short_result_wants need old new (Ok value) only = tt
+short_result_wants need old new (Err stop) only = short_wants need old new stop only
+
+pub ruleset wanting = (fault_wants, unmoved_wants, short_wants, fault_result_wants, unmoved_result_wants, short_result_wants)
+
 module _ (a b : Transaction) where
+  -- a call that stops for want alone
+  pub wanting_leaves : (stop : Stop) → OnlyWanting stop → LeavesTouched a b stop
+  wanting_leaves (Refused (NoBlock need)) only = tt
+  wanting_leaves (Refused (LogFull lines room)) only = tt
+  wanting_leaves (Refused refusal) only = absurd only
+  wanting_leaves DiskFault only = tt
+  wanting_leaves MediaFault only = tt
+  wanting_leaves Failed only = tt
+
+  pub wanting_result : {T : Type 0} (r : Result T Stop) → IfErr r OnlyWanting → IfErr r (LeavesTouched a b)
+  wanting_result (Ok value) only = tt
+  wanting_result (Err stop) only = wanting_leaves stop only
+
   -- a call that stops by a fault alone
   pub fault_leaves : (stop : Stop) → OnlyFault stop → LeavesTouched a b stop
   fault_leaves (Refused refusal) only = absurd only
@@ -86,6 +140,8 @@ none_behind a b c (Ok (Some block)) same left = left
 none_behind a b c (Err stop) same left = left
 
 pub ruleset leaving = (
+  wanting_leaves,
+  wanting_result,
   fault_leaves,
   unmoved_leaves,
   short_leaves,

@@ -5,6 +5,7 @@ ghost use Rattle.sdr_base.specs.Moves.{KeepsSome};
 ghost use Rattle.sdr_base.specs.Objects.{OnlyUnmoved, with_given};
 ghost use Rattle.sdr_base.specs.Words.{HasWord};
 ghost use Rattle.sdr_base.specs.Transaction.{LeavesTouched};
+ghost use Rattle.sdr_base.specs.Wanting.{OnlyWanting};
 ghost use Rattle.sdr_base.specs.Works.{Spends};
 ghost use Rattle.sdr_list.specs.Destroying.{DestroysList, DestroyStops};
 ghost use Rattle.sdr_list.specs.Giving.{GivesChain, GiveStops, SomeChain};
@@ -49,14 +50,14 @@ fn give_one<O: Objects>(o: &mut O, element: Addr) -> Result<Addr, Stop>
 }
 
 // Gives so many elements of a chain back, the first one first.
-#[tactic(auto, using(sdr_base::proofs::LeavingLemmas::leaving))]
+#[tactic(auto, using(sdr_base::proofs::LeavingLemmas::wanting))]
 fn give_chain<O: Objects>(o: &mut O, first: Addr, count: u64) -> Result<(), Stop>
     requires kept { KeepsSome (O.keeps o.old) }
     requires spare { count ≤ (O.heap o.old).spare }
     requires chain { SomeChain (O.heap o.old).blocks first count }
     ensures given { OnOk result (GivesChain (O.heap o.old) (O.heap o.new) first count) }
     ensures refused { IfErr result (GiveStops first count (O.heap o.old) (O.heap o.new)) }
-    ensures untouched { IfErr result (LeavesTouched (O.transaction o.old) (O.transaction o.new)) }
+    ensures wants { IfErr result OnlyWanting }
     ensures works { Spends O.HasHeap (24 * count) o.old o.new result }
 {
     check_failed(o)?;

@@ -4,6 +4,7 @@ ghost use Rattle.sdr_base.specs.Blocks.{IsKind, UsesRange};
 ghost use Rattle.sdr_base.specs.Moves.{KeepsSome};
 ghost use Rattle.sdr_base.specs.Objects.{OnlyUnmoved};
 ghost use Rattle.sdr_base.specs.Transaction.{LeavesTouched};
+ghost use Rattle.sdr_base.specs.Wanting.{OnlyWanting};
 ghost use Rattle.sdr_base.specs.Works.{Spends};
 ghost use Rattle.sdr_base.specs.ZcoObjects.{ObjectRow};
 ghost use Rattle.sdr_base.specs.declared.kind.Kind.TheVariants as kinds;
@@ -51,13 +52,13 @@ pub fn bond<O: Objects>(o: &mut O, object: Addr, ticket: u64) -> Result<(), Stop
 
 // Makes extents of an object's headers and trailers, and one chain of all its extents, of which it
 // answers the ends.
-#[tactic(auto, using(sdr_base::proofs::LeavingLemmas::leaving))]
+#[tactic(auto, using(sdr_base::proofs::LeavingLemmas::wanting))]
 fn bond_parts<O: Objects>(o: &mut O, object: Addr) -> Result<Chain, Stop>
     requires kept { KeepsSome (O.keeps o.old) }
     requires object { SomeToBond (O.heap o.old) object }
     ensures bonded { IfOk result (BondsParts object (O.heap o.old) (O.heap o.new)) }
     ensures refused { IfErr result (PartsStop object (O.heap o.old) (O.heap o.new)) }
-    ensures untouched { IfErr result (LeavesTouched (O.transaction o.old) (O.transaction o.new)) }
+    ensures wants { IfErr result OnlyWanting }
     ensures works { (row : ObjectRow) → KeepsObject (O.heap o.old).blocks object row →
         Spends O.HasHeap (ends_lines row) o.old o.new result }
 {

@@ -2,6 +2,7 @@
 ghost use Rattle.std.specs.Prelude.{◌≡◌, ◌≢◌, ◌≤◌, IfErr, OnOk};
 ghost use Rattle.sdr_base.specs.Moves.{KeepsSome};
 ghost use Rattle.sdr_base.specs.Transaction.{LeavesTouched};
+ghost use Rattle.sdr_base.specs.Wanting.{OnlyWanting};
 ghost use Rattle.sdr_base.specs.Works.{Spends};
 ghost use Rattle.zco_obj.specs.Chains.{SomeSpot};
 ghost use Rattle.zco_obj.specs.Discards.{DiscardsCapsule, DiscardsSpot, DiscardStops, SpotStops};
@@ -68,7 +69,7 @@ pub fn discard_last_trailer<O: Objects>(o: &mut O, object: Addr) -> Result<(), S
 
 // Gives a header or trailer back that stands behind another, or is its chain's first where that is
 // 0, and what it charged.
-#[tactic(auto, using(sdr_base::proofs::LeavingLemmas::leaving))]
+#[tactic(auto, using(sdr_base::proofs::LeavingLemmas::wanting))]
 fn discard<O: Objects>(
     o: &mut O,
     object: Addr,
@@ -85,7 +86,7 @@ fn discard<O: Objects>(
     ensures discarded { OnOk result
         (DiscardsSpot side object prev gone seen.next (O.heap o.old) (O.heap o.new)) }
     ensures refused { IfErr result (SpotStops gone (O.heap o.old) (O.heap o.new)) }
-    ensures untouched { IfErr result (LeavesTouched (O.transaction o.old) (O.transaction o.new)) }
+    ensures wants { IfErr result OnlyWanting }
     ensures works { Spends O.HasHeap 31 o.old o.new result }
 {
     let acct = account(o, object)?;
