@@ -29,7 +29,7 @@ pub serving_front : (acct : Acct) (first others : List Ticket) (line : ℕ) → 
 serving_front acct [] others line has = absurd (let lt = has.1 in omega (arith, lt))
 serving_front acct (t ∷ first) others line has =
     let split : occupied_lines acct ++ flat_map lines_for (t ∷ (first ++ others))
-        ≡ (occupied_lines acct ++ flat_map lines_for (t ∷ first)) ++ flat_map lines_for others =
+    ≡ (occupied_lines acct ++ flat_map lines_for (t ∷ first)) ++ flat_map lines_for others =
     ap (λ (l : List ℕ). occupied_lines acct ++ l) (flat_map-append lines_for (t ∷ first) others)
     ∙ sym (append_assoc (occupied_lines acct) (flat_map lines_for (t ∷ first)) (flat_map lines_for others)) in
     subst (λ (l : List ℕ). Contains l line) (sym split)
