@@ -134,7 +134,7 @@ returns-in_err-taken-2-clause-lines g c =
     (within_stopped _
     (serving_upto c.args.acct (c.loop-i.granted + 1) _ (waiting_tickets tickets) n
     (subst (λ (l : List Ticket). TouchesWithin (serving_lines c.args.acct l) (g.O.HasHeap.transaction c.args.o.now)
-    (g.O.HasHeap.transaction c.grant.new.o) (Err c.in_err-taken-2.field-0.0))
+    (g.O.HasHeap.transaction c.grant.new.o) (Err _))
     (sym (taken_next c.loop-i.invariant.serves k c.if-addr-eq0.false c.in_ok-here.ensures.told c.if-here.false))
     (grants_then c.args.acct _ c.in_ok-here.here.ticket (c.loop-i.invariant.lines tickets k) c.in_ok-here.ensures.looks.touched
     c.in_err-taken-2.ensures.lines))))
@@ -156,7 +156,7 @@ loop-i-preserved g c =
       lines = λ tickets k.
           within_ok
           (subst (λ (l : List Ticket). TouchesWithin (serving_lines c.args.acct l) (g.O.HasHeap.transaction c.args.o.now)
-          (g.O.HasHeap.transaction c.grant.new.o) (Ok c.in_ok-taken-2.taken))
+          (g.O.HasHeap.transaction c.grant.new.o) (Ok _))
           (sym (taken_next c.loop-i.invariant.serves k c.if-addr-eq0.false c.in_ok-here.ensures.told c.if-here.false))
           (grants_then c.args.acct _ c.in_ok-here.here.ticket (c.loop-i.invariant.lines tickets k)
           c.in_ok-here.ensures.looks.touched c.in_ok-taken-2.ensures.lines));
