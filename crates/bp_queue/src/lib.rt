@@ -1,0 +1,24 @@
+//! Outbound queues with deadlines: objects wait in three classes, and those that are overdue are destroyed.
+//!
+//! 1. Four lists keep the queues: one for each class, and the line of all that wait.
+//! 2. An item keeps what is said of one that waits: a raw object with its deadline, ordinal, class, sequence number, the
+//!    object, and its elements in the list of its class and in the line.
+//! 3. The list of a class is in the order of the ordinals, the highest first, and the line in that of the deadlines, the
+//!    earliest first. Items that tie stand as they were put.
+//! 4. The line's user data is the next sequence number, from 1 on.
+//!
+//! Proved: each call does what its rule says of whichever queues are kept, and touches no other block (`created`, `put`,
+//! `taken`, `expired`, `told`). Of the items that were put just those wait that were neither taken nor overdue at an
+//! expiry after they were put (`queues_keep`).
+//!
+//! Only tested: that these calls succeed with ample memory, and the addresses on a fresh disk (`test_queue`).
+#![tactic(auto)]
+
+mod class;
+mod item;
+mod orders;
+mod queues;
+
+pub use class::Class;
+pub use orders::{EarliestFirst, HighestFirst, Orders};
+pub use queues::{Queues, create, earliest, length};
