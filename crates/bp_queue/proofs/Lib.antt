@@ -1,1 +1,3 @@
 pub mod SortingLemmas
+pub mod FourLemmas
+pub mod PlaceLemmas

@@ -77,12 +77,13 @@ four_lists q of_class line more =
 abbrev pub queue_entries : Queues → ℕ → List Row → Entries
 queue_entries q next rows = four_lists q (class_row rows) (line_row next rows) (items_entries rows)
 
--- the numbers of a row fit their fields
+-- the numbers of a row fit their fields, and its object's address isn't null
 pub record RowFits (r : Row) : Type 0 where
   pub ordinal : r.waiting.ordinal < 2 ^ 8
   pub deadline : r.waiting.deadline < 2 ^ 64
   pub item : r.waiting.item < 2 ^ 64
   pub object : r.waiting.object < 2 ^ 64
+  pub some : r.waiting.object ≢ 0
   pub in_class : r.in_class < 2 ^ 64
   pub in_line : r.in_line < 2 ^ 64
 

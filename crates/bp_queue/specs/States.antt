@@ -1,5 +1,5 @@
 -- What waits in queues, and in which order.
-use Rattle.std.specs.Prelude.{ℕ, ◌==◌, Bool, not, nat_le, nat_lt, List, filter, Option}
+use Rattle.std.specs.Prelude.{ℕ, ◌==◌, Bool, not, nat_le, nat_lt, List, filter, Option, Some, None}
 use Rattle.std.specs.Option.{option_or}
 use Rattle.bp_queue.specs.Classes.{is_class}
 use Rattle.bp_queue.specs.Sorting.{first, sorted_by}
@@ -41,6 +41,16 @@ module _ {X : Type 0} (of : X → Waiting) where
   -- all but those that name an object
   abbrev pub without : ℕ → List X → List X
   without object = filter (λ x. not ((of x).object == object))
+
+  -- all but this one, where there is one
+  abbrev pub except : Option X → List X → List X
+  except None xs = xs
+  except (Some x) xs = without (of x).object xs
+
+  -- the object of this one, 0 where there is none
+  abbrev pub object_of : Option X → ℕ
+  object_of None = 0
+  object_of (Some x) = (of x).object
 
   -- those whose deadline is later
   abbrev pub later_than : ℕ → List X → List X

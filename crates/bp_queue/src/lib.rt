@@ -15,10 +15,18 @@
 #![tactic(auto)]
 
 mod class;
+mod expiring;
 mod item;
+mod laws;
 mod orders;
+mod putting;
 mod queues;
+mod taking;
 
 pub use class::Class;
+pub use expiring::expire;
+pub use laws::queues_keep;
 pub use orders::{EarliestFirst, HighestFirst, Orders};
-pub use queues::{Queues, create, earliest, length};
+pub use putting::{LAST_NUMBER, put};
+pub use queues::{FIRST_NUMBER, Queues, create, earliest, length};
+pub use taking::take;

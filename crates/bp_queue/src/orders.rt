@@ -11,8 +11,8 @@ use std::cmp::Ordering;
 /// comparisons will do that are so on keys of 48 bytes.
 #[derive(Drop)]
 pub struct Orders<F: Collate + Drop, G: Collate + Drop> {
-    deadline: Collation<F>,
-    ordinal: Collation<G>,
+    pub(crate) deadline: Collation<F>,
+    pub(crate) ordinal: Collation<G>,
     ghost rises: { ByDeadline (F.order deadline.by) },
     ghost falls: { ByOrdinal (G.order ordinal.by) },
 }

@@ -6,10 +6,10 @@ ghost use Rattle.sdr_base.specs.Works.{Looks, Spends};
 ghost use Rattle.bp_queue.specs.Calls.{CreatesQueues, Tells, earliest_of};
 ghost use Rattle.bp_queue.specs.Kept.{SomeQueues, list_of, waiting_of};
 ghost use Rattle.bp_queue.specs.States.{class_of};
-ghost use Rattle.bp_queue.specs.Taking.{LacksRoom};
+ghost use Rattle.bp_queue.specs.Lacking.{LacksRoom};
 
 use crate::class::Class;
-use crate::item::words;
+use crate::item::{first_item, words};
 use sdr_base::{Addr, Objects, Stop, word};
 
 /// The number of the item that is put first.
@@ -77,11 +77,11 @@ pub fn earliest<O: Objects>(o: &mut O, q: &Queues) -> Result<Option<u64>, Stop>
     ensures refused { IfErr result OnlyFault }
     ensures looks { Looks O.HasHeap o.old o.new result }
 {
-    let first = sdr_list::first(o, q.line)?;
-    if first == 0 {
-        return Ok(None);
+    match first_item(o, q.line)? {
+        None => Ok(None),
+        Some(item) => {
+            let deadline = word(o, item, words::DEADLINE)?;
+            Ok(Some(deadline))
+        }
     }
-    let item = sdr_list::datum(o, first)?;
-    let deadline = word(o, item, words::DEADLINE)?;
-    Ok(Some(deadline))
 }
