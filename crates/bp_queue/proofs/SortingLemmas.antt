@@ -10,6 +10,11 @@ abbrev pub Among : {X : Type 0} → X → List X → Type 0
 Among x [] = ⊥
 Among x (y ∷ ys) = (y ≡ x) ⊎ Among x ys
 
+-- one between two parts of a list is among them
+pub among_between : {X : Type 0} (before behind : List X) (x : X) → Among x (before ++ (x ∷ behind))
+among_between [] behind x = inl refl
+among_between (y ∷ before) behind x = inr (among_between before behind x)
+
 pub each_weaker : {X : Type 0} (P Q : X → Type 0) → ((x : X) → P x → Q x) → (xs : List X) → Each P xs → Each Q xs
 each_weaker P Q f [] e = tt
 each_weaker P Q f (x ∷ xs) e = (f x e.0, each_weaker P Q f xs e.1)
