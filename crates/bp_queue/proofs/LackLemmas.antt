@@ -27,18 +27,18 @@ took_no_more {need} {old} {new} more t = by t.made t.first.whole t.moves
       moves = moves ∙ ap (λ (xs : List Move). old.moves ++ xs) (one_of (Took need t.addr) m ms t.first.rest whole);
     }
 
-pub first_lacks : {need : ℕ} (more : List ℕ) (old new : Heap) (stop : Stop) → OnlyShort need old new stop → LacksRoom (need ∷ more) old new stop
-first_lacks {need} more old new (Refused (refusals.NoBlock missing)) s = record {
+pub first_lacks : (need : ℕ) (more : List ℕ) (old new : Heap) (stop : Stop) → OnlyShort need old new stop → LacksRoom (need ∷ more) old new stop
+first_lacks need more old new (Refused (refusals.NoBlock missing)) s = record {
   taken = [];
   more = more;
   wanted = ap (λ n. n ∷ more) (sym s.0);
   moves = ap (λ (h : Heap). h.moves) s.1 ∙ ap (λ n. old.moves ++ (Short n ∷ [])) (sym s.0);
 }
-first_lacks more old new (Refused (refusals.LogFull lines room)) s = took_no_more more s
-first_lacks more old new (Refused refusal) s = absurd s
-first_lacks more old new DiskFault s = tt
-first_lacks more old new MediaFault s = absurd s
-first_lacks more old new Failed s = tt
+first_lacks need more old new (Refused (refusals.LogFull lines room)) s = took_no_more more s
+first_lacks need more old new (Refused refusal) s = absurd s
+first_lacks need more old new DiskFault s = tt
+first_lacks need more old new MediaFault s = absurd s
+first_lacks need more old new Failed s = tt
 
 -- one was taken before
 pub then_lacks : {need addr : ℕ} {old mid : Heap} (needs : List ℕ) (new : Heap) (stop : Stop) → Made (Took need addr ∷ []) old mid →
@@ -65,15 +65,15 @@ then_lacks needs new MediaFault m s = s
 then_lacks needs new Failed m s = s
 
 -- all were taken, and no more was done to the pools
-pub none_lacks : {mid last : Heap} (new : Heap) (stop : Stop) → besides last ≡ besides mid → OnlyUnmoved last new stop →
+pub none_lacks : (mid last new : Heap) (stop : Stop) → besides last ≡ besides mid → OnlyUnmoved last new stop →
     LacksRoom [] mid new stop
-none_lacks {mid} new (Refused (refusals.LogFull lines room)) same s = record {
+none_lacks mid last new (Refused (refusals.LogFull lines room)) same s = record {
   taken = [];
   more = [];
   wanted = refl;
   moves = s.moves ∙ ap (λ (h : Heap). h.moves) same ∙ sym (append-nil mid.moves);
 }
-none_lacks new (Refused refusal) same s = absurd s
-none_lacks new DiskFault same s = tt
-none_lacks new MediaFault same s = absurd s
-none_lacks new Failed same s = tt
+none_lacks mid last new (Refused refusal) same s = absurd s
+none_lacks mid last new DiskFault same s = tt
+none_lacks mid last new MediaFault same s = absurd s
+none_lacks mid last new Failed same s = tt

@@ -4,11 +4,18 @@ use Rattle.std.specs.Prelude.{All, filter, map, option_map}
 use Rattle.std.specs.List.{AllByRecursion as Each}
 use Rattle.std.proofs.lemmas.List.{length-map}
 use Rattle.std.proofs.lemmas.List.Elements.{All-from_recursion, All-map, recursion_from_All}
-use Rattle.sdr_base.specs.Blocks.{Blocks}
+use Rattle.sdr_base.specs.Blocks.{Block, Blocks, IsOther}
 use Rattle.sdr_base.specs.Entries.{BlocksAre, Entries}
 use Rattle.sdr_base.specs.Lists.{ElementFits, KeepsList, ListElement, ListRow, list_entries}
 use Rattle.sdr_base.specs.Lists.{RowFits as ListFits}
-use Rattle.sdr_list.specs.Kept.{SomeList}
+use Rattle.sdr_base.specs.Objects.{Misses, OnlyFault}
+use Rattle.sdr_base.specs.Words.{layout}
+use Rattle.sdr_base.specs.declared.kind.Kind.TheVariants as kinds
+use Rattle.sdr_base.specs.declared.refusal.Refusal.TheVariants as refusals
+use Rattle.sdr_base.specs.declared.stop.Stop.{Stop}
+use Rattle.sdr_base.specs.declared.stop.Stop.TheVariants.{Refused, DiskFault, MediaFault, Failed}
+use Rattle.sdr_base.proofs.WritingLemmas.{block}
+use Rattle.sdr_list.proofs.KeptLemmas.{list_there, list_words}
 use Rattle.bp_queue.specs.Classes.{class_number, is_class}
 use Rattle.bp_queue.specs.Kept.{FitQueue, KeepsQueues, ListsFit, Row, RowFits, class_element, class_row, four_lists, items_entries, line_element, line_row, list_of, queue_entries, waiting_of}
 use Rattle.bp_queue.specs.Sorting.{sorted_by}
@@ -113,3 +120,20 @@ line_list {b} {q} {next} {rows} {rest} k =
     let bound = k.fits.bound in
     line_kept q (class_row rows) (line_row next rows) (items_entries rows ++ rest) (opened k)
     (line_few rows k.fits.few k.fits.fits) (line_fits rows k.fits.few k.fits.fits next (omega (arith, bound)))
+
+-- so no call finds that it isn't there
+pub missed_only : {b : Blocks} {list : ℕ} {row : ListRow} → KeepsList b list row → (stop : Stop) → Misses (b list) list kinds.List stop →
+    OnlyFault stop
+missed_only {b} {list} {row} k (Refused (refusals.BadAddress bad)) m =
+    absurd (let e : None ≡ Some (block kinds.List (layout (list_words row) [])) = sym m.1 ∙ list_there k in cc)
+missed_only {b} {list} {row} k (Refused (refusals.WrongKind bad number)) m =
+    let P : Option Block → Type 0 = λ o. IsOther o kinds.List number in
+    absurd ((subst P (list_there k) m.1).1 refl)
+missed_only k (Refused refusal) m = m
+missed_only k DiskFault m = m
+missed_only k MediaFault m = m
+missed_only k Failed m = m
+
+pub class_only : {b : Blocks} {q : Queues} {next : ℕ} {rows : List Row} {rest : Entries} → KeepsQueues b q next rows rest → (class : Class) →
+    (stop : Stop) → Misses (b (list_of q class)) (list_of q class) kinds.List stop → OnlyFault stop
+class_only k class stop m = missed_only (class_list k class) stop m
