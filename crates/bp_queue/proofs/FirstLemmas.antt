@@ -6,10 +6,14 @@ use Rattle.sdr_base.specs.Blocks.{Block, Blocks}
 use Rattle.sdr_base.specs.Entries.{BlocksAre, Entries}
 use Rattle.sdr_base.specs.Linked.{first_of, last_of, linked}
 use Rattle.sdr_base.specs.Lists.{KeepsList, ListElement, ListRow, addr_of, element_block, elements_between, list_block}
-use Rattle.sdr_base.specs.Words.{HasWord}
+use Rattle.sdr_base.specs.Objects.{Misses, OnlyFault}
+use Rattle.sdr_base.specs.Words.{HasWord, layout}
+use Rattle.sdr_base.specs.declared.kind.Kind.TheVariants as kinds
+use Rattle.sdr_base.specs.declared.stop.Stop.{Stop}
 use Rattle.sdr_base.proofs.StandingLemmas.{nonzero}
 use Rattle.sdr_list.specs.Calls.{TellsOfElement, TellsOfList}
 use Rattle.sdr_list.specs.Kept.{IsSpot, SomeList, SomeSpot, Spot}
+use Rattle.sdr_list.proofs.KeptLemmas.{element_there, spot_words}
 use Rattle.bp_queue.specs.Calls.{Tells, TellsFirst, earliest_of, highest_item}
 use Rattle.bp_queue.specs.Kept.{KeepsQueues, Row, SomeQueues, class_element, class_row, line_element, list_of, waiting_of}
 use Rattle.bp_queue.specs.Removing.{IsItem, SomeItem}
@@ -18,7 +22,7 @@ use Rattle.bp_queue.specs.States.{class_of, highest, line_of}
 use Rattle.bp_queue.specs.declared.class.Class.{Class}
 use Rattle.bp_queue.specs.declared.class.Class.TheVariants as classes
 use Rattle.bp_queue.specs.declared.queues.Queues.{Queues}
-use Rattle.bp_queue.proofs.QueueLemmas.{class_list, line_list}
+use Rattle.bp_queue.proofs.QueueLemmas.{class_list, line_list, never_missed}
 use Rattle.bp_queue.proofs.RemoveLemmas.{deadline_is}
 use Rattle.bp_queue.proofs.SortingLemmas.{Among, among_between}
 use Rattle.bp_queue.proofs.StateLemmas.{first_among, from_line}
@@ -68,6 +72,11 @@ module _ {b : Blocks} {list value : ℕ} (t : TellsOfList list (λ row. first_of
         let s = some_by k.row.elements (λ z. n (t.tells k.row k.keeps ∙ z)) in
         record { spot = record { list = list; row = k.row; place = 0; datum = s.0.datum }; is = spot_of k.row k.keeps s.0 s.1 s.2 }
 
+    pub element_only : SomeList b list → (stop : Stop) → Misses (b value) value kinds.Element stop → OnlyFault stop
+    element_only k stop m =
+        let s = first_spot k in
+        never_missed (b value) value kinds.Element (layout (spot_words s.spot) []) (element_there s.is) stop m
+
     pub tells_some : {datum : ℕ} → TellsOfElement value (λ spot. spot.datum) b datum → TellsFirst list b (Some datum)
     tells_some {datum} d = record {
       tells = λ row k.
@@ -87,6 +96,13 @@ first_datum : (el : Row → ListElement) → ((r : Row) → (el r).datum ≡ r.w
 first_datum el is [] = refl
 first_datum el is (r ∷ rows) = ap (λ (v : ℕ). Some v) (is r)
 
+-- a row among others is between two parts of them
+pub split_among : (r : Row) (xs : List Row) → Among r xs → (before : List Row) × (behind : List Row) × (xs ≡ before ++ (r ∷ behind))
+split_among r [] a = absurd a
+split_among r (y ∷ ys) (inl same) = ([], ys, ap (λ (z : Row). z ∷ ys) same)
+split_among r (y ∷ ys) (inr a) =
+    let s = split_among r ys a in (y ∷ s.0, s.1, ap (λ (zs : List Row). y ∷ zs) s.2)
+
 module _ {b : Blocks} {q : Queues} {next : ℕ} {rows : List Row} {rest : Entries} (k : KeepsQueues b q next rows rest) where
   pub line_first : {item : Option ℕ} → TellsFirst q.line b item → item ≡ option_map (λ (r : Row). r.waiting.item) (first (line_of waiting_of rows))
   line_first t = t.tells _ (line_list k) ∙ first_datum line_element (λ r. refl) (line_of waiting_of rows)
@@ -94,13 +110,6 @@ module _ {b : Blocks} {q : Queues} {next : ℕ} {rows : List Row} {rest : Entrie
   pub class_first : {item : Option ℕ} (class : Class) → TellsFirst (list_of q class) b item →
       item ≡ option_map (λ (r : Row). r.waiting.item) (first (class_of waiting_of class rows))
   class_first class t = t.tells _ (class_list k class) ∙ first_datum class_element (λ r. refl) (class_of waiting_of class rows)
-
-  -- a row among others is between two parts of them
-  pub split_among : (r : Row) (xs : List Row) → Among r xs → (before : List Row) × (behind : List Row) × (xs ≡ before ++ (r ∷ behind))
-  split_among r [] a = absurd a
-  split_among r (y ∷ ys) (inl same) = ([], ys, ap (λ (z : Row). z ∷ ys) same)
-  split_among r (y ∷ ys) (inr a) =
-      let s = split_among r ys a in (y ∷ s.0, s.1, ap (λ (zs : List Row). y ∷ zs) s.2)
 
   pub is_item : {item : ℕ} (r : Row) (a : Among r rows) → item ≡ r.waiting.item →
       (let s = split_among r rows a in IsItem b item q next s.0 r s.1 rest)
@@ -114,11 +123,11 @@ module _ {b : Blocks} {q : Queues} {next : ℕ} {rows : List Row} {rest : Entrie
       record { q = q; next = next; before = s.0; row = r; behind = s.1; rest = rest; stands = is_item r a e }
 
 -- the row whose item is told as the first one of some
-some_row : (o : Option Row) (item : ℕ) → Some item ≡ option_map (λ (r : Row). r.waiting.item) o → (r : Row) × (o ≡ Some r) × (item ≡ r.waiting.item)
+pub some_row : (o : Option Row) (item : ℕ) → Some item ≡ option_map (λ (r : Row). r.waiting.item) o → (r : Row) × (o ≡ Some r) × (item ≡ r.waiting.item)
 some_row None item e = absurd (let f : Some item ≡ None = e in cc)
 some_row (Some r) item e = (r, refl, (let f : Some item ≡ Some r.waiting.item = e in cc))
 
-no_row : (o : Option Row) → None ≡ option_map (λ (r : Row). r.waiting.item) o → o ≡ None
+pub no_row : (o : Option Row) → None ≡ option_map (λ (r : Row). r.waiting.item) o → o ≡ None
 no_row None e = refl
 no_row (Some r) e = absurd (let f : None ≡ Some r.waiting.item = e in cc)
 
@@ -182,8 +191,8 @@ module _ {b : Blocks} {q : Queues} where
 
   -- where the urgent class has one, that is it
   pub highest_urgent : {o : Option ℕ} → TellsFirst q.urgent b o → is_some o ≡ true → Tells q highest_item b o
-  highest_urgent {None} t some = absurd (let f : false ≡ true = some in cc)
-  highest_urgent {Some item} t some = record {
+  highest_urgent {o = None} t some = absurd (let f : false ≡ true = some in cc)
+  highest_urgent {o = Some item} t some = record {
     tells = λ next rows rest k.
         let u = class_first k classes.Urgent t in
         sym (classes_of rows ∙ or_some (of_class classes.Urgent rows) _ item (sym u));
@@ -191,9 +200,9 @@ module _ {b : Blocks} {q : Queues} where
 
   pub highest_normal : {o p : Option ℕ} → TellsFirst q.urgent b o → is_some o ≡ false → TellsFirst q.normal b p → is_some p ≡ true →
       Tells q highest_item b p
-  highest_normal {Some item} {p} u no_one t some = absurd (let f : true ≡ false = no_one in cc)
-  highest_normal {None} {None} u no_one t some = absurd (let f : false ≡ true = some in cc)
-  highest_normal {None} {Some item} u no_one t some = record {
+  highest_normal {o = Some item} u no_one t some = absurd (let f : true ≡ false = no_one in cc)
+  highest_normal {o = None} {p = None} u no_one t some = absurd (let f : false ≡ true = some in cc)
+  highest_normal {o = None} {p = Some item} u no_one t some = record {
     tells = λ next rows rest k.
         let none = class_first k classes.Urgent u in
         let n = class_first k classes.Normal t in
@@ -203,9 +212,9 @@ module _ {b : Blocks} {q : Queues} where
 
   pub highest_bulk : {o p r : Option ℕ} → TellsFirst q.urgent b o → is_some o ≡ false → TellsFirst q.normal b p → is_some p ≡ false →
       TellsFirst q.bulk b r → Tells q highest_item b r
-  highest_bulk {Some item} {p} u no_one n no_other t = absurd (let f : true ≡ false = no_one in cc)
-  highest_bulk {None} {Some item} u no_one n no_other t = absurd (let f : true ≡ false = no_other in cc)
-  highest_bulk {None} {None} u no_one n no_other t = record {
+  highest_bulk {o = Some item} u no_one n no_other t = absurd (let f : true ≡ false = no_one in cc)
+  highest_bulk {o = None} {p = Some item} u no_one n no_other t = absurd (let f : true ≡ false = no_other in cc)
+  highest_bulk {o = None} {p = None} u no_one n no_other t = record {
     tells = λ next rows rest k.
         let one = class_first k classes.Urgent u in
         let two = class_first k classes.Normal n in

@@ -10,4 +10,6 @@ pub mod RemoveLemmas
 pub mod LackLemmas
 pub mod MadeLemmas
 pub mod FirstLemmas
+pub mod PutLemmas
+pub mod TakeLemmas
 mod RowsOfQueues

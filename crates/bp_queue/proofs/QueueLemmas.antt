@@ -10,6 +10,7 @@ use Rattle.sdr_base.specs.Lists.{ElementFits, KeepsList, ListElement, ListRow, l
 use Rattle.sdr_base.specs.Lists.{RowFits as ListFits}
 use Rattle.sdr_base.specs.Objects.{Misses, OnlyFault}
 use Rattle.sdr_base.specs.Words.{layout}
+use Rattle.sdr_base.specs.declared.kind.Kind.{Kind}
 use Rattle.sdr_base.specs.declared.kind.Kind.TheVariants as kinds
 use Rattle.sdr_base.specs.declared.refusal.Refusal.TheVariants as refusals
 use Rattle.sdr_base.specs.declared.stop.Stop.{Stop}
@@ -121,18 +122,22 @@ line_list {b} {q} {next} {rows} {rest} k =
     line_kept q (class_row rows) (line_row next rows) (items_entries rows ++ rest) (opened k)
     (line_few rows k.fits.few k.fits.fits) (line_fits rows k.fits.few k.fits.fits next (omega (arith, bound)))
 
--- so no call finds that it isn't there
+-- where a block of a kind stands, no call finds that it doesn't
+pub never_missed : (found : Option Block) (addr : ℕ) (kind : Kind) (bytes : List ℕ) → found ≡ Some (block kind bytes) → (stop : Stop) →
+    Misses found addr kind stop → OnlyFault stop
+never_missed found addr kind bytes there (Refused (refusals.BadAddress bad)) m =
+    absurd (let e : None ≡ Some (block kind bytes) = sym m.1 ∙ there in cc)
+never_missed found addr kind bytes there (Refused (refusals.WrongKind bad number)) m =
+    let P : Option Block → Type 0 = λ o. IsOther o kind number in
+    absurd ((subst P there m.1).1 refl)
+never_missed found addr kind bytes there (Refused refusal) m = m
+never_missed found addr kind bytes there DiskFault m = m
+never_missed found addr kind bytes there MediaFault m = m
+never_missed found addr kind bytes there Failed m = m
+
 pub missed_only : {b : Blocks} {list : ℕ} {row : ListRow} → KeepsList b list row → (stop : Stop) → Misses (b list) list kinds.List stop →
     OnlyFault stop
-missed_only {b} {list} {row} k (Refused (refusals.BadAddress bad)) m =
-    absurd (let e : None ≡ Some (block kinds.List (layout (list_words row) [])) = sym m.1 ∙ list_there k in cc)
-missed_only {b} {list} {row} k (Refused (refusals.WrongKind bad number)) m =
-    let P : Option Block → Type 0 = λ o. IsOther o kinds.List number in
-    absurd ((subst P (list_there k) m.1).1 refl)
-missed_only k (Refused refusal) m = m
-missed_only k DiskFault m = m
-missed_only k MediaFault m = m
-missed_only k Failed m = m
+missed_only {b} {list} {row} k stop m = never_missed (b list) list kinds.List (layout (list_words row) []) (list_there k) stop m
 
 pub class_only : {b : Blocks} {q : Queues} {next : ℕ} {rows : List Row} {rest : Entries} → KeepsQueues b q next rows rest → (class : Class) →
     (stop : Stop) → Misses (b (list_of q class)) (list_of q class) kinds.List stop → OnlyFault stop

@@ -1,5 +1,5 @@
 -- An item goes: from the list of its class, from the line, and then itself.
-use Rattle.std.proofs.Common.{◌≡◌, ◌≢◌, ℕ, suc, ◌+◌, ◌-◌, ◌≤◌, ◌<◌, ◌^◌, Bool, true, false, not, cond, List, [], ◌∷◌, ◌++◌, length, take, drop, get_or, Option, Some, None, refl, sym, ap, ◌∙◌, subst, arith, append_assoc}
+use Rattle.std.proofs.Common.{◌≡◌, ◌≢◌, ℕ, suc, ◌+◌, ◌-◌, ◌≤◌, ◌<◌, ◌^◌, Bool, true, false, not, cond, List, [], ◌∷◌, ◌++◌, length, take, drop, get_or, Option, Some, None, refl, sym, ap, ◌∙◌, subst, arith, append_assoc, append-nil}
 use Rattle.std.specs.Prelude.{map, remove, slice_get, Result, Ok, Err}
 use Rattle.std.specs.List.{flat_map}
 use Rattle.std.proofs.lemmas.List.{length-map, map-append}
@@ -22,6 +22,7 @@ use Rattle.sdr_base.proofs.StandingLemmas.{went}
 use Rattle.sdr_base.proofs.WritingLemmas.{block, reaches, word_is}
 use Rattle.sdr_list.specs.Calls.{ChangeStops, DeletesElement}
 use Rattle.sdr_list.specs.Kept.{IsSpot, SomeSpot, Spot, without_element}
+use Rattle.sdr_list.proofs.KeptLemmas.{element_there, spot_words}
 use Rattle.bp_queue.specs.Classes.{is_class}
 use Rattle.bp_queue.specs.Kept.{FitQueue, KeepsQueues, Row, RowFits, class_element, class_row, four_lists, item_bytes, item_entries, items_entries, line_element, line_row, list_of, waiting_of}
 use Rattle.bp_queue.specs.Removing.{IsItem, ItemGone, RemoveStops, RemovesItem, RemovesSome, SomeItem, item_blocks}
@@ -31,7 +32,7 @@ use Rattle.bp_queue.specs.declared.queues.Queues.{Queues}
 use Rattle.bp_queue.proofs.FitLemmas.{fit_filter, rows_apart, without_between}
 use Rattle.bp_queue.proofs.FourLemmas.{around_more, before_more, class_changed, four_same, line_changed, with_class}
 use Rattle.bp_queue.proofs.ItemLemmas.{item_block, item_found, item_words, rank_word}
-use Rattle.bp_queue.proofs.QueueLemmas.{class_list, closed, each_fits, line_few, line_fits, line_kept, list_small, opened}
+use Rattle.bp_queue.proofs.QueueLemmas.{class_list, closed, each_fits, line_few, line_fits, line_kept, list_small, never_missed, opened}
 use Rattle.bp_queue.proofs.SortingLemmas.{Among, Split, among_between, each_at}
 use Rattle.bp_queue.proofs.StateLemmas.{among_class, among_line, apart_class, apart_line, class_is, class_of-without, keeps_but, line_of-without, other_class-without, split_object}
 
@@ -255,8 +256,8 @@ module _ {b : Blocks} {item : ℕ} {q : Queues} {next : ℕ} {before : List Row}
           (subst (FitQueue q next) left (fit_filter (keeps_but waiting_of r.waiting.object) s.keeps.fits))
 
 -- the calls one after another
-module _ {item : ℕ} {old first second new : Heap} {in_class in_line object : ℕ} (at_class : HasWord (old.blocks item) 5 in_class)
-    (at_line : HasWord (old.blocks item) 6 in_line) (at_object : HasWord (old.blocks item) 4 object) where
+module _ {item : ℕ} {old first : Heap} {in_class in_line : ℕ} (at_class : HasWord (old.blocks item) 5 in_class)
+    (at_line : HasWord (old.blocks item) 6 in_line) where
   -- the first deletion, as whichever queues keep the item see it
   module _ (d : DeletesElement in_class old first) where
     pub line_there : SomeItem old.blocks item → SomeSpot first.blocks in_line
@@ -267,7 +268,7 @@ module _ {item : ℕ} {old first second new : Heap} {in_class in_line object : �
         (d.changes (class_spot s) (subst (λ (e : ℕ). IsSpot old.blocks e (class_spot s)) (sym (in_class_is s at_class)) (is_class_spot s))))
 
     -- and the second
-    module _ (e : DeletesElement in_line first second) where
+    module _ {second : Heap} (e : DeletesElement in_line first second) where
       pub used_still : SomeItem old.blocks item → Reaches (second.blocks item) 0
       used_still i =
           let s = i.stands in
@@ -275,8 +276,8 @@ module _ {item : ℕ} {old first second new : Heap} {in_class in_line object : �
           still_used s c
           (e.changes (line_spot s c) (subst (λ (a : ℕ). IsSpot first.blocks a (line_spot s c)) (sym (in_line_is s at_line)) (is_line_spot s c)))
 
-      pub removes : new ≡ with_given second item → RemovesItem item old new object
-      removes g = record {
+      pub removes : {new : Heap} {object : ℕ} → HasWord (old.blocks item) 4 object → new ≡ with_given second item → RemovesItem item old new object
+      removes {new} {object} at_object g = record {
         removes = λ q next before r behind rest s.
             let c = d.changes (class_spot s)
             (subst (λ (a : ℕ). IsSpot old.blocks a (class_spot s)) (sym (in_class_is s at_class)) (is_class_spot s)) in
@@ -285,9 +286,81 @@ module _ {item : ℕ} {old first second new : Heap} {in_class in_line object : �
             record {
               keeps = item_goes s c f new.blocks (given_blocks item second new g);
               made =
-                  subst (λ (as : List ℕ). Made (gave as) old new)
+                  subst (λ (addrs : List ℕ). Made (gave addrs) old new)
                   (λ i. in_class_is s at_class i ∷ in_line_is s at_line i ∷ sym s.is i ∷ [])
                   (one_gave (in_class ∷ in_line ∷ []) item (made_then (Gave in_class ∷ []) (Gave in_line ∷ []) d.made e.made) g);
               named = object_is s at_object;
             };
       }
+
+-- why a call stops that gives an item back
+some_none : {old new : Heap} → new.moves ≡ old.moves → new.spare ≡ old.spare → GaveSome [] old new
+some_none {old} {new} moves spare = record {
+  made = [];
+  first = record { rest = []; whole = refl };
+  moves = moves ∙ sym (append-nil old.moves);
+  spare = spare ∙ sub_none old.spare;
+}
+  where
+    sub_none : (n : ℕ) → n ≡ n - 0
+    sub_none n = omega arith
+
+-- so many first ones of its blocks were given back before
+stopped : {old mid new : Heap} (before behind all : List ℕ) → before ++ behind ≡ all → Made (gave before) old mid →
+    OnlyUnmoved mid new (Refused (refusals.LogFull 0 0)) → GaveSome all old new
+stopped {old} {mid} {new} before behind all whole m u =
+    subst (λ (addrs : List ℕ). GaveSome addrs old new) whole (some_then before [] behind m (some_none u.moves u.spare))
+
+module _ {item : ℕ} {old : Heap} {in_class in_line : ℕ} (at_class : HasWord (old.blocks item) 5 in_class)
+    (at_line : HasWord (old.blocks item) 6 in_line) where
+  these : {q : Queues} {next : ℕ} {before : List Row} {r : Row} {behind : List Row} {rest : Entries} →
+      IsItem old.blocks item q next before r behind rest → in_class ∷ in_line ∷ item ∷ [] ≡ item_blocks r
+  these s = λ i. in_class_is s at_class i ∷ in_line_is s at_line i ∷ sym s.is i ∷ []
+
+  some_unmoved : {mid new : Heap} (before behind : List ℕ) → before ++ behind ≡ in_class ∷ in_line ∷ item ∷ [] → Made (gave before) old mid →
+      OnlyUnmoved mid new (Refused (refusals.LogFull 0 0)) → RemovesSome item old new
+  some_unmoved before behind whole m u = record {
+    gives = λ q next xs r ys rest s. stopped before behind (item_blocks r) (whole ∙ these s) m u;
+  }
+
+  -- at the element in the list of its class
+  pub class_stops : SomeItem old.blocks item → (new : Heap) (stop : Stop) → ChangeStops kinds.Element in_class old new stop →
+      RemoveStops item old new stop
+  class_stops i new (Refused (refusals.BadAddress bad)) u =
+      let spot = subst (SomeSpot old.blocks) (sym (in_class_is i.stands at_class)) (in_class_spot i.stands) in
+      absurd (never_missed (old.blocks in_class) in_class kinds.Element (layout (spot_words spot.spot) []) (element_there spot.is) _ u.0)
+  class_stops i new (Refused (refusals.WrongKind bad number)) u =
+      let spot = subst (SomeSpot old.blocks) (sym (in_class_is i.stands at_class)) (in_class_spot i.stands) in
+      absurd (never_missed (old.blocks in_class) in_class kinds.Element (layout (spot_words spot.spot) []) (element_there spot.is) _ u.0)
+  class_stops i new (Refused (refusals.LogFull lines room)) u =
+      some_unmoved [] (in_class ∷ in_line ∷ item ∷ []) refl (none_made old) u.1
+  class_stops i new (Refused refusal) u = absurd u.1
+  class_stops i new DiskFault u = u
+  class_stops i new MediaFault u = u
+  class_stops i new Failed u = u
+
+  -- at the element in the line
+  pub line_stops : SomeItem old.blocks item → {first : Heap} → DeletesElement in_class old first → (new : Heap) (stop : Stop) →
+      ChangeStops kinds.Element in_line first new stop → RemoveStops item old new stop
+  line_stops i {first} d new (Refused (refusals.BadAddress bad)) u =
+      let spot = line_there at_class at_line d i in
+      absurd (never_missed (first.blocks in_line) in_line kinds.Element (layout (spot_words spot.spot) []) (element_there spot.is) _ u.0)
+  line_stops i {first} d new (Refused (refusals.WrongKind bad number)) u =
+      let spot = line_there at_class at_line d i in
+      absurd (never_missed (first.blocks in_line) in_line kinds.Element (layout (spot_words spot.spot) []) (element_there spot.is) _ u.0)
+  line_stops i {first} d new (Refused (refusals.LogFull lines room)) u =
+      some_unmoved (in_class ∷ []) (in_line ∷ item ∷ []) refl d.made u.1
+  line_stops i d new (Refused refusal) u = absurd u.1
+  line_stops i d new DiskFault u = u
+  line_stops i d new MediaFault u = u
+  line_stops i d new Failed u = u
+
+  -- at its own block
+  pub give_stops : {first second : Heap} → DeletesElement in_class old first → DeletesElement in_line first second →
+      (new : Heap) (stop : Stop) → OnlyUnmoved second new stop → RemoveStops item old new stop
+  give_stops d e new (Refused (refusals.LogFull lines room)) u =
+      some_unmoved (in_class ∷ in_line ∷ []) (item ∷ []) refl (made_then (Gave in_class ∷ []) (Gave in_line ∷ []) d.made e.made) u
+  give_stops d e new (Refused refusal) u = absurd u
+  give_stops d e new DiskFault u = tt
+  give_stops d e new MediaFault u = absurd u
+  give_stops d e new Failed u = tt

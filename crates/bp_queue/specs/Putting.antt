@@ -9,7 +9,7 @@ use Rattle.sdr_base.specs.declared.moves.Move.TheVariants.{Took}
 use Rattle.sdr_base.specs.declared.refusal.Refusal.TheVariants as refusals
 use Rattle.sdr_base.specs.declared.stop.Stop.{Stop}
 use Rattle.sdr_base.specs.declared.stop.Stop.TheVariants.{Refused}
-use Rattle.bp_queue.specs.Kept.{FitQueue, KeepsQueues, Row, class_row, four_lists, item_entries, items_entries, last_number, line_row, state_of}
+use Rattle.bp_queue.specs.Kept.{FitQueue, KeepsQueues, Row, RowFits, class_row, four_lists, item_entries, items_entries, last_number, line_row, state_of}
 use Rattle.bp_queue.specs.Lacking.{LacksRoom}
 use Rattle.bp_queue.specs.Runs.{QueueStep, Puts}
 use Rattle.bp_queue.specs.States.{Waiting}
@@ -51,6 +51,7 @@ nowhere = record { in_class = 0; in_line = 0 }
 -- queues are kept, and beside them an item that isn't in their lists
 pub record KeepsUnlisted (blocks : Blocks) (q : Queues) (w : Wanted) (item next : ℕ) (rows : List Row) (rest : Entries) : Type 0 where
   pub keeps : KeepsQueues blocks q next rows (item_entries (row_of w item nowhere) ++ rest)
+  pub fits : RowFits (row_of w item nowhere)
 
 -- some queues are
 pub record SomeUnlisted (blocks : Blocks) (q : Queues) (w : Wanted) (item : ℕ) : Type 0 where
@@ -66,6 +67,7 @@ pub record KeepsListed (blocks : Blocks) (q : Queues) (w : Wanted) (item : ℕ) 
       (four_lists q (class_row (rows ++ row_of w item at ∷ [])) (line_row next (rows ++ row_of w item at ∷ []))
       (items_entries rows ++ (item_entries (row_of w item nowhere) ++ rest)))
   pub fits : FitQueue q next rows
+  pub row : RowFits (row_of w item at)
 
 -- some queues are kept so
 pub record SomeListed (blocks : Blocks) (q : Queues) (w : Wanted) (item : ℕ) (at : Elements) : Type 0 where

@@ -1,5 +1,5 @@
 // One more is put.
-ghost use Rattle.std.specs.Prelude.{◌≡◌, ◌≤◌, ◌<◌, ◌+◌, ◌^◌, [], ◌∷◌, IfOk, IfErr, OnOk};
+ghost use Rattle.std.specs.Prelude.{◌≢◌, ◌≤◌, ◌<◌, ◌^◌, [], ◌∷◌, IfOk, IfErr, OnOk};
 ghost use Rattle.sdr_base.specs.Making.{Made};
 ghost use Rattle.sdr_base.specs.Moves.{KeepsSome};
 ghost use Rattle.sdr_base.specs.Objects.{OnlyFault, OnlyUnmoved};
@@ -119,6 +119,7 @@ fn admit<O: Objects, F: Collate + Drop, G: Collate + Drop>(
     requires spare { 3 ≤ (O.heap o.old).spare }
     requires queues { SomeQueues (O.heap o.old).blocks q.now }
     requires number { wanted.number < 2 ^ 40 }
+    requires object { wanted.object ≢ 0 }
     ensures admitted { IfOk result (λ item.
         Admits q.now wanted item (O.heap o.old) (O.heap o.new)) }
     ensures refused { IfErr result
