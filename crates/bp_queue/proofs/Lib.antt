@@ -12,4 +12,5 @@ pub mod MadeLemmas
 pub mod FirstLemmas
 pub mod PutLemmas
 pub mod TakeLemmas
+pub mod NamingLemmas
 mod RowsOfQueues

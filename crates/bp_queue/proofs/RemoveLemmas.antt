@@ -37,7 +37,7 @@ use Rattle.bp_queue.proofs.SortingLemmas.{Among, Split, among_between, each_at}
 use Rattle.bp_queue.proofs.StateLemmas.{among_class, among_line, apart_class, apart_line, class_is, class_of-without, keeps_but, line_of-without, other_class-without, split_object}
 
 -- what stands between two parts of a list, and the list without it
-here : {X : Type 0} (xs : List X) (x : X) (ys : List X) → slice_get (xs ++ (x ∷ ys)) (length xs) ≡ Some x
+pub here : {X : Type 0} (xs : List X) (x : X) (ys : List X) → slice_get (xs ++ (x ∷ ys)) (length xs) ≡ Some x
 here [] x ys = refl
 here (z ∷ xs) x ys = here xs x ys
 
