@@ -4,7 +4,7 @@ use Rattle.std.specs.Prelude.{All, filter, map, if◌then◌else◌}
 use Rattle.std.specs.List.{AllByRecursion as Each, flat_map}
 use Rattle.std.proofs.lemmas.Bool.{eq-eqb, ne_eqb}
 use Rattle.std.proofs.lemmas.List.{map-append}
-use Rattle.std.proofs.lemmas.List.Elements.{All-cons, All-head, All-nil, All-tail, All-weaker}
+use Rattle.std.proofs.lemmas.List.Elements.{All-cons, All-head, All-nil, All-tail, All-weaker, filter_passes}
 use Rattle.sdr_base.specs.Blocks.{Blocks, IsKind}
 use Rattle.sdr_base.specs.Entries.{BlocksAre, Entries}
 use Rattle.sdr_base.specs.Making.{GaveSome, Made, besides, gave, with_moves}
@@ -33,13 +33,12 @@ use Rattle.zco_obj.proofs.LeavingLemmas.{destroy_leaves}
 use Rattle.bp_queue.specs.Expiring.{Expiry, FirstGone, KeepsOverdue, expire_one, extents_of, gone_with, object_for, objects_entries}
 use Rattle.bp_queue.specs.Kept.{FitQueue, KeepsQueues, Row, queue_entries, waiting_of}
 use Rattle.bp_queue.specs.Removing.{IsItem, ItemGone, RemovesItem, item_blocks}
-use Rattle.bp_queue.specs.Sorting.{first}
-use Rattle.bp_queue.specs.States.{line_of, overdue, without}
+use Rattle.bp_queue.specs.States.{later_than, line_of, overdue, without}
 use Rattle.bp_queue.specs.declared.queues.Queues.{Queues}
 use Rattle.bp_queue.proofs.FirstLemmas.{is_item, split_among}
 use Rattle.bp_queue.proofs.FitLemmas.{between, rows_apart, without_between}
 use Rattle.bp_queue.proofs.SortingLemmas.{Among, Apart, apart_filter}
-use Rattle.bp_queue.proofs.StateLemmas.{Differ, apart_line, first_among, from_line, is_due, keeps_but, overdue-without}
+use Rattle.bp_queue.proofs.StateLemmas.{Differ, apart_line, from_filter, from_line, is_due, keeps_but, later-without, overdue-without, split_object}
 
 -- an object, those of others, sources and whatever else stand behind queues: the object and the sources in front
 object_first : {b : Blocks} (Q O D S R : Entries) → BlocksAre b (Q ++ ((O ++ D) ++ (S ++ R))) → BlocksAre b (O ++ (S ++ ((Q ++ D) ++ R)))
@@ -96,11 +95,11 @@ abbrev pub with_gone : Acct → Amounts → List ℕ → Heap → Heap
 with_gone acct charged addrs h =
     besides (with_occupied (with_moves h (gave addrs)) acct (minus (occupied_in h acct) charged))
 
-pub gone_then : {old mid : Heap} (acct : Acct) (charged : Amounts) (before addrs : List ℕ) (base : Heap) →
+pub gone_then : {mid : Heap} (acct : Acct) (charged : Amounts) (before addrs : List ℕ) (base : Heap) →
     besides mid ≡ besides (with_moves base (gave before)) →
     with_gone acct charged addrs mid
     ≡ besides (with_moves (with_occupied base acct (minus (occupied_in base acct) charged)) (gave (before ++ addrs)))
-gone_then {old} {mid} acct charged before addrs base e =
+gone_then {mid} acct charged before addrs base e =
     ap (with_gone acct charged addrs) e
     ∙ ap (λ (h : Heap). besides (with_occupied h acct (minus (occupied_in base acct) charged)))
     (made_then {base} {with_moves base (gave before)} {with_moves (with_moves base (gave before)) (gave addrs)} (gave before) (gave addrs)
@@ -110,13 +109,23 @@ gone_then {old} {mid} acct charged before addrs base e =
 
 -- the first row that is overdue, in whichever queues are kept
 module _ {b : Blocks} {q : Queues} {now next : ℕ} {rows : List Row} {object_at : ℕ → ObjectRow} {sources : List NamedSource} {rest : Entries}
-    (k : KeepsOverdue b q now next rows object_at sources rest) (r : Row) (f : first (line_of waiting_of rows) ≡ Some r)
-    (due : List Row) (o : overdue waiting_of now rows ≡ r ∷ due) where
+    (k : KeepsOverdue b q now next rows object_at sources rest) (r : Row) (due : List Row) (o : overdue waiting_of now rows ≡ r ∷ due) where
   abbrev z : ObjectRow
   z = object_for object_at r
 
   among : Among r rows
-  among = from_line waiting_of r rows (first_among r (line_of waiting_of rows) f)
+  among =
+      from_line waiting_of r rows
+      (from_filter waiting_of (is_due waiting_of now) r (line_of waiting_of rows) (subst (Among r) (sym o) (inl refl)))
+
+  due_now : is_due waiting_of now r ≡ true
+  due_now =
+      All-head (λ (x : Row). is_due waiting_of now x ≡ true) r due
+      (subst (All (λ (x : Row). is_due waiting_of now x ≡ true)) o (filter_passes (is_due waiting_of now) (line_of waiting_of rows)))
+
+  -- those whose deadline is later stay
+  pub later_left : later_than waiting_of now (without waiting_of r.waiting.object rows) ≡ later_than waiting_of now rows
+  later_left = later-without waiting_of now r rows (split_object waiting_of r rows (rows_apart k.keeps.fits) among) due_now
 
   abbrev before : List Row
   before = (split_among r rows among).0
@@ -137,7 +146,7 @@ module _ {b : Blocks} {q : Queues} {now next : ℕ} {rows : List Row} {object_at
       ∙ without_between before behind r (subst (Apart (Differ waiting_of)) s.2 (rows_apart k.keeps.fits)))
 
   -- the others that are overdue are those that were behind it
-  others_due : overdue waiting_of now (without waiting_of r.waiting.object rows) ≡ due
+  pub others_due : overdue waiting_of now (without waiting_of r.waiting.object rows) ≡ due
   others_due =
       overdue-without waiting_of now r.waiting.object rows
       ∙ ap (filter (keeps_but waiting_of r.waiting.object)) o
@@ -221,5 +230,5 @@ module _ {b : Blocks} {q : Queues} {now next : ℕ} {rows : List Row} {object_at
         keeps = object_goes i.keeps refl g;
         others =
             g.others
-            ∙ gone_then {old} {mid} z.account (charges_of z sources) (item_blocks r) (gone_object r.waiting.object z sources) old i.made.all;
+            ∙ gone_then {mid} z.account (charges_of z sources) (item_blocks r) (gone_object r.waiting.object z sources) old i.made.all;
       }

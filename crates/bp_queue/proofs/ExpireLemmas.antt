@@ -1,19 +1,23 @@
 -- Those that are overdue go one after another.
 use Rattle.std.proofs.Common.{◌≡◌, ◌≢◌, ℕ, ◌+◌, ◌-◌, ◌*◌, ◌≤◌, ◌<◌, Bool, true, false, List, [], ◌∷◌, ◌++◌, length, Option, Some, None, refl, sym, ap, ◌∙◌, subst, arith, append_assoc, length-append}
-use Rattle.std.specs.Prelude.{fold, map, not, nat_le, nat_lt}
+use Rattle.std.specs.Prelude.{filter, fold, map, nat_lt}
+use Rattle.std.proofs.lemmas.List.{length-map}
+use Rattle.std.proofs.lemmas.List.Filters.{length-filter_both}
 use Rattle.sdr_base.specs.Blocks.{Blocks}
 use Rattle.sdr_base.specs.Entries.{Entries}
 use Rattle.sdr_base.specs.Making.{besides, gave, with_moves}
 use Rattle.sdr_base.specs.Objects.{Heap}
 use Rattle.sdr_base.specs.ZcoObjects.{ObjectRow}
-use Rattle.zco_obj.specs.Gone.{NamedSource}
-use Rattle.bp_queue.specs.Expiring.{Expired, ExpiresAll, ExpiresFirst, Expiry, FirstExpires, FirstGone, KeepsOverdue, expire_all, expire_one, expiry_of, gone_with, object_for}
+use Rattle.zco_obj.specs.Destroying.{charges_of}
+use Rattle.zco_obj.specs.Gone.{NamedSource, sources_entries}
+use Rattle.bp_queue.specs.Expiring.{Expired, ExpiresAll, ExpiresFirst, Expiry, FirstExpires, FirstGone, KeepsOverdue, expire_one, expiry_of, gone_with, object_for, objects_entries}
 use Rattle.bp_queue.specs.Kept.{KeepsQueues, Row, state_of, waiting_of}
 use Rattle.bp_queue.specs.Runs.{QueueStep, Expires}
-use Rattle.bp_queue.specs.States.{itself, later_than, line_of, overdue, without}
+use Rattle.bp_queue.specs.States.{later_than, line_of, overdue, without}
 use Rattle.bp_queue.specs.declared.queues.Queues.{Queues}
-use Rattle.bp_queue.proofs.SortingLemmas.{map-filter}
-use Rattle.bp_queue.proofs.StateLemmas.{all_later}
+use Rattle.bp_queue.proofs.DueLemmas.{gone_then, later_left, others_due}
+use Rattle.bp_queue.proofs.SortingLemmas.{filter-sorted, length-sorted, map-filter}
+use Rattle.bp_queue.proofs.StateLemmas.{all_later, due, due_order, is_due, later-not}
 
 -- what has gone before stands before what goes
 pub gone_before : (object_at : ℕ → ObjectRow) (e : Expiry) (before : List ℕ) (rows : List Row) →
@@ -57,12 +61,12 @@ expiry_begun {q} {now} {old} none = record {
 -- those that are overdue and those that aren't are all
 counts : (now : ℕ) (rows : List Row) → length (overdue waiting_of now rows) + length (later_than waiting_of now rows) ≡ length rows
 counts now rows =
-    let a = due-all now rows in
+    let a = all_due now rows in
     let b = length-filter_both (is_due waiting_of now) (λ (r : Row). nat_lt now r.waiting.deadline) (λ r. later-not now r.waiting.deadline) rows in
     omega (arith, a, b)
   where
-    due-all : (now : ℕ) (rows : List Row) → length (overdue waiting_of now rows) ≡ length (filter (is_due waiting_of now) rows)
-    due-all now rows =
+    all_due : (now : ℕ) (rows : List Row) → length (overdue waiting_of now rows) ≡ length (filter (is_due waiting_of now) rows)
+    all_due now rows =
         ap (length {A = Row}) (filter-sorted (due waiting_of) (due_order waiting_of) (is_due waiting_of now) rows)
         ∙ length-sorted (due waiting_of) (filter (is_due waiting_of now) rows)
 
@@ -126,18 +130,17 @@ expired_one {q} {now} {i} {old} {mid} {new} c f = record {
     by {next} {rows} {object_at} {sources} {rest} s (r ∷ due) some e =
         let g = e.1 in
         let z = object_for object_at r in
-        let a = overdue_among now s.left r due some in
-        let w = left_due s.keeps r due some in
+        let w = others_due s.keeps r due some in
         record {
           left = without waiting_of r.waiting.object s.left;
           so_far = expire_one object_at s.so_far r;
           keeps = g.keeps;
           others =
               g.others
-              ∙ gone_heap s.so_far r s.others;
+              ∙ gone_then z.account (charges_of z s.so_far.sources) s.so_far.gone (gone_with object_at s.so_far.sources r) s.so_far.heap s.others;
           comes_to = ap (fold (expire_one object_at) (expire_one object_at s.so_far r)) w
               ∙ sym (ap (fold (expire_one object_at) s.so_far) some) ∙ s.comes_to;
-          later = later_still s.keeps r due some ∙ s.later;
+          later = later_left s.keeps r due some ∙ s.later;
           counted =
               let n = s.counted in let l = ap (length {A = Row}) some in let m = ap (length {A = Row}) w in
               omega (arith, n, l, m);

@@ -13,4 +13,7 @@ pub mod FirstLemmas
 pub mod PutLemmas
 pub mod TakeLemmas
 pub mod NamingLemmas
+pub mod DueLemmas
+pub mod ExpireLemmas
+pub mod FirstDueLemmas
 mod RowsOfQueues

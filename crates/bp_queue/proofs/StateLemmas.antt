@@ -94,7 +94,7 @@ module _ {X : Type 0} (of : X → Waiting) where
   pub from_line : (x : X) (xs : List X) → Among x (line_of of xs) → Among x xs
   from_line x xs a = among_from due x xs a
 
-  from_filter : (p : X → Bool) (x : X) (xs : List X) → Among x (filter p xs) → Among x xs
+  pub from_filter : (p : X → Bool) (x : X) (xs : List X) → Among x (filter p xs) → Among x xs
   from_filter p x [] a = a
   from_filter p x (y ∷ ys) a =
       elim (p y) as (λ v. Among x (cond v (y ∷ filter p ys) (filter p ys)) → Among x (y ∷ ys)) [
