@@ -13,6 +13,8 @@ pub mod FirstLemmas
 pub mod PutLemmas
 pub mod TakeLemmas
 pub mod NamingLemmas
+pub mod StopLemmas
+pub mod LastLemmas
 pub mod DueLemmas
 pub mod ExpireLemmas
 pub mod FirstDueLemmas

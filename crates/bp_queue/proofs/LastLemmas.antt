@@ -1,0 +1,90 @@
+-- An object is put, or it is refused.
+use Rattle.std.proofs.Common.{◌≡◌, ◌≢◌, ℕ, ◌+◌, ◌≤◌, ◌<◌, ◌^◌, List, [], ◌∷◌, ◌++◌, Option, Some, None, refl, sym, ap, ◌∙◌, subst, arith}
+use Rattle.std.proofs.lemmas.List.{map-append}
+use Rattle.std.proofs.lemmas.List.Elements.{All-map}
+use Rattle.sdr_base.specs.Blocks.{Block, Blocks, IsKind}
+use Rattle.sdr_base.specs.Entries.{BlocksAre, Entries}
+use Rattle.sdr_base.specs.Objects.{Heap, Misses, OnlyFault}
+use Rattle.sdr_base.specs.declared.kind.Kind.TheVariants as kinds
+use Rattle.sdr_base.specs.declared.refusal.Refusal.TheVariants as refusals
+use Rattle.sdr_base.specs.declared.stop.Stop.{Stop}
+use Rattle.sdr_base.specs.declared.stop.Stop.TheVariants.{Refused, DiskFault, MediaFault, Failed}
+use Rattle.sdr_base.proofs.StandingLemmas.{at-nowhere}
+use Rattle.sdr_list.specs.Calls.{TellsOfList}
+use Rattle.bp_queue.specs.Kept.{KeepsQueues, Row, SomeQueues, last_number, waiting_of}
+use Rattle.bp_queue.specs.Lacking.{LacksRoom}
+use Rattle.bp_queue.specs.Putting.{Admits, Allows, FindsItem, IsFull, IsTaken, PutsLast, PutStops, row_of}
+use Rattle.bp_queue.specs.declared.putting.Wanted.{Wanted}
+use Rattle.bp_queue.specs.declared.queues.Queues.{Queues}
+use Rattle.bp_queue.proofs.QueueLemmas.{line_list}
+
+-- no object stands at 0
+pub object_some : {b : Blocks} {es : Entries} {object : ℕ} → BlocksAre b es → IsKind (b object) kinds.Object → object ≢ 0
+object_some {b} {es} {object} s kind zero =
+    let P : Option Block → Type 0 = λ o. IsKind o kinds.Object in
+    subst P (ap b zero ∙ s.same 0 ∙ at-nowhere 0 es s.null) kind
+
+module _ {q : Queues} {object number : ℕ} {old : Heap} (t : TellsOfList q.line (λ row. row.user) old.blocks number) where
+  number_is : {next : ℕ} {rows : List Row} {rest : Entries} → KeepsQueues old.blocks q next rows rest → number ≡ next
+  number_is k = t.tells _ (line_list k)
+
+  pub is_full : FindsItem q object old.blocks None → last_number ≤ number → IsFull q object old.blocks
+  is_full f most = record {
+    full = λ next rows rest k.
+        (f.finds next rows rest k, let e = number_is k in let m = k.fits.bound in omega (arith, e, m, most));
+  }
+
+  pub is_allowed : FindsItem q object old.blocks None → number < last_number → Allows q object old.blocks
+  is_allowed f less = record {
+    allows = λ next rows rest k. (f.finds next rows rest k, let e = number_is k in omega (arith, e, less));
+  }
+
+pub is_taken : {q : Queues} {object item : ℕ} {old : Heap} → FindsItem q object old.blocks (Some item) → IsTaken q object item old.blocks
+is_taken f = record { taken = f.finds }
+
+-- the item was made: its object waits
+pub puts_last : {q : Queues} {w : Wanted} {item : ℕ} {old new : Heap} → IsKind (old.blocks w.object) kinds.Object →
+    FindsItem q w.object old.blocks None → TellsOfList q.line (λ row. row.user) old.blocks w.number → w.number < last_number →
+    Admits q w item old new →
+    PutsLast q (record { item = item; class = w.class; ordinal = w.ordinal; deadline = w.deadline; object = w.object }) old new
+puts_last {q} {w} {item} {old} {new} kind f t less a = record {
+  kind = kind;
+  at = a.at;
+  puts = λ next rows rest k.
+      let e = number_is {q} {w.object} {w.number} {old} t k in
+      let unnamed = f.finds next rows rest k in
+      let P : ℕ → Type 0 = λ n. KeepsQueues new.blocks q (n + 1) (rows ++ (record (row_of w item a.at) { number = n } ∷ [])) rest in
+      let kept =
+      a.admits rows rest (subst (λ (n : ℕ). KeepsQueues old.blocks q n rows rest) (sym e) k) unnamed (object_some k.stands kind) in
+      record {
+        reached = omega (arith, e, less);
+        keeps = subst P e kept;
+        step = (All-map (λ v. v.object ≢ w.object) waiting_of rows unnamed, map-append waiting_of rows (row_of w item a.at ∷ []));
+      };
+  made = a.made;
+}
+
+-- why none is put
+pub put_missed : {q : Queues} {object : ℕ} {old : Heap} (new : Heap) (stop : Stop) → new ≡ old →
+    Misses (old.blocks object) object kinds.Object stop → PutStops q object old new stop
+put_missed new (Refused (refusals.BadAddress bad)) same m = (m, same)
+put_missed new (Refused (refusals.WrongKind bad number)) same m = (m, same)
+put_missed new (Refused refusal) same m = absurd m
+put_missed new DiskFault same m = m
+put_missed new MediaFault same m = m
+put_missed new Failed same m = m
+
+pub put_fault : {q : Queues} {object : ℕ} {old : Heap} (new : Heap) (stop : Stop) → OnlyFault stop → PutStops q object old new stop
+put_fault new (Refused refusal) m = absurd m
+put_fault new DiskFault m = m
+put_fault new MediaFault m = m
+put_fault new Failed m = m
+
+pub put_lacks : {q : Queues} {object : ℕ} {old : Heap} (new : Heap) (stop : Stop) → IsKind (old.blocks object) kinds.Object →
+    Allows q object old.blocks → LacksRoom (56 ∷ 32 ∷ 32 ∷ []) old new stop → PutStops q object old new stop
+put_lacks new (Refused (refusals.NoBlock need)) kind a l = (kind, a, l)
+put_lacks new (Refused (refusals.LogFull lines room)) kind a l = (kind, a, l)
+put_lacks new (Refused refusal) kind a l = absurd l
+put_lacks new DiskFault kind a l = l
+put_lacks new MediaFault kind a l = l
+put_lacks new Failed kind a l = l
