@@ -15,6 +15,7 @@ pub mod TakeLemmas
 pub mod NamingLemmas
 pub mod StopLemmas
 pub mod LastLemmas
+pub mod RankLemmas
 pub mod DueLemmas
 pub mod ExpireLemmas
 pub mod FirstDueLemmas
