@@ -95,11 +95,11 @@ abbrev pub with_gone : Acct → Amounts → List ℕ → Heap → Heap
 with_gone acct charged addrs h =
     besides (with_occupied (with_moves h (gave addrs)) acct (minus (occupied_in h acct) charged))
 
-pub gone_then : {mid : Heap} (acct : Acct) (charged : Amounts) (before addrs : List ℕ) (base : Heap) →
+pub gone_then : (mid : Heap) (acct : Acct) (charged : Amounts) (before addrs : List ℕ) (base : Heap) →
     besides mid ≡ besides (with_moves base (gave before)) →
     with_gone acct charged addrs mid
     ≡ besides (with_moves (with_occupied base acct (minus (occupied_in base acct) charged)) (gave (before ++ addrs)))
-gone_then {mid} acct charged before addrs base e =
+gone_then mid acct charged before addrs base e =
     ap (with_gone acct charged addrs) e
     ∙ ap (λ (h : Heap). besides (with_occupied h acct (minus (occupied_in base acct) charged)))
     (made_then {base} {with_moves base (gave before)} {with_moves (with_moves base (gave before)) (gave addrs)} (gave before) (gave addrs)
@@ -113,7 +113,7 @@ module _ {b : Blocks} {q : Queues} {now next : ℕ} {rows : List Row} {object_at
   abbrev z : ObjectRow
   z = object_for object_at r
 
-  among : Among r rows
+  pub among : Among r rows
   among =
       from_line waiting_of r rows
       (from_filter waiting_of (is_due waiting_of now) r (line_of waiting_of rows) (subst (Among r) (sym o) (inl refl)))
@@ -230,5 +230,5 @@ module _ {b : Blocks} {q : Queues} {now next : ℕ} {rows : List Row} {object_at
         keeps = object_goes i.keeps refl g;
         others =
             g.others
-            ∙ gone_then {mid} z.account (charges_of z sources) (item_blocks r) (gone_object r.waiting.object z sources) old i.made.all;
+            ∙ gone_then mid z.account (charges_of z sources) (item_blocks r) (gone_object r.waiting.object z sources) old i.made.all;
       }

@@ -137,7 +137,7 @@ expired_one {q} {now} {i} {old} {mid} {new} c f = record {
           keeps = g.keeps;
           others =
               g.others
-              ∙ gone_then z.account (charges_of z s.so_far.sources) s.so_far.gone (gone_with object_at s.so_far.sources r) s.so_far.heap s.others;
+              ∙ gone_then mid z.account (charges_of z s.so_far.sources) s.so_far.gone (gone_with object_at s.so_far.sources r) s.so_far.heap s.others;
           comes_to = ap (fold (expire_one object_at) (expire_one object_at s.so_far r)) w
               ∙ sym (ap (fold (expire_one object_at) s.so_far) some) ∙ s.comes_to;
           later = later_left s.keeps r due some ∙ s.later;

@@ -34,7 +34,7 @@ object_there : {heap : Heap} {object : ℕ} (w : SomeWithSources heap object) �
 object_there {heap} {object} w = found heap.blocks object (object_block w.row) [] _ w.keeps.stands
 
 -- what the first call on the line tells: none waits
-module _ {q : Queues} {now : ℕ} {old : Heap} where
+module _ (q : Queues) (now : ℕ) (old : Heap) where
   pub first_none : TellsFirst q.line old.blocks None → ExpiresFirst q now old old false
   first_none t = record {
     expires = λ next rows object_at sources rest k.
@@ -42,7 +42,7 @@ module _ {q : Queues} {now : ℕ} {old : Heap} where
         (sym (no_overdue waiting_of now rows (no_line t k.keeps))) (refl, refl);
   }
 
-  module _ {item deadline : ℕ} (t : TellsFirst q.line old.blocks (Some item)) (h : HasWord (old.blocks item) 1 deadline) where
+  module _ (item deadline : ℕ) (t : TellsFirst q.line old.blocks (Some item)) (h : HasWord (old.blocks item) 1 deadline) where
     -- the first one is not due yet
     pub first_not_due : now < deadline → ExpiresFirst q now old old false
     first_not_due late = record {

@@ -131,6 +131,30 @@ pub no_row : (o : Option Row) → None ≡ option_map (λ (r : Row). r.waiting.i
 no_row None e = refl
 no_row (Some r) e = absurd (let f : None ≡ Some r.waiting.item = e in cc)
 
+-- the first one of the highest class, class by class
+or_map : (o p : Option Row) →
+    option_map (λ (r : Row). r.waiting.item) (option_or o p)
+    ≡ option_or (option_map (λ (r : Row). r.waiting.item) o) (option_map (λ (r : Row). r.waiting.item) p)
+or_map None p = refl
+or_map (Some r) p = refl
+
+or_some : (o p : Option ℕ) (item : ℕ) → o ≡ Some item → option_or o p ≡ Some item
+or_some o p item e = ap (λ (x : Option ℕ). option_or x p) e
+
+or_none : (o p : Option ℕ) → o ≡ None → option_or o p ≡ p
+or_none o p e = ap (λ (x : Option ℕ). option_or x p) e
+
+abbrev of_class : Class → List Row → Option ℕ
+of_class class rows = option_map (λ (r : Row). r.waiting.item) (first (class_of waiting_of class rows))
+
+classes_of : (rows : List Row) →
+    highest_item rows ≡ option_or (of_class classes.Urgent rows) (option_or (of_class classes.Normal rows) (of_class classes.Bulk rows))
+classes_of rows =
+    or_map (first (class_of waiting_of classes.Urgent rows))
+    (option_or (first (class_of waiting_of classes.Normal rows)) (first (class_of waiting_of classes.Bulk rows)))
+    ∙ ap (option_or (of_class classes.Urgent rows))
+    (or_map (first (class_of waiting_of classes.Normal rows)) (first (class_of waiting_of classes.Bulk rows)))
+
 -- what is told of the first of the line
 module _ {b : Blocks} {q : Queues} where
   module _ {item : ℕ} (t : TellsFirst q.line b (Some item)) where
@@ -164,30 +188,6 @@ module _ {b : Blocks} {q : Queues} where
   tells_no_deadline t = record {
     tells = λ next rows rest k. sym (ap (option_map (λ (r : Row). r.waiting.deadline)) (no_line t k));
   }
-
-  -- the first one of the highest class, class by class
-  or_map : (o p : Option Row) →
-      option_map (λ (r : Row). r.waiting.item) (option_or o p)
-      ≡ option_or (option_map (λ (r : Row). r.waiting.item) o) (option_map (λ (r : Row). r.waiting.item) p)
-  or_map None p = refl
-  or_map (Some r) p = refl
-
-  or_some : (o p : Option ℕ) (item : ℕ) → o ≡ Some item → option_or o p ≡ Some item
-  or_some o p item e = ap (λ (x : Option ℕ). option_or x p) e
-
-  or_none : (o p : Option ℕ) → o ≡ None → option_or o p ≡ p
-  or_none o p e = ap (λ (x : Option ℕ). option_or x p) e
-
-  abbrev of_class : Class → List Row → Option ℕ
-  of_class class rows = option_map (λ (r : Row). r.waiting.item) (first (class_of waiting_of class rows))
-
-  classes_of : (rows : List Row) →
-      highest_item rows ≡ option_or (of_class classes.Urgent rows) (option_or (of_class classes.Normal rows) (of_class classes.Bulk rows))
-  classes_of rows =
-      or_map (first (class_of waiting_of classes.Urgent rows))
-      (option_or (first (class_of waiting_of classes.Normal rows)) (first (class_of waiting_of classes.Bulk rows)))
-      ∙ ap (option_or (of_class classes.Urgent rows))
-      (or_map (first (class_of waiting_of classes.Normal rows)) (first (class_of waiting_of classes.Bulk rows)))
 
   -- where the urgent class has one, that is it
   pub highest_urgent : {o : Option ℕ} → TellsFirst q.urgent b o → is_some o ≡ true → Tells q highest_item b o

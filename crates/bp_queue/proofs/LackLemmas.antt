@@ -1,13 +1,13 @@
 -- Why calls stop that take several blocks, one after another.
 use Rattle.std.proofs.Common.{◌≡◌, ℕ, List, [], ◌∷◌, ◌++◌, refl, sym, ap, ◌∙◌, append_assoc, append-nil}
-use Rattle.sdr_base.specs.Making.{Made, besides}
+use Rattle.sdr_base.specs.Making.{Made}
 use Rattle.sdr_base.specs.Objects.{Heap, OnlyShort, OnlyUnmoved, TookNoMore}
 use Rattle.sdr_base.specs.declared.moves.Move.{Move}
 use Rattle.sdr_base.specs.declared.moves.Move.TheVariants.{Short, Took}
 use Rattle.sdr_base.specs.declared.refusal.Refusal.TheVariants as refusals
 use Rattle.sdr_base.specs.declared.stop.Stop.{Stop}
 use Rattle.sdr_base.specs.declared.stop.Stop.TheVariants.{Refused, DiskFault, MediaFault, Failed}
-use Rattle.bp_queue.specs.Lacking.{LacksBlock, LacksRoom, TookSome, took_blocks}
+use Rattle.bp_queue.specs.Lacking.{LacksBlock, LacksRoom, TakenBlock, TookSome, needs_of, took_blocks}
 
 -- a first part of a list of one is empty or all
 one_of : {X : Type 0} (x y : X) (ys rest : List X) → x ∷ [] ≡ (y ∷ ys) ++ rest → y ∷ ys ≡ x ∷ []
@@ -65,15 +65,15 @@ then_lacks needs new MediaFault m s = s
 then_lacks needs new Failed m s = s
 
 -- all were taken, and no more was done to the pools
-pub none_lacks : (mid last new : Heap) (stop : Stop) → besides last ≡ besides mid → OnlyUnmoved last new stop →
-    LacksRoom [] mid new stop
-none_lacks mid last new (Refused (refusals.LogFull lines room)) same s = record {
-  taken = [];
+pub all_lack : {old last : Heap} (taken : List TakenBlock) → Made (took_blocks taken) old last → (new : Heap) (stop : Stop) →
+    OnlyUnmoved last new stop → LacksRoom (needs_of taken) old new stop
+all_lack {old} {last} taken m new (Refused (refusals.LogFull lines room)) u = record {
+  taken = taken;
   more = [];
-  wanted = refl;
-  moves = s.moves ∙ ap (λ (h : Heap). h.moves) same ∙ sym (append-nil mid.moves);
+  wanted = sym (append-nil (needs_of taken));
+  moves = u.moves ∙ ap (λ (h : Heap). h.moves) m.all;
 }
-none_lacks mid last new (Refused refusal) same s = absurd s
-none_lacks mid last new DiskFault same s = tt
-none_lacks mid last new MediaFault same s = absurd s
-none_lacks mid last new Failed same s = tt
+all_lack taken m new (Refused refusal) u = absurd u
+all_lack taken m new DiskFault u = tt
+all_lack taken m new MediaFault u = absurd u
+all_lack taken m new Failed u = tt

@@ -24,22 +24,22 @@ object_some {b} {es} {object} s kind zero =
     let P : Option Block → Type 0 = λ o. IsKind o kinds.Object in
     subst P (ap b zero ∙ s.same 0 ∙ at-nowhere 0 es s.null) kind
 
-module _ {q : Queues} {object number : ℕ} {old : Heap} (t : TellsOfList q.line (λ row. row.user) old.blocks number) where
-  number_is : {next : ℕ} {rows : List Row} {rest : Entries} → KeepsQueues old.blocks q next rows rest → number ≡ next
+module _ {q : Queues} {number : ℕ} {b : Blocks} (t : TellsOfList q.line (λ row. row.user) b number) where
+  number_is : {next : ℕ} {rows : List Row} {rest : Entries} → KeepsQueues b q next rows rest → number ≡ next
   number_is k = t.tells _ (line_list k)
 
-  pub is_full : FindsItem q object old.blocks None → last_number ≤ number → IsFull q object old.blocks
+  pub is_full : {object : ℕ} → FindsItem q object b None → last_number ≤ number → IsFull q object b
   is_full f most = record {
     full = λ next rows rest k.
         (f.finds next rows rest k, let e = number_is k in let m = k.fits.bound in omega (arith, e, m, most));
   }
 
-  pub is_allowed : FindsItem q object old.blocks None → number < last_number → Allows q object old.blocks
+  pub is_allowed : {object : ℕ} → FindsItem q object b None → number < last_number → Allows q object b
   is_allowed f less = record {
     allows = λ next rows rest k. (f.finds next rows rest k, let e = number_is k in omega (arith, e, less));
   }
 
-pub is_taken : {q : Queues} {object item : ℕ} {old : Heap} → FindsItem q object old.blocks (Some item) → IsTaken q object item old.blocks
+pub is_taken : {q : Queues} {object item : ℕ} {b : Blocks} → FindsItem q object b (Some item) → IsTaken q object item b
 is_taken f = record { taken = f.finds }
 
 -- the item was made: its object waits
@@ -51,7 +51,7 @@ puts_last {q} {w} {item} {old} {new} kind f t less a = record {
   kind = kind;
   at = a.at;
   puts = λ next rows rest k.
-      let e = number_is {q} {w.object} {w.number} {old} t k in
+      let e = number_is t k in
       let unnamed = f.finds next rows rest k in
       let P : ℕ → Type 0 = λ n. KeepsQueues new.blocks q (n + 1) (rows ++ (record (row_of w item a.at) { number = n } ∷ [])) rest in
       let kept =
@@ -65,26 +65,26 @@ puts_last {q} {w} {item} {old} {new} kind f t less a = record {
 }
 
 -- why none is put
-pub put_missed : {q : Queues} {object : ℕ} {old : Heap} (new : Heap) (stop : Stop) → new ≡ old →
+pub put_missed : (q : Queues) (object : ℕ) (old new : Heap) (stop : Stop) → new ≡ old →
     Misses (old.blocks object) object kinds.Object stop → PutStops q object old new stop
-put_missed new (Refused (refusals.BadAddress bad)) same m = (m, same)
-put_missed new (Refused (refusals.WrongKind bad number)) same m = (m, same)
-put_missed new (Refused refusal) same m = absurd m
-put_missed new DiskFault same m = m
-put_missed new MediaFault same m = m
-put_missed new Failed same m = m
+put_missed q object old new (Refused (refusals.BadAddress bad)) same m = (m, same)
+put_missed q object old new (Refused (refusals.WrongKind bad number)) same m = (m, same)
+put_missed q object old new (Refused refusal) same m = absurd m
+put_missed q object old new DiskFault same m = m
+put_missed q object old new MediaFault same m = m
+put_missed q object old new Failed same m = m
 
-pub put_fault : {q : Queues} {object : ℕ} {old : Heap} (new : Heap) (stop : Stop) → OnlyFault stop → PutStops q object old new stop
-put_fault new (Refused refusal) m = absurd m
-put_fault new DiskFault m = m
-put_fault new MediaFault m = m
-put_fault new Failed m = m
+pub put_fault : (q : Queues) (object : ℕ) (old new : Heap) (stop : Stop) → OnlyFault stop → PutStops q object old new stop
+put_fault q object old new (Refused refusal) m = absurd m
+put_fault q object old new DiskFault m = m
+put_fault q object old new MediaFault m = m
+put_fault q object old new Failed m = m
 
-pub put_lacks : {q : Queues} {object : ℕ} {old : Heap} (new : Heap) (stop : Stop) → IsKind (old.blocks object) kinds.Object →
+pub put_lacks : (q : Queues) (object : ℕ) (old new : Heap) (stop : Stop) → IsKind (old.blocks object) kinds.Object →
     Allows q object old.blocks → LacksRoom (56 ∷ 32 ∷ 32 ∷ []) old new stop → PutStops q object old new stop
-put_lacks new (Refused (refusals.NoBlock need)) kind a l = (kind, a, l)
-put_lacks new (Refused (refusals.LogFull lines room)) kind a l = (kind, a, l)
-put_lacks new (Refused refusal) kind a l = absurd l
-put_lacks new DiskFault kind a l = l
-put_lacks new MediaFault kind a l = l
-put_lacks new Failed kind a l = l
+put_lacks q object old new (Refused (refusals.NoBlock need)) kind a l = (kind, a, l)
+put_lacks q object old new (Refused (refusals.LogFull lines room)) kind a l = (kind, a, l)
+put_lacks q object old new (Refused refusal) kind a l = absurd l
+put_lacks q object old new DiskFault kind a l = l
+put_lacks q object old new MediaFault kind a l = l
+put_lacks q object old new Failed kind a l = l

@@ -11,11 +11,12 @@ use Rattle.sdr_base.specs.Blocks.{Block, Blocks, Reaches, overwritten, with_bloc
 use Rattle.sdr_base.specs.Entries.{BlocksAre, Changes, Entries, Few}
 use Rattle.sdr_base.specs.Lists.{KeepsList, ListElement, ListRow, list_entries}
 use Rattle.sdr_base.specs.Making.{Made, MakesThing, besides}
-use Rattle.sdr_base.specs.Objects.{Heap}
+use Rattle.sdr_base.specs.Objects.{Heap, OnlyUnmoved}
 use Rattle.sdr_base.specs.Raws.{raw_block}
 use Rattle.sdr_base.specs.Words.{TakesBytes, layout, with_word}
 use Rattle.sdr_base.specs.declared.kind.Kind.TheVariants as kinds
 use Rattle.sdr_base.specs.declared.moves.Move.TheVariants.{Took}
+use Rattle.sdr_base.specs.declared.stop.Stop.{Stop}
 use Rattle.sdr_base.proofs.GaveLemmas.{made_then}
 use Rattle.sdr_base.proofs.HeapLemmas.{heap_blocks}
 use Rattle.sdr_base.proofs.MakingLemmas.{taken_makes}
@@ -27,6 +28,7 @@ use Rattle.sdr_list.specs.Orders.{ordered_place, sort_key}
 use Rattle.bp_queue.specs.Classes.{is_class}
 use Rattle.bp_queue.specs.Kept.{FitQueue, KeepsQueues, Row, RowFits, class_element, class_row, four_lists, item_bytes, item_entries, items_entries, line_element, line_row, list_of, queue_entries, waiting_of}
 use Rattle.bp_queue.specs.Keys.{ByDeadline, ByOrdinal}
+use Rattle.bp_queue.specs.Lacking.{LacksRoom}
 use Rattle.bp_queue.specs.Putting.{Admits, Enlists, IsUnnamed, KeepsListed, KeepsUnlisted, NotesElements, SomeListed, SomeUnlisted, nowhere, row_of}
 use Rattle.bp_queue.specs.States.{Waiting, class_of, line_of}
 use Rattle.bp_queue.specs.declared.class.Class.{Class}
@@ -36,6 +38,7 @@ use Rattle.bp_queue.specs.declared.queues.Queues.{Queues}
 use Rattle.bp_queue.proofs.FitLemmas.{fit_push}
 use Rattle.bp_queue.proofs.FourLemmas.{around_more, before_more, class_changed, four_same, line_changed, with_class}
 use Rattle.bp_queue.proofs.ItemLemmas.{due_test, item_block, item_found, item_key, item_words, rank_test, rank_word}
+use Rattle.bp_queue.proofs.LackLemmas.{all_lack}
 use Rattle.bp_queue.proofs.PlaceLemmas.{insert_place}
 use Rattle.bp_queue.proofs.QueueLemmas.{class_list, closed, each_fits, line_few, line_fits, line_kept, opened}
 use Rattle.bp_queue.proofs.SortingLemmas.{Among, each_among, each_at, each_filter, each_sorted, sorted_order}
@@ -331,3 +334,11 @@ module _ {q : Queues} {w : Wanted} {item : ℕ} {old mid : Heap} (m : MakesThing
       all = n.same ∙ (made_then (Took 56 item ∷ []) (Took 32 at.in_class ∷ Took 32 at.in_line ∷ []) m.made e.made).all;
     };
   }
+
+-- an item was made and listed, and then there was no log room, or a fault
+pub listed_lacks : {q : Queues} {w : Wanted} {item : ℕ} {old mid last : Heap} {at : Elements} (new : Heap) (stop : Stop) →
+    MakesThing 56 item (item_entries (row_of w item nowhere)) old mid → Enlists q w item mid last at → OnlyUnmoved last new stop →
+    LacksRoom (56 ∷ 32 ∷ 32 ∷ []) old new stop
+listed_lacks {q} {w} {item} {old} {mid} {last} {at} new stop m e u =
+    all_lack (record { need = 56; addr = item } ∷ record { need = 32; addr = at.in_class } ∷ record { need = 32; addr = at.in_line } ∷ [])
+    (made_then (Took 56 item ∷ []) (Took 32 at.in_class ∷ Took 32 at.in_line ∷ []) m.made e.made) new stop u

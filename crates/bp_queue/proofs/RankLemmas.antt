@@ -37,3 +37,16 @@ made_item {item} {old} {new} w t =
     (let l = length-layout (item_words (row_of w item nowhere)) [] in omega (arith, l))
     (subst (λ (x : Block). MakesThing (length (layout (item_words (row_of w item nowhere)) [])) item ((item, x) ∷ []) old new)
     (sym (item_block (row_of w item nowhere))) made)
+
+-- its numbers fit, where those do that it was made of
+pub wanted_fits : (w : Wanted) {item : ℕ} → w.ordinal < 2 ^ 8 → w.deadline < 2 ^ 64 → w.object < 2 ^ 64 → item < 2 ^ 32 → w.object ≢ 0 →
+    RowFits (row_of w item nowhere)
+wanted_fits w ordinal deadline object small some = record {
+  ordinal = ordinal;
+  deadline = deadline;
+  item = omega (arith, small);
+  object = object;
+  some = some;
+  in_class = omega arith;
+  in_line = omega arith;
+}

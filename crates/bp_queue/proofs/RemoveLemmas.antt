@@ -95,12 +95,12 @@ module _ {b : Blocks} {item : ℕ} {q : Queues} {next : ℕ} {before : List Row}
   whole : Split (keeps_but waiting_of r.waiting.object) r rows
   whole = record { before = before; behind = behind; whole = refl; left = left }
 
-  class_split : Split (keeps_but waiting_of r.waiting.object) r (class_of waiting_of r.waiting.class rows)
+  pub class_split : Split (keeps_but waiting_of r.waiting.object) r (class_of waiting_of r.waiting.class rows)
   class_split =
       split_object waiting_of r (class_of waiting_of r.waiting.class rows)
       (apart_class waiting_of r.waiting.class rows (rows_apart s.keeps.fits)) (among_class waiting_of r rows among)
 
-  line_split : Split (keeps_but waiting_of r.waiting.object) r (line_of waiting_of rows)
+  pub line_split : Split (keeps_but waiting_of r.waiting.object) r (line_of waiting_of rows)
   line_split =
       split_object waiting_of r (line_of waiting_of rows) (apart_line waiting_of rows (rows_apart s.keeps.fits))
       (among_line waiting_of r rows among)
@@ -256,10 +256,10 @@ module _ {b : Blocks} {item : ℕ} {q : Queues} {next : ℕ} {before : List Row}
           (subst (FitQueue q next) left (fit_filter (keeps_but waiting_of r.waiting.object) s.keeps.fits))
 
 -- the calls one after another
-module _ {item : ℕ} {old first : Heap} {in_class in_line : ℕ} (at_class : HasWord (old.blocks item) 5 in_class)
+module _ (item : ℕ) (old : Heap) (in_class in_line : ℕ) (at_class : HasWord (old.blocks item) 5 in_class)
     (at_line : HasWord (old.blocks item) 6 in_line) where
   -- the first deletion, as whichever queues keep the item see it
-  module _ (d : DeletesElement in_class old first) where
+  module _ {first : Heap} (d : DeletesElement in_class old first) where
     pub line_there : SomeItem old.blocks item → SomeSpot first.blocks in_line
     line_there i =
         let s = i.stands in
@@ -311,7 +311,7 @@ stopped : {old mid new : Heap} (before behind all : List ℕ) → before ++ behi
 stopped {old} {mid} {new} before behind all whole m u =
     subst (λ (addrs : List ℕ). GaveSome addrs old new) whole (some_then before [] behind m (some_none u.moves u.spare))
 
-module _ {item : ℕ} {old : Heap} {in_class in_line : ℕ} (at_class : HasWord (old.blocks item) 5 in_class)
+module _ (item : ℕ) (old : Heap) (in_class in_line : ℕ) (at_class : HasWord (old.blocks item) 5 in_class)
     (at_line : HasWord (old.blocks item) 6 in_line) where
   these : {q : Queues} {next : ℕ} {before : List Row} {r : Row} {behind : List Row} {rest : Entries} →
       IsItem old.blocks item q next before r behind rest → in_class ∷ in_line ∷ item ∷ [] ≡ item_blocks r
@@ -328,10 +328,10 @@ module _ {item : ℕ} {old : Heap} {in_class in_line : ℕ} (at_class : HasWord 
       RemoveStops item old new stop
   class_stops i new (Refused (refusals.BadAddress bad)) u =
       let spot = subst (SomeSpot old.blocks) (sym (in_class_is i.stands at_class)) (in_class_spot i.stands) in
-      absurd (never_missed (old.blocks in_class) in_class kinds.Element (layout (spot_words spot.spot) []) (element_there spot.is) _ u.0)
+      absurd (never_missed (old.blocks in_class) in_class kinds.Element (layout (spot_words spot.spot) []) (element_there spot.is) (Refused (refusals.BadAddress bad)) u.0)
   class_stops i new (Refused (refusals.WrongKind bad number)) u =
       let spot = subst (SomeSpot old.blocks) (sym (in_class_is i.stands at_class)) (in_class_spot i.stands) in
-      absurd (never_missed (old.blocks in_class) in_class kinds.Element (layout (spot_words spot.spot) []) (element_there spot.is) _ u.0)
+      absurd (never_missed (old.blocks in_class) in_class kinds.Element (layout (spot_words spot.spot) []) (element_there spot.is) (Refused (refusals.WrongKind bad number)) u.0)
   class_stops i new (Refused (refusals.LogFull lines room)) u =
       some_unmoved [] (in_class ∷ in_line ∷ item ∷ []) refl (none_made old) u.1
   class_stops i new (Refused refusal) u = absurd u.1
@@ -343,11 +343,11 @@ module _ {item : ℕ} {old : Heap} {in_class in_line : ℕ} (at_class : HasWord 
   pub line_stops : SomeItem old.blocks item → {first : Heap} → DeletesElement in_class old first → (new : Heap) (stop : Stop) →
       ChangeStops kinds.Element in_line first new stop → RemoveStops item old new stop
   line_stops i {first} d new (Refused (refusals.BadAddress bad)) u =
-      let spot = line_there at_class at_line d i in
-      absurd (never_missed (first.blocks in_line) in_line kinds.Element (layout (spot_words spot.spot) []) (element_there spot.is) _ u.0)
+      let spot = line_there item old in_class in_line at_class at_line d i in
+      absurd (never_missed (first.blocks in_line) in_line kinds.Element (layout (spot_words spot.spot) []) (element_there spot.is) (Refused (refusals.BadAddress bad)) u.0)
   line_stops i {first} d new (Refused (refusals.WrongKind bad number)) u =
-      let spot = line_there at_class at_line d i in
-      absurd (never_missed (first.blocks in_line) in_line kinds.Element (layout (spot_words spot.spot) []) (element_there spot.is) _ u.0)
+      let spot = line_there item old in_class in_line at_class at_line d i in
+      absurd (never_missed (first.blocks in_line) in_line kinds.Element (layout (spot_words spot.spot) []) (element_there spot.is) (Refused (refusals.WrongKind bad number)) u.0)
   line_stops i {first} d new (Refused (refusals.LogFull lines room)) u =
       some_unmoved (in_class ∷ []) (in_line ∷ item ∷ []) refl d.made u.1
   line_stops i d new (Refused refusal) u = absurd u.1

@@ -31,12 +31,12 @@ change_unmoved old new k MediaFault u = u
 change_unmoved old new k Failed u = u
 
 -- after a call that made no move
-pub unmoved_since : {old mid : Heap} (new : Heap) (stop : Stop) → besides mid ≡ besides old → OnlyUnmoved mid new stop → OnlyUnmoved old new stop
-unmoved_since new (Refused (refusals.LogFull lines room)) same u = record {
+pub unmoved_since : (old mid new : Heap) (stop : Stop) → besides mid ≡ besides old → OnlyUnmoved mid new stop → OnlyUnmoved old new stop
+unmoved_since old mid new (Refused (refusals.LogFull lines room)) same u = record {
   moves = u.moves ∙ ap (λ (h : Heap). h.moves) same;
   spare = u.spare ∙ ap (λ (h : Heap). h.spare) same;
 }
-unmoved_since new (Refused refusal) same u = u
-unmoved_since new DiskFault same u = u
-unmoved_since new MediaFault same u = u
-unmoved_since new Failed same u = u
+unmoved_since old mid new (Refused refusal) same u = u
+unmoved_since old mid new DiskFault same u = u
+unmoved_since old mid new MediaFault same u = u
+unmoved_since old mid new Failed same u = u

@@ -73,7 +73,7 @@ takes_step rows object e =
     (e ∙ sym (ap (object_of itself) h ∙ object-state (highest waiting_of rows)),
     sym (ap (λ (o : Option Waiting). except itself o (state_of rows)) h ∙ except-state (highest waiting_of rows) rows))
 
-module _ {q : Queues} {old : Heap} where
+module _ {q : Queues} (old : Heap) where
   -- none waits
   pub takes_none : Tells q highest_item old.blocks None → TakesFirst q old old 0
   takes_none t = record {
@@ -129,8 +129,8 @@ module _ {q : Queues} {old : Heap} where
     take_stops new MediaFault u = u
     take_stops new Failed u = u
 
-pub take_missed : {q : Queues} {old : Heap} (new : Heap) (stop : Stop) → OnlyFault stop → TakeStops q old new stop
-take_missed new (Refused refusal) u = absurd u
-take_missed new DiskFault u = u
-take_missed new MediaFault u = u
-take_missed new Failed u = u
+pub take_missed : (q : Queues) (old new : Heap) (stop : Stop) → OnlyFault stop → TakeStops q old new stop
+take_missed q old new (Refused refusal) u = absurd u
+take_missed q old new DiskFault u = u
+take_missed q old new MediaFault u = u
+take_missed q old new Failed u = u

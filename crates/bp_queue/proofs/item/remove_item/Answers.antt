@@ -31,7 +31,7 @@ delete-requires-2-clause-element g c =
     let at = rw c.word.ensures.looks.same at c.in_ok-in_class.ensures.given in
     let to = rw (c.word-2.ensures.looks.same, c.word.ensures.looks.same) at c.in_ok-in_line.ensures.given in
     let d = rw (c.word-3.ensures.looks.same, c.word-2.ensures.looks.same, c.word.ensures.looks.same) at c.in_ok-delete.ensures.deleted in
-    λ kind. line_there at to d c.requires.item
+    λ kind. line_there c.args.item (g.O.HasHeap.heap c.args.o.now) c.in_ok-in_class.in_class c.in_ok-in_line.in_line at to d c.requires.item
 
 pub delete-requires-2-clause-spare : goal.delete-requires-2-clause-spare
 delete-requires-2-clause-spare g c =
@@ -54,7 +54,7 @@ give-requires-clause-used g c =
     let at = rw c.word.ensures.looks.same at c.in_ok-in_class.ensures.given in
     let to = rw (c.word-2.ensures.looks.same, c.word.ensures.looks.same) at c.in_ok-in_line.ensures.given in
     let d = rw (c.word-3.ensures.looks.same, c.word-2.ensures.looks.same, c.word.ensures.looks.same) at c.in_ok-delete.ensures.deleted in
-    used_still at to d c.in_ok-delete-2.ensures.deleted c.requires.item
+    used_still c.args.item (g.O.HasHeap.heap c.args.o.now) c.in_ok-in_class.in_class c.in_ok-in_line.in_line at to d c.in_ok-delete-2.ensures.deleted c.requires.item
 
 pub returns-in_err-delete-clause-refused : goal.returns-in_err-delete-clause-refused
 returns-in_err-delete-clause-refused g c =
@@ -62,7 +62,7 @@ returns-in_err-delete-clause-refused g c =
     let at = rw c.word.ensures.looks.same at c.in_ok-in_class.ensures.given in
     let to = rw (c.word-2.ensures.looks.same, c.word.ensures.looks.same) at c.in_ok-in_line.ensures.given in
     rw (p.1, p.2)
-    (class_stops at to c.requires.item _ _
+    (class_stops c.args.item (g.O.HasHeap.heap c.args.o.now) c.in_ok-in_class.in_class c.in_ok-in_line.in_line at to c.requires.item _ _
     (rw (c.word-3.ensures.looks.same, c.word-2.ensures.looks.same, c.word.ensures.looks.same) at c.in_err-delete.ensures.refused))
 
 pub returns-in_err-delete-2-clause-refused : goal.returns-in_err-delete-2-clause-refused
@@ -71,7 +71,7 @@ returns-in_err-delete-2-clause-refused g c =
     let at = rw c.word.ensures.looks.same at c.in_ok-in_class.ensures.given in
     let to = rw (c.word-2.ensures.looks.same, c.word.ensures.looks.same) at c.in_ok-in_line.ensures.given in
     let d = rw (c.word-3.ensures.looks.same, c.word-2.ensures.looks.same, c.word.ensures.looks.same) at c.in_ok-delete.ensures.deleted in
-    rw (p.1, p.2) (line_stops at to c.requires.item d _ _ c.in_err-delete-2.ensures.refused)
+    rw (p.1, p.2) (line_stops c.args.item (g.O.HasHeap.heap c.args.o.now) c.in_ok-in_class.in_class c.in_ok-in_line.in_line at to c.requires.item d _ _ c.in_err-delete-2.ensures.refused)
 
 pub returns-in_err-give-clause-refused : goal.returns-in_err-give-clause-refused
 returns-in_err-give-clause-refused g c =
@@ -79,11 +79,11 @@ returns-in_err-give-clause-refused g c =
     let at = rw c.word.ensures.looks.same at c.in_ok-in_class.ensures.given in
     let to = rw (c.word-2.ensures.looks.same, c.word.ensures.looks.same) at c.in_ok-in_line.ensures.given in
     let d = rw (c.word-3.ensures.looks.same, c.word-2.ensures.looks.same, c.word.ensures.looks.same) at c.in_ok-delete.ensures.deleted in
-    rw (p.1, p.2) (give_stops at to d c.in_ok-delete-2.ensures.deleted _ _ c.in_err-give.ensures.refused)
+    rw (p.1, p.2) (give_stops c.args.item (g.O.HasHeap.heap c.args.o.now) c.in_ok-in_class.in_class c.in_ok-in_line.in_line at to d c.in_ok-delete-2.ensures.deleted _ _ c.in_err-give.ensures.refused)
 
 pub returns-clause-removed : goal.returns-clause-removed
 returns-clause-removed g c =
     let at = rw c.word.ensures.looks.same at c.in_ok-in_class.ensures.given in
     let to = rw (c.word-2.ensures.looks.same, c.word.ensures.looks.same) at c.in_ok-in_line.ensures.given in
     let d = rw (c.word-3.ensures.looks.same, c.word-2.ensures.looks.same, c.word.ensures.looks.same) at c.in_ok-delete.ensures.deleted in
-    removes at to d c.in_ok-delete-2.ensures.deleted c.in_ok-object.ensures.given c.in_ok-give.ensures.given
+    removes c.args.item (g.O.HasHeap.heap c.args.o.now) c.in_ok-in_class.in_class c.in_ok-in_line.in_line at to d c.in_ok-delete-2.ensures.deleted c.in_ok-object.ensures.given c.in_ok-give.ensures.given

@@ -20,7 +20,7 @@ set_word-requires-2-clause-inside g c =
 pub returns-in_err-set_word-2-clause-refused : goal.returns-in_err-set_word-2-clause-refused
 returns-in_err-set_word-2-clause-refused g c =
     let p = err_from_is_err_and c.from_residual-in_err-set_word-2.result c.from_residual-in_err-set_word-2.ensures.1 in
-    rw (p.1, p.2) (unmoved_since _ _ (ap besides c.in_ok-set_word.ensures.written) c.in_err-set_word-2.ensures.refused)
+    rw (p.1, p.2) (unmoved_since _ _ _ _ (ap besides c.in_ok-set_word.ensures.written) c.in_err-set_word-2.ensures.refused)
 
 pub set_user_data-requires-clause-list : goal.set_user_data-requires-clause-list
 set_user_data-requires-clause-list g c = λ kind. record {
@@ -46,6 +46,6 @@ returns-clause-refused g c =
     let old = g.O.HasHeap.heap c.args.o.now in
     let new = g.O.HasHeap.heap c.set_user_data.new.o in
     IfErr-weaker _ _ (OnlyUnmoved old new)
-    (λ stop u. unmoved_since new stop
+    (λ stop u. unmoved_since old (g.O.HasHeap.heap c.set_word-2.new.o) new stop
     (ap besides c.in_ok-set_word-2.ensures.written ∙ ap besides c.in_ok-set_word.ensures.written) (change_unmoved _ _ k stop u))
     c.set_user_data.ensures.refused
