@@ -14,11 +14,11 @@ use Rattle.sdr_base.specs.declared.stop.Stop.{Stop}
 use Rattle.sdr_base.specs.declared.stop.Stop.TheVariants.{Refused, DiskFault, MediaFault, Failed}
 use Rattle.sdr_base.proofs.GaveLemmas.{gave_spare, some_of, some_then}
 use Rattle.sdr_base.proofs.StandingLemmas.{found}
-use Rattle.zco_obj.specs.Destroying.{DestroyStops, DestroysObject, KeepsSources, SomeWithSources, gone_object}
+use Rattle.zco_obj.specs.Destroying.{DestroyStops, DestroysObject, KeepsSources, SomeWithSources, gone_object, parts_lines}
 use Rattle.zco_obj.specs.Gone.{NamedSource}
 use Rattle.zco_obj.proofs.KeptLemmas.{object_words}
 use Rattle.bp_queue.specs.Calls.{TellsFirst}
-use Rattle.bp_queue.specs.Expiring.{ExpiresFirst, FirstExpires, FirstGives, FirstStops, KeepsOverdue, SomeOverdue, expire_all, expire_one, gone_with, object_for}
+use Rattle.bp_queue.specs.Expiring.{ExpiresFirst, FirstExpires, FirstGives, FirstStops, KeepsOverdue, SomeOverdue, expire_all, expire_one, first_lines, gone_with, object_for}
 use Rattle.bp_queue.specs.Kept.{KeepsQueues, Row, waiting_of}
 use Rattle.bp_queue.specs.Removing.{RemoveStops, RemovesItem, SomeItem, item_blocks}
 use Rattle.bp_queue.specs.States.{overdue}
@@ -158,3 +158,34 @@ module _ (q : Queues) (now : ℕ) (old : Heap) where
       object_stays s m new DiskFault u = u
       object_stays s m new MediaFault u = u
       object_stays s m new Failed u = u
+
+      -- there is room for the item's blocks
+      pub due_spare : SomeOverdue old q now → 3 ≤ old.spare
+      due_spare s =
+          let r = row s.keeps.keeps in
+          let n = due_room s in
+          let l = length-append (item_blocks r) (gone_object r.waiting.object (object_for s.object_at r) s.sources) in
+          omega (arith, n, l)
+
+      -- so many lines are touched
+      pub due_lines : {next : ℕ} {rows : List Row} {object_at : ℕ → ObjectRow} {sources : List NamedSource} {rest : Entries} →
+          (k : KeepsOverdue old.blocks q now next rows object_at sources rest) →
+          first_lines (overdue waiting_of now rows) object_at sources
+          ≡ 111 + parts_lines (object_for object_at (row k.keeps)) sources
+      due_lines {next} {rows} {object_at} {sources} k =
+          ap (λ (due : List Row). first_lines due object_at sources) (due_row k.keeps).1
+
+      pub due_sources : {mid : Heap} {object : ℕ} → RemovesItem item old mid object → {next : ℕ} {rows : List Row} {object_at : ℕ → ObjectRow}
+          {sources : List NamedSource} {rest : Entries} (k : KeepsOverdue old.blocks q now next rows object_at sources rest) →
+          KeepsSources mid.blocks object (object_for object_at (row k.keeps)) sources
+      due_sources {mid} {object} m {next} {rows} {object_at} {sources} {rest} k =
+          let f = row_of_line t k.keeps in
+          let o = due_row k.keeps in
+          let i = m.removes _ _ _ _ _ _ (its_item k f.0 o.0 o.1 f.2) in
+          subst (λ (a : ℕ). KeepsSources mid.blocks a (object_for object_at f.0) sources) (sym i.named) (object_kept k f.0 o.0 o.1 i.keeps)
+
+pub first_fault : (q : Queues) (now : ℕ) (old new : Heap) (stop : Stop) → OnlyFault stop → FirstStops q now old new stop
+first_fault q now old new (Refused refusal) u = absurd u
+first_fault q now old new DiskFault u = u
+first_fault q now old new MediaFault u = u
+first_fault q now old new Failed u = u

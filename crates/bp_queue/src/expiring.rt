@@ -5,6 +5,7 @@ ghost use Rattle.sdr_base.specs.Moves.{KeepsSome};
 ghost use Rattle.sdr_base.specs.Works.{Spends};
 ghost use Rattle.sdr_base.specs.ZcoObjects.{ObjectRow};
 ghost use Rattle.zco_obj.specs.Gone.{NamedSource};
+ghost use Rattle.bp_queue.specs.Calls.{TellsFirst};
 ghost use Rattle.bp_queue.specs.Expiring.{ExpiresAll, ExpiresFirst, ExpireStops, FirstStops};
 ghost use Rattle.bp_queue.specs.Expiring.{KeepsOverdue, SomeOverdue, expiry_of, first_lines};
 ghost use Rattle.bp_queue.specs.Kept.{Row, waiting_of};
@@ -12,7 +13,7 @@ ghost use Rattle.bp_queue.specs.States.{overdue};
 
 use crate::item::{first_item, remove_item, words};
 use crate::queues::Queues;
-use sdr_base::{Objects, Stop, word};
+use sdr_base::{Addr, Objects, Stop, word};
 use zco_obj::destroy;
 
 /// Removes every item whose deadline is at most `now`, the earliest first, and destroys its object,
@@ -52,9 +53,25 @@ fn expire_first<O: Objects>(o: &mut O, q: &Queues, now: u64) -> Result<bool, Sto
         Spends O.HasHeap (first_lines (overdue waiting_of now rows) object_at sources)
         o.old o.new result }
 {
-    let Some(item) = first_item(o, q.line)? else {
-        return Ok(false);
-    };
+    match first_item(o, q.line)? {
+        None => Ok(false),
+        Some(item) => expire_item(o, q, item, now),
+    }
+}
+
+// Removes the first item of the line, which this is, where it is overdue, and destroys its object.
+fn expire_item<O: Objects>(o: &mut O, q: &Queues, item: Addr, now: u64) -> Result<bool, Stop>
+    requires kept { KeepsSome (O.keeps o.old) }
+    requires overdue { SomeOverdue (O.heap o.old) q.now now }
+    requires first { TellsFirst q.now.line (O.heap o.old).blocks (Some item) }
+    ensures expired { IfOk result (ExpiresFirst q.now now (O.heap o.old) (O.heap o.new)) }
+    ensures refused { IfErr result (FirstStops q.now now (O.heap o.old) (O.heap o.new)) }
+    ensures works { (next : ℕ) (rows : List Row) (object_at : ℕ → ObjectRow)
+        (sources : List NamedSource) (rest : Entries) →
+        KeepsOverdue (O.heap o.old).blocks q.now now next rows object_at sources rest →
+        Spends O.HasHeap (first_lines (overdue waiting_of now rows) object_at sources)
+        o.old o.new result }
+{
     let deadline = word(o, item, words::DEADLINE)?;
     if deadline > now {
         return Ok(false);
