@@ -8,14 +8,12 @@ use Rattle.sdr_base.specs.Entries.{Entries}
 use Rattle.sdr_base.specs.Making.{besides, gave, with_moves}
 use Rattle.sdr_base.specs.Objects.{Heap}
 use Rattle.sdr_base.specs.ZcoObjects.{ObjectRow}
-use Rattle.zco_obj.specs.Destroying.{charges_of}
 use Rattle.zco_obj.specs.Gone.{NamedSource, sources_entries}
-use Rattle.bp_queue.specs.Expiring.{Expired, ExpiresAll, ExpiresFirst, Expiry, FirstExpires, FirstGone, KeepsOverdue, expire_one, expiry_of, gone_with, object_for, objects_entries}
+use Rattle.bp_queue.specs.Expiring.{Expired, Expiry, KeepsOverdue, expire_one, expiry_of, gone_with, objects_entries}
 use Rattle.bp_queue.specs.Kept.{KeepsQueues, Row, state_of, waiting_of}
 use Rattle.bp_queue.specs.Runs.{QueueStep, Expires}
 use Rattle.bp_queue.specs.States.{later_than, line_of, overdue, without}
 use Rattle.bp_queue.specs.declared.queues.Queues.{Queues}
-use Rattle.bp_queue.proofs.DueLemmas.{gone_then, later_left, others_due}
 use Rattle.bp_queue.proofs.SortingLemmas.{filter-sorted, length-sorted, map-filter}
 use Rattle.bp_queue.proofs.StateLemmas.{all_later, due, due_order, is_due, later-not}
 
@@ -29,6 +27,13 @@ gone_before object_at e before (r ∷ rows) =
     (append_assoc before e.gone (gone_with object_at e.sources r))
     ∙ gone_before object_at (expire_one object_at e r) before rows
 
+-- which doesn't depend on what is occupied
+pub gone_heap : (object_at : ℕ → ObjectRow) (e : Expiry) (h : Heap) (rows : List Row) →
+    (fold (expire_one object_at) (record e { heap = h }) rows).gone ≡ (fold (expire_one object_at) e rows).gone
+gone_heap object_at e h [] = refl
+gone_heap object_at e h (r ∷ rows) =
+    gone_heap object_at (expire_one object_at e r) (expire_one object_at (record e { heap = h }) r).heap rows
+
 -- How far an expiry has come: some rows and sources are left, with what else has come to stand beside them.
 pub record Come (q : Queues) (now next : ℕ) (rows : List Row) (object_at : ℕ → ObjectRow) (sources : List NamedSource) (rest : Entries)
     (old new : Heap) (i : ℕ) : Type 0 where
@@ -36,30 +41,14 @@ pub record Come (q : Queues) (now next : ℕ) (rows : List Row) (object_at : ℕ
   pub so_far : Expiry
   pub keeps : KeepsOverdue new.blocks q now next left object_at so_far.sources so_far.rest
   pub others : besides new ≡ besides (with_moves so_far.heap (gave so_far.gone))
+  pub moves : so_far.heap.moves ≡ old.moves
+  pub spare : so_far.heap.spare ≡ old.spare
   pub comes_to : fold (expire_one object_at) so_far (overdue waiting_of now left) ≡ expiry_of now rows object_at sources rest old
   pub later : later_than waiting_of now left ≡ later_than waiting_of now rows
   pub counted : i + length (overdue waiting_of now left) ≡ length (overdue waiting_of now rows)
 
--- so it has in whichever queues are kept
-pub record Comes (q : Queues) (now : ℕ) (old new : Heap) (i : ℕ) : Type 0 where
-  pub comes : (next : ℕ) (rows : List Row) (object_at : ℕ → ObjectRow) (sources : List NamedSource) (rest : Entries) →
-      KeepsOverdue old.blocks q now next rows object_at sources rest → Come q now next rows object_at sources rest old new i
-
-pub expiry_begun : {q : Queues} {now : ℕ} {old : Heap} → besides old ≡ besides (with_moves old (gave [])) → Comes q now old old 0
-expiry_begun {q} {now} {old} none = record {
-  comes = λ next rows object_at sources rest k. record {
-    left = rows;
-    so_far = record { gone = []; sources = sources; rest = rest; heap = old };
-    keeps = k;
-    others = none;
-    comes_to = refl;
-    later = refl;
-    counted = omega arith;
-  };
-}
-
 -- those that are overdue and those that aren't are all
-counts : (now : ℕ) (rows : List Row) → length (overdue waiting_of now rows) + length (later_than waiting_of now rows) ≡ length rows
+pub counts : (now : ℕ) (rows : List Row) → length (overdue waiting_of now rows) + length (later_than waiting_of now rows) ≡ length rows
 counts now rows =
     let a = all_due now rows in
     let b = length-filter_both (is_due waiting_of now) (λ (r : Row). nat_lt now r.waiting.deadline) (λ r. later-not now r.waiting.deadline) rows in
@@ -71,7 +60,7 @@ counts now rows =
         ∙ length-sorted (due waiting_of) (filter (is_due waiting_of now) rows)
 
 -- where none is overdue any more, all have gone
-done : {q : Queues} {now next i : ℕ} {rows : List Row} {object_at : ℕ → ObjectRow} {sources : List NamedSource} {rest : Entries}
+pub done : {q : Queues} {now next i : ℕ} {rows : List Row} {object_at : ℕ → ObjectRow} {sources : List NamedSource} {rest : Entries}
     {old new : Heap} (c : Come q now next rows object_at sources rest old new i) → overdue waiting_of now c.left ≡ [] →
     Expired q now next rows (expiry_of now rows object_at sources rest old) old new i
 done {q} {now} {next} {i} {rows} {object_at} {sources} {rest} {old} {new} c none =
@@ -93,55 +82,3 @@ done {q} {now} {next} {i} {rows} {object_at} {sources} {rest} {old} {new} c none
           (let t = counts now rows in let m = length-map (later_than waiting_of now rows) waiting_of in
           let l = length-map rows waiting_of in omega (arith, n, t, m, l)));
     }
-
--- none was overdue any more
-pub expired_by_none : {q : Queues} {now i : ℕ} {old mid new : Heap} → Comes q now old mid i → ExpiresFirst q now mid new false →
-    ExpiresAll q now old new i
-expired_by_none {q} {now} {i} {old} {mid} {new} c f = record {
-  expires = λ next rows object_at sources rest k.
-      let s = c.comes next rows object_at sources rest k in
-      let e = f.expires next s.left object_at s.so_far.sources s.so_far.rest s.keeps in
-      by s (overdue waiting_of now s.left) refl e;
-}
-  where
-    by : {next : ℕ} {rows : List Row} {object_at : ℕ → ObjectRow} {sources : List NamedSource} {rest : Entries}
-        (s : Come q now next rows object_at sources rest old mid i) (due : List Row) → overdue waiting_of now s.left ≡ due →
-        FirstExpires due q now next s.left object_at s.so_far.sources s.so_far.rest mid new false →
-        Expired q now next rows (expiry_of now rows object_at sources rest old) old new i
-    by {next} {rows} {object_at} {sources} {rest} s [] none e =
-        subst (λ (h : Heap). Expired q now next rows (expiry_of now rows object_at sources rest old) old h i) (sym e.1) (done s none)
-    by s (r ∷ due) some e = absurd (let x : false ≡ true = e.0 in cc)
-
--- one more has gone
-pub expired_one : {q : Queues} {now i : ℕ} {old mid new : Heap} → Comes q now old mid i → ExpiresFirst q now mid new true →
-    Comes q now old new (i + 1)
-expired_one {q} {now} {i} {old} {mid} {new} c f = record {
-  comes = λ next rows object_at sources rest k.
-      let s = c.comes next rows object_at sources rest k in
-      let e = f.expires next s.left object_at s.so_far.sources s.so_far.rest s.keeps in
-      by s (overdue waiting_of now s.left) refl e;
-}
-  where
-    by : {next : ℕ} {rows : List Row} {object_at : ℕ → ObjectRow} {sources : List NamedSource} {rest : Entries}
-        (s : Come q now next rows object_at sources rest old mid i) (due : List Row) → overdue waiting_of now s.left ≡ due →
-        FirstExpires due q now next s.left object_at s.so_far.sources s.so_far.rest mid new true →
-        Come q now next rows object_at sources rest old new (i + 1)
-    by s [] none e = absurd (let x : true ≡ false = e.0 in cc)
-    by {next} {rows} {object_at} {sources} {rest} s (r ∷ due) some e =
-        let g = e.1 in
-        let z = object_for object_at r in
-        let w = others_due s.keeps r due some in
-        record {
-          left = without waiting_of r.waiting.object s.left;
-          so_far = expire_one object_at s.so_far r;
-          keeps = g.keeps;
-          others =
-              g.others
-              ∙ gone_then mid z.account (charges_of z s.so_far.sources) s.so_far.gone (gone_with object_at s.so_far.sources r) s.so_far.heap s.others;
-          comes_to = ap (fold (expire_one object_at) (expire_one object_at s.so_far r)) w
-              ∙ sym (ap (fold (expire_one object_at) s.so_far) some) ∙ s.comes_to;
-          later = later_left s.keeps r due some ∙ s.later;
-          counted =
-              let n = s.counted in let l = ap (length {A = Row}) some in let m = ap (length {A = Row}) w in
-              omega (arith, n, l, m);
-        }

@@ -18,7 +18,7 @@ use Rattle.zco_obj.specs.Destroying.{DestroyStops, DestroysObject, KeepsSources,
 use Rattle.zco_obj.specs.Gone.{NamedSource}
 use Rattle.zco_obj.proofs.KeptLemmas.{object_words}
 use Rattle.bp_queue.specs.Calls.{TellsFirst}
-use Rattle.bp_queue.specs.Expiring.{ExpiresFirst, FirstExpires, FirstGives, FirstStops, KeepsOverdue, SomeOverdue, expire_all, expire_one, first_lines, gone_with, object_for}
+use Rattle.bp_queue.specs.Expiring.{ExpireStops, ExpiresFirst, FirstExpires, FirstGives, FirstStops, KeepsOverdue, SomeOverdue, expire_all, expire_one, first_lines, gone_with, object_for}
 use Rattle.bp_queue.specs.Kept.{KeepsQueues, Row, waiting_of}
 use Rattle.bp_queue.specs.Removing.{RemoveStops, RemovesItem, SomeItem, item_blocks}
 use Rattle.bp_queue.specs.States.{overdue}
@@ -189,3 +189,9 @@ first_fault q now old new (Refused refusal) u = absurd u
 first_fault q now old new DiskFault u = u
 first_fault q now old new MediaFault u = u
 first_fault q now old new Failed u = u
+
+pub expire_fault : (q : Queues) (now : ℕ) (old new : Heap) (stop : Stop) → OnlyFault stop → ExpireStops q now old new stop
+expire_fault q now old new (Refused refusal) u = absurd u
+expire_fault q now old new DiskFault u = u
+expire_fault q now old new MediaFault u = u
+expire_fault q now old new Failed u = u

@@ -19,4 +19,5 @@ pub mod RankLemmas
 pub mod DueLemmas
 pub mod ExpireLemmas
 pub mod FirstDueLemmas
+pub mod GoesLemmas
 mod RowsOfQueues
