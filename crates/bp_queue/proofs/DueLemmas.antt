@@ -102,7 +102,7 @@ pub gone_then : (mid : Heap) (acct : Acct) (charged : Amounts) (before addrs : L
 gone_then mid acct charged before addrs base e =
     ap (with_gone acct charged addrs) e
     ∙ ap (λ (h : Heap). besides (with_occupied h acct (minus (occupied_in base acct) charged)))
-    (made_then {base} {with_moves base (gave before)} {with_moves (with_moves base (gave before)) (gave addrs)} (gave before) (gave addrs)
+    (made_then {old = base} {mid = with_moves base (gave before)} {new = with_moves (with_moves base (gave before)) (gave addrs)} (gave before) (gave addrs)
     (record { all = refl }) (record { all = refl })).all
     ∙ ap (λ (ms : List Move). besides (with_moves (with_occupied base acct (minus (occupied_in base acct) charged)) ms))
     (sym (map-append (λ a. Gave a) before addrs))

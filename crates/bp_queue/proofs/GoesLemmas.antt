@@ -99,7 +99,7 @@ module _ {S : Type 0} (m : Ghosts S) (q : Queues) (now : ℕ) where
         let o = ap (length {A = ℕ}) own in
         let a = length-append e.gone (fold (expire_one s.object_at) (record e { gone = [] }) left).gone in
         let r = s.room in
-        let spare = gave_spare {e.heap} {m.heap mid} e.gone (record { all = c.others }) in
+        let spare = gave_spare {old = e.heap} {new = m.heap mid} e.gone (record { all = c.others }) in
         let same = c.spare in
         record {
           next = s.next;
@@ -231,7 +231,7 @@ module _ {S : Type 0} (m : Ghosts S) (q : Queues) (now : ℕ) where
               ∙ sym (ap (λ (x : Expiry). x.gone) (sym c.comes_to ∙ ap (fold (expire_one object_at) c.so_far) some)
               ∙ ap (λ (addrs : List ℕ). (fold (expire_one object_at) (record one { gone = addrs }) left).gone) (sym (append-nil one.gone))
               ∙ gone_before object_at (record one { gone = [] }) one.gone left) in
-              let t = some_then {c.so_far.heap} {m.heap mid} {m.heap new} c.so_far.gone (gone_with object_at c.so_far.sources r) later
+              let t = some_then {old = c.so_far.heap} {mid = m.heap mid} {new = m.heap new} c.so_far.gone (gone_with object_at c.so_far.sources r) later
               (record { all = c.others }) s in
               subst (λ (addrs : List ℕ). GaveSome addrs (m.heap old) (m.heap new)) all
               (record {

@@ -13,7 +13,7 @@ use Rattle.sdr_base.proofs.StandingLemmas.{at-nowhere}
 use Rattle.sdr_list.specs.Calls.{TellsOfList}
 use Rattle.bp_queue.specs.Kept.{KeepsQueues, Row, SomeQueues, last_number, waiting_of}
 use Rattle.bp_queue.specs.Lacking.{LacksRoom}
-use Rattle.bp_queue.specs.Putting.{Admits, Allows, FindsItem, IsFull, IsTaken, PutsLast, PutStops, row_of}
+use Rattle.bp_queue.specs.Putting.{Admits, Allows, FindsItem, IsFull, IsTaken, NewStops, PutsLast, PutStops, row_of}
 use Rattle.bp_queue.specs.declared.putting.Wanted.{Wanted}
 use Rattle.bp_queue.specs.declared.queues.Queues.{Queues}
 use Rattle.bp_queue.proofs.QueueLemmas.{line_list}
@@ -80,11 +80,23 @@ put_fault q object old new DiskFault m = m
 put_fault q object old new MediaFault m = m
 put_fault q object old new Failed m = m
 
-pub put_lacks : (q : Queues) (object : ℕ) (old new : Heap) (stop : Stop) → IsKind (old.blocks object) kinds.Object →
-    Allows q object old.blocks → LacksRoom (56 ∷ 32 ∷ 32 ∷ []) old new stop → PutStops q object old new stop
-put_lacks q object old new (Refused (refusals.NoBlock need)) kind a l = (kind, a, l)
-put_lacks q object old new (Refused (refusals.LogFull lines room)) kind a l = (kind, a, l)
-put_lacks q object old new (Refused refusal) kind a l = absurd l
-put_lacks q object old new DiskFault kind a l = l
-put_lacks q object old new MediaFault kind a l = l
-put_lacks q object old new Failed kind a l = l
+-- an object that doesn't wait wasn't put
+pub put_new_stops : (q : Queues) (object number : ℕ) (old new : Heap) (stop : Stop) → IsKind (old.blocks object) kinds.Object →
+    FindsItem q object old.blocks None → TellsOfList q.line (λ row. row.user) old.blocks number → NewStops number old new stop →
+    PutStops q object old new stop
+put_new_stops q object number old new (Refused (refusals.BadRow row rows)) kind f t u = (kind, is_full t f u.0, u.1, u.2, u.3)
+put_new_stops q object number old new (Refused (refusals.NoBlock need)) kind f t u = (kind, is_allowed t f u.0, u.1)
+put_new_stops q object number old new (Refused (refusals.LogFull lines room)) kind f t u = (kind, is_allowed t f u.0, u.1)
+put_new_stops q object number old new (Refused refusal) kind f t u = absurd u.1
+put_new_stops q object number old new DiskFault kind f t u = u
+put_new_stops q object number old new MediaFault kind f t u = u
+put_new_stops q object number old new Failed kind f t u = u
+
+pub new_lacks : (number : ℕ) (old new : Heap) (stop : Stop) → number < last_number → LacksRoom (56 ∷ 32 ∷ 32 ∷ []) old new stop →
+    NewStops number old new stop
+new_lacks number old new (Refused (refusals.NoBlock need)) less l = (less, l)
+new_lacks number old new (Refused (refusals.LogFull lines room)) less l = (less, l)
+new_lacks number old new (Refused refusal) less l = absurd l
+new_lacks number old new DiskFault less l = l
+new_lacks number old new MediaFault less l = l
+new_lacks number old new Failed less l = l

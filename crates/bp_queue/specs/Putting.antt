@@ -1,5 +1,5 @@
 -- One more waits.
-use Rattle.std.specs.Prelude.{◌≡◌, ◌≢◌, ◌+◌, ◌<◌, ◌^◌, ℕ, List, [], ◌∷◌, ◌++◌, All, Any, Option, None, Some}
+use Rattle.std.specs.Prelude.{◌≡◌, ◌≢◌, ◌+◌, ◌<◌, ◌≤◌, ◌^◌, ℕ, List, [], ◌∷◌, ◌++◌, All, Any, Option, None, Some}
 use Rattle.sdr_base.specs.Blocks.{Blocks, IsKind}
 use Rattle.sdr_base.specs.Entries.{BlocksAre, Entries}
 use Rattle.sdr_base.specs.Making.{Made, besides}
@@ -127,6 +127,14 @@ pub record IsFull (q : Queues) (object : ℕ) (blocks : Blocks) : Type 0 where
 pub record Allows (q : Queues) (object : ℕ) (blocks : Blocks) : Type 0 where
   pub allows : (next : ℕ) (rows : List Row) (rest : Entries) → KeepsQueues blocks q next rows rest →
       IsUnnamed object rows × (next < last_number)
+
+-- why an object isn't put that doesn't wait: this sequence number is too high, and all is as before; or there is no block, or no log
+-- room; or a fault
+abbrev pub NewStops : ℕ → Heap → Heap → Stop → Type 0
+NewStops number old new (Refused (refusals.BadRow row rows)) =
+    (last_number ≤ number) × (row ≡ last_number) × (rows ≡ last_number) × (new ≡ old)
+NewStops number old new (Refused refusal) = (number < last_number) × LacksRoom (56 ∷ 32 ∷ 32 ∷ []) old new (Refused refusal)
+NewStops number old new stop = OnlyFault stop
 
 -- Why none is put, in this order: for the object's address; since it waits; since there is no sequence number, and then all is as
 -- before. Or there is no block, or no log room; or a fault.

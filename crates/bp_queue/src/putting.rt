@@ -7,7 +7,7 @@ ghost use Rattle.sdr_base.specs.Works.{Looks, Spends};
 ghost use Rattle.bp_queue.specs.Kept.{SomeQueues};
 ghost use Rattle.bp_queue.specs.Lacking.{LacksRoom};
 ghost use Rattle.bp_queue.specs.Putting.{Admits, Enlists, FindsItem, NotesElements, PutsLast};
-ghost use Rattle.bp_queue.specs.Putting.{PutStops, SomeListed, SomeUnlisted};
+ghost use Rattle.bp_queue.specs.Putting.{NewStops, PutStops, SomeListed, SomeUnlisted};
 
 use crate::class::Class;
 use crate::item::words;
@@ -67,16 +67,7 @@ pub fn put<O: Objects, F: Collate + Drop, G: Collate + Drop>(
     ensures works { Spends O.HasHeap 105 o.old o.new result }
 {
     expect_kind(o, object, Kind::Object)?;
-    if let Some(value) = item_naming(o, q, object)? {
-        return Err(Stop::Refused(Refusal::KeyTaken { value }));
-    }
     let number = user_data(o, q.line)?;
-    if number >= LAST_NUMBER {
-        return Err(Stop::Refused(Refusal::BadRow {
-            row: LAST_NUMBER,
-            rows: LAST_NUMBER,
-        }));
-    }
     let wanted = Wanted {
         class,
         ordinal,
@@ -84,6 +75,35 @@ pub fn put<O: Objects, F: Collate + Drop, G: Collate + Drop>(
         object,
         number,
     };
+    match item_naming(o, q, object)? {
+        Some(value) => Err(Stop::Refused(Refusal::KeyTaken { value })),
+        None => put_new(o, q, wanted, by),
+    }
+}
+
+// Puts an object that doesn't wait yet, where its sequence number is low enough.
+fn put_new<O: Objects, F: Collate + Drop, G: Collate + Drop>(
+    o: &mut O,
+    q: &Queues,
+    wanted: Wanted,
+    by: &Orders<F, G>,
+) -> Result<Addr, Stop>
+    requires kept { KeepsSome (O.keeps o.old) }
+    requires spare { 3 ≤ (O.heap o.old).spare }
+    requires queues { SomeQueues (O.heap o.old).blocks q.now }
+    requires object { wanted.object ≢ 0 }
+    ensures admitted { IfOk result (λ item.
+        Admits q.now wanted item (O.heap o.old) (O.heap o.new)) }
+    ensures reached { OnOk result (wanted.number < 2 ^ 40) }
+    ensures refused { IfErr result (NewStops wanted.number (O.heap o.old) (O.heap o.new)) }
+    ensures works { Spends O.HasHeap 105 o.old o.new result }
+{
+    if wanted.number >= LAST_NUMBER {
+        return Err(Stop::Refused(Refusal::BadRow {
+            row: LAST_NUMBER,
+            rows: LAST_NUMBER,
+        }));
+    }
     admit(o, q, wanted, by)
 }
 
