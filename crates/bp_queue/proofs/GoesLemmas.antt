@@ -4,6 +4,7 @@ use Rattle.std.specs.Prelude.{Result, Ok, Err, fold, map}
 use Rattle.std.proofs.lemmas.List.{length-map}
 use Rattle.sdr_base.specs.Entries.{Entries}
 use Rattle.sdr_base.specs.Making.{GaveSome, besides, gave, with_moves}
+use Rattle.sdr_base.specs.Moves.{KeepsSome}
 use Rattle.sdr_base.specs.Objects.{Heap, OnlyFault}
 use Rattle.sdr_base.specs.Works.{Looks, Spends}
 use Rattle.sdr_base.specs.ZcoObjects.{ExtentRow, ObjectRow, capsule_addr}
@@ -83,6 +84,10 @@ module _ {S : Type 0} (m : Ghosts S) (q : Queues) (now : ℕ) where
   }
 
   module _ {old mid : S} {i : ℕ} (g : Goes m q now old mid i) where
+    -- there is a heap still
+    pub goes_kept : SomeOverdue (m.heap old) q now → KeepsSome (m.keeps mid)
+    goes_kept s = (g.goes s.next s.rows s.object_at s.sources s.rest s.keeps).works.kept
+
     -- there is room for those that are left
     pub goes_room : SomeOverdue (m.heap old) q now → SomeOverdue (m.heap mid) q now
     goes_room s =

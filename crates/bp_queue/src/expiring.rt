@@ -33,7 +33,8 @@ pub fn expire<O: Objects>(o: &mut O, q: &Queues, now: u64) -> Result<u64, Stop>
 {
     let count = sdr_list::length(o, q.line)?;
     for i in 0..count {
-        if !expire_first(o, q, now)? {
+        let went = expire_first(o, q, now)?;
+        if !went {
             return Ok(i);
         }
     }
