@@ -116,6 +116,36 @@ module _ {S : Type 0} (m : Ghosts S) (q : Queues) (now : ℕ) where
           room = omega (arith, n, o, a, r, spare, same);
         }
 
+    -- what one more touches is within what all touch
+    pub lines_left : {next : ℕ} {rows : List Row} {object_at : ℕ → ObjectRow} {sources : List NamedSource} {rest : Entries} →
+        (k : KeepsOverdue (m.heap old).blocks q now next rows object_at sources rest) →
+        (let c = (g.goes next rows object_at sources rest k).come in
+        96 * length c.so_far.gone + first_lines (overdue waiting_of now c.left) object_at c.so_far.sources
+        ≤ 96 * length (expiry_of now rows object_at sources rest (m.heap old)).gone)
+    lines_left {next} {rows} {object_at} {sources} {rest} k =
+        let c = (g.goes next rows object_at sources rest k).come in by c (overdue waiting_of now c.left) refl
+      where
+        by : (c : Come q now next rows object_at sources rest (m.heap old) (m.heap mid) i) (left : List Row) →
+            overdue waiting_of now c.left ≡ left →
+            96 * length c.so_far.gone + first_lines (overdue waiting_of now c.left) object_at c.so_far.sources
+            ≤ 96 * length (expiry_of now rows object_at sources rest (m.heap old)).gone
+        by c [] none =
+            let n = ap (λ (xs : List Row). first_lines xs object_at c.so_far.sources) none in
+            let e = ap (λ (x : Expiry). length x.gone) (sym (ap (fold (expire_one object_at) c.so_far) none) ∙ c.comes_to) in
+            omega (arith, n, e)
+        by c (r ∷ left) some =
+            let n = ap (λ (xs : List Row). first_lines xs object_at c.so_far.sources) some in
+            let f = lines_fit object_at c.so_far.sources r in
+            let l = length-append c.so_far.gone (gone_with object_at c.so_far.sources r) in
+            let one = expire_one object_at c.so_far r in
+            let e = ap (λ (x : Expiry). length x.gone) (sym (ap (fold (expire_one object_at) c.so_far) some) ∙ c.comes_to) in
+            let a =
+            ap (length {A = ℕ})
+            (ap (λ (addrs : List ℕ). (fold (expire_one object_at) (record one { gone = addrs }) left).gone) (sym (append-nil one.gone))
+            ∙ gone_before object_at (record one { gone = [] }) one.gone left) in
+            let b = length-append one.gone (fold (expire_one object_at) (record one { gone = [] }) left).gone in
+            omega (arith, n, f, l, e, a, b)
+
     module _ {new : S} where
       -- one more has gone
       pub goes_on : ExpiresFirst q now (m.heap mid) (m.heap new) true →
@@ -183,36 +213,6 @@ module _ {S : Type 0} (m : Ghosts S) (q : Queues) (now : ℕ) where
               subst (λ (h : Heap). Expired q now next rows (expiry_of now rows object_at sources rest (m.heap old)) (m.heap old) h i) (sym e.1)
               (done c none)
           by c (r ∷ left) some e = absurd (let x : false ≡ true = e.0 in cc)
-
-      -- what one more touches is within what all touch
-      pub lines_left : {next : ℕ} {rows : List Row} {object_at : ℕ → ObjectRow} {sources : List NamedSource} {rest : Entries} →
-          (k : KeepsOverdue (m.heap old).blocks q now next rows object_at sources rest) →
-          (let c = (g.goes next rows object_at sources rest k).come in
-          96 * length c.so_far.gone + first_lines (overdue waiting_of now c.left) object_at c.so_far.sources
-          ≤ 96 * length (expiry_of now rows object_at sources rest (m.heap old)).gone)
-      lines_left {next} {rows} {object_at} {sources} {rest} k =
-          let c = (g.goes next rows object_at sources rest k).come in by c (overdue waiting_of now c.left) refl
-        where
-          by : (c : Come q now next rows object_at sources rest (m.heap old) (m.heap mid) i) (left : List Row) →
-              overdue waiting_of now c.left ≡ left →
-              96 * length c.so_far.gone + first_lines (overdue waiting_of now c.left) object_at c.so_far.sources
-              ≤ 96 * length (expiry_of now rows object_at sources rest (m.heap old)).gone
-          by c [] none =
-              let n = ap (λ (xs : List Row). first_lines xs object_at c.so_far.sources) none in
-              let e = ap (λ (x : Expiry). length x.gone) (sym (ap (fold (expire_one object_at) c.so_far) none) ∙ c.comes_to) in
-              omega (arith, n, e)
-          by c (r ∷ left) some =
-              let n = ap (λ (xs : List Row). first_lines xs object_at c.so_far.sources) some in
-              let f = lines_fit object_at c.so_far.sources r in
-              let l = length-append c.so_far.gone (gone_with object_at c.so_far.sources r) in
-              let one = expire_one object_at c.so_far r in
-              let e = ap (λ (x : Expiry). length x.gone) (sym (ap (fold (expire_one object_at) c.so_far) some) ∙ c.comes_to) in
-              let a =
-              ap (length {A = ℕ})
-              (ap (λ (addrs : List ℕ). (fold (expire_one object_at) (record one { gone = addrs }) left).gone) (sym (append-nil one.gone))
-              ∙ gone_before object_at (record one { gone = [] }) one.gone left) in
-              let b = length-append one.gone (fold (expire_one object_at) (record one { gone = [] }) left).gone in
-              omega (arith, n, f, l, e, a, b)
 
       -- why the others don't go
       pub goes_stopped : (stop : Stop) → FirstStops q now (m.heap mid) (m.heap new) stop → ExpireStops q now (m.heap old) (m.heap new) stop

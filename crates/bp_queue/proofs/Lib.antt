@@ -7,6 +7,7 @@ pub mod ItemLemmas
 pub mod QueueLemmas
 pub mod FitLemmas
 pub mod RemoveLemmas
+pub mod RemoveStopLemmas
 pub mod LackLemmas
 pub mod MadeLemmas
 pub mod FirstLemmas

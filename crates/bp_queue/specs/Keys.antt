@@ -24,9 +24,11 @@ deadline_in key = if nat_lt (length key) 8 then 0 else big_number 8 key
 abbrev pub rank_in : List ℕ → ℕ
 rank_in key = get_or key 8 0
 
+-- keys by that number
 abbrev pub deadline_order : List ℕ → List ℕ → Ordering
 deadline_order a b = nat_cmp (deadline_in a) (deadline_in b)
 
+-- keys by that byte
 abbrev pub rank_order : List ℕ → List ℕ → Ordering
 rank_order a b = nat_cmp (rank_in a) (rank_in b)
 

@@ -44,7 +44,7 @@ returns-in_err-went-clause-works g c =
     let p = err_from_is_err_and c.from_residual-in_err-went.result c.from_residual-in_err-went.ensures.1 in
     λ next rows object_at sources rest k.
     let s = c.loop-i.invariant.goes next rows object_at sources rest k in
-    let l = lines_left g.O.HasHeap c.args.q.now c.args.now c.loop-i.invariant {new = c.expire_first.new.o} k in
+    let l = lines_left g.O.HasHeap c.args.q.now c.args.now c.loop-i.invariant k in
     rw (p.1, p.2)
     (works_stopped _
     (works_more
@@ -60,7 +60,7 @@ pub returns-then-not-went-clause-works : goal.returns-then-not-went-clause-works
 returns-then-not-went-clause-works g c =
     λ next rows object_at sources rest k.
     let s = c.loop-i.invariant.goes next rows object_at sources rest k in
-    let l = lines_left g.O.HasHeap c.args.q.now c.args.now c.loop-i.invariant {new = c.expire_first.new.o} k in
+    let l = lines_left g.O.HasHeap c.args.q.now c.args.now c.loop-i.invariant k in
     works_ok
     (works_more
     (works_then s.works (c.in_ok-went.ensures.works next s.come.left object_at s.come.so_far.sources s.come.so_far.rest s.come.keeps)) l)
@@ -80,5 +80,5 @@ pub returns-after-loop-i-clause-works : goal.returns-after-loop-i-clause-works
 returns-after-loop-i-clause-works g c =
     λ next rows object_at sources rest k.
     let s = c.loop-i.invariant.goes next rows object_at sources rest k in
-    let l = lines_left g.O.HasHeap c.args.q.now c.args.now c.loop-i.invariant {new = c.loop-i.o} k in
+    let l = lines_left g.O.HasHeap c.args.q.now c.args.now c.loop-i.invariant k in
     works_ok (works_more s.works (omega (arith, l)))

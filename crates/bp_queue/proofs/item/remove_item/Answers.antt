@@ -5,7 +5,8 @@ use Rattle.sdr_base.proofs.GaveLemmas.{gave_spare, made_then}
 use Rattle.sdr_base.proofs.WritingLemmas.{reaches_less}
 use Rattle.sdr_base.specs.declared.moves.Move.TheVariants.{Gave}
 use Rattle.sdr_list.specs.Kept.{SomeSpot}
-use Rattle.bp_queue.proofs.RemoveLemmas.{class_stops, give_stops, in_class_is, in_class_spot, item_reaches, line_stops, line_there, removes, used_still}
+use Rattle.bp_queue.proofs.RemoveLemmas.{in_class_is, in_class_spot, item_reaches, line_there, removes, used_still}
+use Rattle.bp_queue.proofs.RemoveStopLemmas.{class_stops, give_stops, line_stops}
 use Rattle.bp_queue.proofs.item.remove_item.Goals as goal
 
 pub word-requires-clause-inside : goal.word-requires-clause-inside
