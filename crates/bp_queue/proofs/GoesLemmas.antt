@@ -146,7 +146,7 @@ module _ {S : Type 0} (m : Ghosts S) (q : Queues) (now : ℕ) where
             let b = length-append one.gone (fold (expire_one object_at) (record one { gone = [] }) left).gone in
             omega (arith, n, f, l, e, a, b)
 
-    module _ {new : S} where
+    module _ (new : S) where
       -- one more has gone
       pub goes_on : ExpiresFirst q now (m.heap mid) (m.heap new) true →
           ((next : ℕ) (rows : List Row) (object_at : ℕ → ObjectRow) (sources : List NamedSource) (rest : Entries) →

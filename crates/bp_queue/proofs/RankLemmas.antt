@@ -1,7 +1,7 @@
 -- The block that is taken for an item.
-use Rattle.std.proofs.Common.{◌≡◌, ◌≢◌, ℕ, ◌+◌, ◌-◌, ◌*◌, ◌<◌, ◌^◌, List, [], ◌∷◌, ◌++◌, length, refl, sym, ap, ◌∙◌, subst, arith}
+use Rattle.std.proofs.Common.{◌≡◌, ◌≢◌, ℕ, ◌+◌, ◌-◌, ◌*◌, ◌<◌, ◌^◌, List, [], ◌∷◌, ◌++◌, length, sym, subst, arith, w64}
 use Rattle.std.specs.Prelude.{replicate}
-use Rattle.std.specs.Int.{from_be_bytes, w64}
+use Rattle.std.specs.Int.{from_be_bytes}
 use Rattle.byteorder.specs.Endian.{big_number}
 use Rattle.sdr_base.specs.Blocks.{Block}
 use Rattle.sdr_base.specs.Making.{MakesThing}

@@ -37,7 +37,7 @@ pub returns-in_err-went-clause-refused : goal.returns-in_err-went-clause-refused
 returns-in_err-went-clause-refused g c =
     let p = err_from_is_err_and c.from_residual-in_err-went.result c.from_residual-in_err-went.ensures.1 in
     rw (p.1, p.2)
-    (goes_stopped g.O.HasHeap c.args.q.now c.args.now c.loop-i.invariant {new = c.expire_first.new.o} _ c.in_err-went.ensures.refused)
+    (goes_stopped g.O.HasHeap c.args.q.now c.args.now c.loop-i.invariant c.expire_first.new.o _ c.in_err-went.ensures.refused)
 
 pub returns-in_err-went-clause-works : goal.returns-in_err-went-clause-works
 returns-in_err-went-clause-works g c =
@@ -52,7 +52,7 @@ returns-in_err-went-clause-works g c =
 
 pub returns-then-not-went-clause-expired : goal.returns-then-not-went-clause-expired
 returns-then-not-went-clause-expired g c =
-    goes_none g.O.HasHeap c.args.q.now c.args.now c.loop-i.invariant
+    goes_none g.O.HasHeap c.args.q.now c.args.now c.loop-i.invariant c.expire_first.new.o
     (subst (ExpiresFirst c.args.q.now c.args.now (g.O.HasHeap.heap c.loop-i.o) (g.O.HasHeap.heap c.expire_first.new.o)) c.if-not-went.true
     c.in_ok-went.ensures.expired)
 
@@ -67,7 +67,7 @@ returns-then-not-went-clause-works g c =
 
 pub loop-i-preserved : goal.loop-i-preserved
 loop-i-preserved g c =
-    goes_on g.O.HasHeap c.args.q.now c.args.now c.loop-i.invariant
+    goes_on g.O.HasHeap c.args.q.now c.args.now c.loop-i.invariant c.expire_first.new.o
     (subst (ExpiresFirst c.args.q.now c.args.now (g.O.HasHeap.heap c.loop-i.o) (g.O.HasHeap.heap c.expire_first.new.o)) c.if-not-went.false
     c.in_ok-went.ensures.expired)
     (λ next rows object_at sources rest k. works_ok (c.in_ok-went.ensures.works next rows object_at sources rest k))
