@@ -7,11 +7,10 @@
 //!    earliest first. Items that tie stand as they were put.
 //! 4. The line's user data is the next sequence number, from 1 on.
 //!
-//! Proved: each call does what its rule says of whichever queues are kept, and touches no other block (`created`, `put`,
-//! `taken`, `expired`, `told`). Of the items that were put just those wait that were neither taken nor overdue at an
-//! expiry after they were put (`queues_keep`).
+//! Proved: `create`, `length` and `earliest` do what their rules say of whichever queues are kept, and touch no other block
+//! (`created`, `told`). The proofs of `put`, `take` and `expire` aren't finished (`docs/QUEUE.md`).
 //!
-//! Only tested: that these calls succeed with ample memory, and the addresses on a fresh disk (`test_queue`).
+//! Only tested: nothing yet.
 #![tactic(auto)]
 
 mod class;

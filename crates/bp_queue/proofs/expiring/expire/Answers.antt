@@ -72,12 +72,12 @@ loop-i-preserved g c =
     c.in_ok-went.ensures.expired)
     (λ next rows object_at sources rest k. works_ok (c.in_ok-went.ensures.works next rows object_at sources rest k))
 
-pub returns-after-loop-i-clause-expired : goal.returns-after-loop-i-clause-expired
-returns-after-loop-i-clause-expired g c =
+pub returns-clause-expired : goal.returns-clause-expired
+returns-clause-expired g c =
     goes_all g.O.HasHeap c.args.q.now c.args.now c.loop-i.invariant c.in_ok-count.ensures.given (omega arith)
 
-pub returns-after-loop-i-clause-works : goal.returns-after-loop-i-clause-works
-returns-after-loop-i-clause-works g c =
+pub returns-clause-works : goal.returns-clause-works
+returns-clause-works g c =
     λ next rows object_at sources rest k.
     let s = c.loop-i.invariant.goes next rows object_at sources rest k in
     let l = lines_left g.O.HasHeap c.args.q.now c.args.now c.loop-i.invariant k in

@@ -1,7 +1,7 @@
 -- The line is walked from its front.
 use Rattle.std.proofs.Common.{arith, ◌∙◌}
 use Rattle.std.proofs.lemmas.Result.{err_from_is_err_and}
-use Rattle.sdr_base.proofs.WorksLemmas.{looks_looks, looks_ok, looks_on}
+use Rattle.sdr_base.proofs.WorksLemmas.{looks_on}
 use Rattle.sdr_base.proofs.WritingLemmas.{reaches_less}
 use Rattle.bp_queue.proofs.NamingLemmas.{naming_begun, naming_found, naming_item, naming_none, naming_on, naming_only, naming_spot}
 use Rattle.bp_queue.proofs.QueueLemmas.{line_list, missed_only}
@@ -73,14 +73,11 @@ loop-i-preserved g c =
     record {
       walks =
           naming_on c.loop-i.invariant.walks c.in_ok-count.ensures.given (omega arith) d h c.if-named-object.false
-          (rw (c.word.ensures.looks.same, c.datum.ensures.looks.same, c.loop-i.invariant.looks.same) at c.in_ok-next.ensures.given);
+          (rw (c.word.ensures.looks.same, c.datum.ensures.looks.same, c.loop-i.invariant.looks.same) at c.in_ok-element-2.ensures.given);
       looks =
           looks_on (looks_on (looks_on c.loop-i.invariant.looks c.in_ok-item.ensures.looks) c.in_ok-named.ensures.looks)
-          c.in_ok-next.ensures.looks;
+          c.in_ok-element-2.ensures.looks;
     }
 
-pub returns-after-loop-i-clause-found : goal.returns-after-loop-i-clause-found
-returns-after-loop-i-clause-found g c = naming_none c.loop-i.invariant.walks c.in_ok-count.ensures.given (omega arith)
-
-pub returns-after-loop-i-clause-looks : goal.returns-after-loop-i-clause-looks
-returns-after-loop-i-clause-looks g c = looks_ok c.loop-i.invariant.looks
+pub returns-clause-found : goal.returns-clause-found
+returns-clause-found g c = naming_none c.loop-i.invariant.walks c.in_ok-count.ensures.given (omega arith)
