@@ -48,7 +48,12 @@ highest-state rows =
     let u = first_of-state classes.Urgent rows in
     let n = first_of-state classes.Normal rows in
     let b = first_of-state classes.Bulk rows in
-    (λ i. option_or (u i) (option_or (n i) (b i)))
+    let each : highest itself (state_of rows)
+        ≡ option_or (option_map waiting_of (first (class_of waiting_of classes.Urgent rows)))
+        (option_or (option_map waiting_of (first (class_of waiting_of classes.Normal rows)))
+        (option_map waiting_of (first (class_of waiting_of classes.Bulk rows)))) =
+    λ i. option_or (u i) (option_or (n i) (b i)) in
+    each
     ∙ ap (option_or (option_map waiting_of (first (class_of waiting_of classes.Urgent rows))))
     (sym (or-map (first (class_of waiting_of classes.Normal rows)) (first (class_of waiting_of classes.Bulk rows))))
     ∙ sym (or-map (first (class_of waiting_of classes.Urgent rows))
