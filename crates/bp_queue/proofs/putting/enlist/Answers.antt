@@ -20,19 +20,19 @@ returns-in_err-in_class-clause-refused g c =
 
 pub insert_ordered-requires-2-clause-list : goal.insert_ordered-requires-2-clause-list
 insert_ordered-requires-2-clause-list g c =
-    λ kind. line_list_still (g.G.Collate.order c.args.by.now.ordinal.by) c.type_inv.by.falls
+    λ kind. line_list_still (g.G.Collate.order c.args.by.now.ordinal.by) c.args.by.now.falls
     (rw c.list_of.ensures at c.in_ok-in_class.ensures.inserted) c.requires.item
 
 pub returns-in_err-in_line-clause-refused : goal.returns-in_err-in_line-clause-refused
 returns-in_err-in_line-clause-refused g c =
     let p = err_from_is_err_and c.from_residual-in_err-in_line.result c.from_residual-in_err-in_line.ensures.1 in
     let i = rw c.list_of.ensures at c.in_ok-in_class.ensures.inserted in
-    let k = line_list_still (g.G.Collate.order c.args.by.now.ordinal.by) c.type_inv.by.falls i c.requires.item in
+    let k = line_list_still (g.G.Collate.order c.args.by.now.ordinal.by) c.args.by.now.falls i c.requires.item in
     rw (p.1, p.2)
     (then_lacks (32 ∷ []) _ _ i.made (first_lacks 32 [] _ _ _ (insert_short _ _ k.keeps _ c.in_err-in_line.ensures.refused)))
 
 pub returns-clause-listed : goal.returns-clause-listed
 returns-clause-listed g c =
-    enlists (g.G.Collate.order c.args.by.now.ordinal.by) c.type_inv.by.falls
+    enlists (g.G.Collate.order c.args.by.now.ordinal.by) c.args.by.now.falls
     (rw c.list_of.ensures at c.in_ok-in_class.ensures.inserted)
-    (g.F.Collate.order c.args.by.now.deadline.by) c.type_inv.by.rises c.requires.item c.in_ok-in_line.ensures.inserted
+    (g.F.Collate.order c.args.by.now.deadline.by) c.args.by.now.rises c.requires.item c.in_ok-in_line.ensures.inserted
