@@ -7,8 +7,8 @@
 //!    earliest first. Items that tie stand as they were put.
 //! 4. The line's user data is the next sequence number, from 1 on.
 //!
-//! Proved: `create`, `length` and `earliest` do what their rules say of whichever queues are kept, and touch no other block
-//! (`created`, `told`). The proofs of `put`, `take` and `expire` aren't finished (`docs/QUEUE.md`).
+//! Proved: `create`, `take`, `length` and `earliest` do what their rules say of whichever queues are kept, and touch no other block
+//! (`created`, `taken`, `told`). The proofs of `put` and `expire` aren't finished (`docs/QUEUE.md`).
 //!
 //! Only tested: nothing yet.
 #![tactic(auto)]
