@@ -59,7 +59,7 @@ puts_last {q} {w} {item} {old} {new} kind f t less a = record {
       record {
         reached = omega (arith, e, less);
         keeps = subst P e kept;
-        step = (All-map (λ v. v.object ≢ w.object) waiting_of rows unnamed, map-append waiting_of rows (row_of w item a.at ∷ []));
+        step = (All-map (λ v. v.object ≢ w.object) waiting_of rows unnamed, map-append waiting_of rows (record (row_of w item a.at) { number = next } ∷ []));
       };
   made = a.made;
 }
@@ -100,3 +100,9 @@ new_lacks number old new (Refused refusal) less l = absurd l
 new_lacks number old new DiskFault less l = l
 new_lacks number old new MediaFault less l = l
 new_lacks number old new Failed less l = l
+
+pub new_fault : (number : ℕ) (old new : Heap) (stop : Stop) → OnlyFault stop → NewStops number old new stop
+new_fault number old new (Refused refusal) m = absurd m
+new_fault number old new DiskFault m = m
+new_fault number old new MediaFault m = m
+new_fault number old new Failed m = m

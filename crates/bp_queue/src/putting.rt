@@ -13,7 +13,9 @@ use crate::class::Class;
 use crate::item::words;
 use crate::orders::Orders;
 use crate::queues::{Queues, list_of};
-use sdr_base::{Addr, Kind, Objects, Refusal, Stop, expect_kind, set_word, take_words, word};
+use sdr_base::{
+    Addr, Kind, Objects, Refusal, Stop, check_failed, expect_kind, set_word, take_words, word,
+};
 use sdr_list::{Collate, insert_ordered, set_user_data, user_data};
 
 /// No item has this sequence number or a higher one.
@@ -99,6 +101,7 @@ fn put_new<O: Objects, F: Collate + Drop, G: Collate + Drop>(
     ensures works { Spends O.HasHeap 105 o.old o.new result }
 {
     if wanted.number >= LAST_NUMBER {
+        check_failed(o)?;
         return Err(Stop::Refused(Refusal::BadRow {
             row: LAST_NUMBER,
             rows: LAST_NUMBER,

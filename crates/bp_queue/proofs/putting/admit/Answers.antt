@@ -1,7 +1,7 @@
 -- The item's block is taken, its lists get it, and it says so.
 use Rattle.std.proofs.Common.{[], ◌∷◌, arith}
 use Rattle.std.proofs.lemmas.Result.{err_from_is_err_and}
-use Rattle.bp_queue.proofs.LackLemmas.{first_lacks, none_lacks, then_lacks}
+use Rattle.bp_queue.proofs.LackLemmas.{first_lacks, then_lacks}
 use Rattle.bp_queue.proofs.PutLemmas.{admits, beside, listed_lacks}
 use Rattle.bp_queue.proofs.RankLemmas.{made_item, wanted_fits}
 use Rattle.bp_queue.proofs.putting.admit.Goals as goal

@@ -1,7 +1,7 @@
 -- The line is walked from its front.
 use Rattle.std.proofs.Common.{arith, ◌∙◌}
 use Rattle.std.proofs.lemmas.Result.{err_from_is_err_and}
-use Rattle.sdr_base.proofs.WorksLemmas.{looks_on}
+use Rattle.sdr_base.proofs.WorksLemmas.{looks_looks, looks_on}
 use Rattle.sdr_base.proofs.WritingLemmas.{reaches_less}
 use Rattle.bp_queue.proofs.NamingLemmas.{naming_begun, naming_found, naming_item, naming_none, naming_on, naming_only, naming_spot}
 use Rattle.bp_queue.proofs.QueueLemmas.{line_list, missed_only}
@@ -59,7 +59,7 @@ returns-then-named-object-clause-found g c =
 
 pub returns-then-named-object-clause-looks : goal.returns-then-named-object-clause-looks
 returns-then-named-object-clause-looks g c =
-    looks_on (looks_on c.loop-i.invariant.looks c.in_ok-item.ensures.looks) c.in_ok-named.ensures.looks
+    looks_on c.loop-i.invariant.looks (looks_looks c.in_ok-item.ensures.looks c.in_ok-named.ensures.looks)
 
 pub next-requires-clause-element : goal.next-requires-clause-element
 next-requires-clause-element g c =
@@ -75,8 +75,8 @@ loop-i-preserved g c =
           naming_on c.loop-i.invariant.walks c.in_ok-count.ensures.given (omega arith) d h c.if-named-object.false
           (rw (c.word.ensures.looks.same, c.datum.ensures.looks.same, c.loop-i.invariant.looks.same) at c.in_ok-element-2.ensures.given);
       looks =
-          looks_on (looks_on (looks_on c.loop-i.invariant.looks c.in_ok-item.ensures.looks) c.in_ok-named.ensures.looks)
-          c.in_ok-element-2.ensures.looks;
+          looks_on c.loop-i.invariant.looks
+          (looks_looks c.in_ok-item.ensures.looks (looks_looks c.in_ok-named.ensures.looks c.in_ok-element-2.ensures.looks));
     }
 
 pub returns-clause-found : goal.returns-clause-found

@@ -26,15 +26,15 @@ returns-in_err-number-clause-refused g c =
     (put_fault c.args.q.now c.args.object (g.O.HasHeap.heap c.args.o.now) _ _
     (missed_only (line_list c.requires.queues.keeps) _ (rw c.expect_kind.ensures.looks.same at c.in_err-number.ensures.refused)))
 
-pub returns-in_err-item_naming-clause-refused : goal.returns-in_err-item_naming-clause-refused
-returns-in_err-item_naming-clause-refused g c =
-    let p = err_from_is_err_and c.from_residual-in_err-item_naming.result c.from_residual-in_err-item_naming.ensures.1 in
+pub returns-in_err-value-clause-refused : goal.returns-in_err-value-clause-refused
+returns-in_err-value-clause-refused g c =
+    let p = err_from_is_err_and c.from_residual-in_err-value.result c.from_residual-in_err-value.ensures.1 in
     rw (p.1, p.2)
-    (put_fault c.args.q.now c.args.object (g.O.HasHeap.heap c.args.o.now) _ _ c.in_err-item_naming.ensures.refused)
+    (put_fault c.args.q.now c.args.object (g.O.HasHeap.heap c.args.o.now) _ _ c.in_err-value.ensures.refused)
 
 pub returns-in-Some-clause-refused : goal.returns-in-Some-clause-refused
 returns-in-Some-clause-refused g c =
-    let f = rw (c.user_data.ensures.looks.same, c.expect_kind.ensures.looks.same, c.in-Some.is) at c.in_ok-item_naming.ensures.found in
+    let f = rw (c.user_data.ensures.looks.same, c.expect_kind.ensures.looks.same, c.in-Some.is) at c.in_ok-value.ensures.found in
     (c.in_ok-expect_kind.ensures.found, is_taken f,
     c.item_naming.ensures.looks.same ∙ c.user_data.ensures.looks.same ∙ c.expect_kind.ensures.looks.same)
 
@@ -43,7 +43,7 @@ put_new-requires-clause-object g c = object_some c.requires.queues.keeps.stands 
 
 pub returns-in-None-clause-put : goal.returns-in-None-clause-put
 returns-in-None-clause-put g c =
-    let f = rw (c.user_data.ensures.looks.same, c.expect_kind.ensures.looks.same, c.in-None.is) at c.in_ok-item_naming.ensures.found in
+    let f = rw (c.user_data.ensures.looks.same, c.expect_kind.ensures.looks.same, c.in-None.is) at c.in_ok-value.ensures.found in
     let t = rw c.expect_kind.ensures.looks.same at c.in_ok-number.ensures.given in
     let old = g.O.HasHeap.heap c.args.o.now in
     let new = g.O.HasHeap.heap c.put_new.new.o in
@@ -56,7 +56,7 @@ returns-in-None-clause-put g c =
 
 pub returns-in-None-clause-refused : goal.returns-in-None-clause-refused
 returns-in-None-clause-refused g c =
-    let f = rw (c.user_data.ensures.looks.same, c.expect_kind.ensures.looks.same, c.in-None.is) at c.in_ok-item_naming.ensures.found in
+    let f = rw (c.user_data.ensures.looks.same, c.expect_kind.ensures.looks.same, c.in-None.is) at c.in_ok-value.ensures.found in
     let t = rw c.expect_kind.ensures.looks.same at c.in_ok-number.ensures.given in
     let old = g.O.HasHeap.heap c.args.o.now in
     let new = g.O.HasHeap.heap c.put_new.new.o in
@@ -67,4 +67,4 @@ returns-in-None-clause-refused g c =
 pub returns-in-None-clause-works : goal.returns-in-None-clause-works
 returns-in-None-clause-works g c =
     looks_then c.in_ok-expect_kind.ensures.looks
-    (looks_then c.in_ok-number.ensures.looks (looks_then c.in_ok-item_naming.ensures.looks c.put_new.ensures.works))
+    (looks_then c.in_ok-number.ensures.looks (looks_then c.in_ok-value.ensures.looks c.put_new.ensures.works))
