@@ -150,10 +150,11 @@ module _ (q : Queues) (now : ℕ) (old : Heap) where
       }
       object_stays {mid} {object} s m new (Refused (refusals.BadAddress bad)) u =
           let w = due_object s m in
-          absurd (never_missed (mid.blocks object) object kinds.Object (layout (object_words w.row) []) (object_there w) _ u.0)
+          absurd (never_missed (mid.blocks object) object kinds.Object (layout (object_words w.row) []) (object_there w) (Refused (refusals.BadAddress bad)) u.0)
       object_stays {mid} {object} s m new (Refused (refusals.WrongKind bad number)) u =
           let w = due_object s m in
-          absurd (never_missed (mid.blocks object) object kinds.Object (layout (object_words w.row) []) (object_there w) _ u.0)
+          absurd (never_missed (mid.blocks object) object kinds.Object (layout (object_words w.row) []) (object_there w)
+          (Refused (refusals.WrongKind bad number)) u.0)
       object_stays s m new (Refused refusal) u = absurd u
       object_stays s m new DiskFault u = u
       object_stays s m new MediaFault u = u

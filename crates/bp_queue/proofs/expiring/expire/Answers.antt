@@ -1,8 +1,8 @@
 -- The first one of the line expires, as long as it is overdue.
-use Rattle.std.proofs.Common.{arith, subst}
+use Rattle.std.proofs.Common.{◌≡◌, arith, subst}
 use Rattle.std.proofs.lemmas.Result.{err_from_is_err_and}
 use Rattle.sdr_base.proofs.WorksLemmas.{looks_works, works_more, works_ok, works_stopped, works_then}
-use Rattle.bp_queue.specs.Expiring.{ExpiresFirst}
+use Rattle.bp_queue.specs.Expiring.{ExpiresAll, ExpiresFirst}
 use Rattle.bp_queue.proofs.FirstDueLemmas.{expire_fault}
 use Rattle.bp_queue.proofs.GoesLemmas.{goes_all, goes_begun, goes_kept, goes_none, goes_on, goes_room, goes_stopped, lines_left}
 use Rattle.bp_queue.proofs.QueueLemmas.{line_list, missed_only}
@@ -74,7 +74,9 @@ loop-i-preserved g c =
 
 pub returns-clause-expired : goal.returns-clause-expired
 returns-clause-expired g c =
-    goes_all g.O.HasHeap c.args.q.now c.args.now c.loop-i.invariant c.in_ok-count.ensures.given (omega arith)
+    let end : c.loop-i.i ≡ c.in_ok-count.count = omega arith in
+    subst (ExpiresAll c.args.q.now c.args.now (g.O.HasHeap.heap c.args.o.now) (g.O.HasHeap.heap c.loop-i.o)) end
+    (goes_all g.O.HasHeap c.args.q.now c.args.now c.loop-i.invariant c.in_ok-count.ensures.given end)
 
 pub returns-clause-works : goal.returns-clause-works
 returns-clause-works g c =

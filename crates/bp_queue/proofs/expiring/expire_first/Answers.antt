@@ -34,7 +34,7 @@ expire_item-requires-clause-overdue g c = rw c.first_item.ensures.looks.same c.r
 
 pub expire_item-requires-clause-first : goal.expire_item-requires-clause-first
 expire_item-requires-clause-first g c =
-    rw (c.first_item.ensures.looks.same, c.in-Some.is) at c.in_ok-first_item.ensures.told
+    rw c.first_item.ensures.looks.same (rw c.in-Some.is at c.in_ok-first_item.ensures.told)
 
 pub returns-in-Some-clause-works : goal.returns-in-Some-clause-works
 returns-in-Some-clause-works g c =
