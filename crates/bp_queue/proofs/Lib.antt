@@ -21,4 +21,5 @@ pub mod DueLemmas
 pub mod ExpireLemmas
 pub mod FirstDueLemmas
 pub mod GoesLemmas
+pub mod OrderLemmas
 mod RowsOfQueues

@@ -7,8 +7,9 @@
 //!    earliest first. Items that tie stand as they were put.
 //! 4. The line's user data is the next sequence number, from 1 on.
 //!
-//! Proved: `create`, `take`, `length` and `earliest` do what their rules say of whichever queues are kept, and touch no other block
-//! (`created`, `taken`, `told`). The proofs of `put` and `expire` aren't finished (`docs/QUEUE.md`).
+//! Proved: `create`, `put`, `take`, `expire`, `length` and `earliest` do what their rules say of whichever queues are kept, and touch no
+//! other block (`created`, `put`, `taken`, `expired`, `told`). Over any run of calls that weren't stopped, of the objects that were put
+//! just those wait that were neither taken nor overdue at an expiry behind that (`queues_keep`).
 //!
 //! Only tested: nothing yet.
 #![tactic(auto)]
