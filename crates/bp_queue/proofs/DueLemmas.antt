@@ -1,38 +1,34 @@
 -- The first one that is overdue goes, and its object.
-use Rattle.std.proofs.Common.{◌≡◌, ◌≢◌, ℕ, ◌+◌, ◌-◌, ◌*◌, ◌≤◌, Bool, true, false, not, cond, List, [], ◌∷◌, ◌++◌, length, refl, sym, ap, ◌∙◌, subst, arith, append_assoc, length-append, inl}
-use Rattle.std.specs.Prelude.{All, filter, map, if◌then◌else◌}
-use Rattle.std.specs.List.{AllByRecursion as Each, flat_map}
+use Rattle.std.proofs.Common.{◌≡◌, ℕ, true, not, List, [], ◌∷◌, ◌++◌, refl, sym, ap, ◌∙◌, subst, arith, append_assoc, inl}
+use Rattle.std.specs.Prelude.{All, filter, if◌then◌else◌}
 use Rattle.std.proofs.lemmas.Bool.{eq-eqb, ne_eqb}
 use Rattle.std.proofs.lemmas.List.{map-append}
 use Rattle.std.proofs.lemmas.List.Elements.{All-cons, All-head, All-nil, All-tail, All-weaker, filter_passes}
-use Rattle.sdr_base.specs.Blocks.{Blocks, IsKind}
+use Rattle.sdr_base.specs.Blocks.{Blocks}
 use Rattle.sdr_base.specs.Entries.{BlocksAre, Entries}
-use Rattle.sdr_base.specs.Making.{GaveSome, Made, besides, gave, with_moves}
-use Rattle.sdr_base.specs.Objects.{Heap, OnlyFault}
+use Rattle.sdr_base.specs.Making.{besides, gave, with_moves}
+use Rattle.sdr_base.specs.Objects.{Heap}
 use Rattle.sdr_base.specs.ZcoObjects.{ExtentRow, ObjectRow, object_entries}
 use Rattle.sdr_base.specs.declared.account.Acct.{Acct}
 use Rattle.sdr_base.specs.declared.account.Acct.TheVariants as accts
 use Rattle.sdr_base.specs.declared.account.Amounts.{Amounts}
 use Rattle.sdr_base.specs.declared.moves.Move.{Move}
 use Rattle.sdr_base.specs.declared.moves.Move.TheVariants.{Gave}
-use Rattle.sdr_base.specs.declared.refusal.Refusal.TheVariants as refusals
-use Rattle.sdr_base.specs.declared.stop.Stop.{Stop}
-use Rattle.sdr_base.specs.declared.stop.Stop.TheVariants.{Refused, DiskFault, MediaFault, Failed}
-use Rattle.sdr_base.proofs.GaveLemmas.{gave_spare, made_then, some_then}
+use Rattle.sdr_base.proofs.GaveLemmas.{made_then}
 use Rattle.sdr_base.proofs.StandingLemmas.{moved}
 use Rattle.sdr_model.specs.Accounts.{is_same_account}
 use Rattle.sdr_model.specs.Amounts.{minus}
 use Rattle.zco_acct.specs.Words.{occupied_in, with_occupied}
-use Rattle.zco_obj.specs.Destroying.{DestroyStops, DestroysObject, KeepsSources, ObjectGone, SomeWithSources, charges_of, gone_object}
-use Rattle.zco_obj.specs.Gone.{NamedSource, naming, source_at, sources_entries}
+use Rattle.zco_obj.specs.Destroying.{DestroysObject, KeepsSources, ObjectGone, charges_of, gone_object}
+use Rattle.zco_obj.specs.Gone.{NamedSource, source_at, sources_entries}
 use Rattle.zco_obj.specs.Kept.{ObjectFits}
 use Rattle.zco_obj.specs.Leaving.{raws_left, sources_staying, together}
 use Rattle.zco_obj.specs.Uses.{AreNamed, CountsUses, IsThere}
 use Rattle.zco_obj.proofs.CountLemmas.{naming-append}
 use Rattle.zco_obj.proofs.LeavingLemmas.{destroy_leaves}
-use Rattle.bp_queue.specs.Expiring.{Expiry, FirstGone, KeepsOverdue, expire_one, extents_of, gone_with, object_for, objects_entries}
-use Rattle.bp_queue.specs.Kept.{FitQueue, KeepsQueues, Row, queue_entries, waiting_of}
-use Rattle.bp_queue.specs.Removing.{IsItem, ItemGone, RemovesItem, item_blocks}
+use Rattle.bp_queue.specs.Expiring.{FirstGone, KeepsOverdue, extents_of, object_for, objects_entries}
+use Rattle.bp_queue.specs.Kept.{KeepsQueues, Row, queue_entries, waiting_of}
+use Rattle.bp_queue.specs.Removing.{IsItem, RemovesItem, item_blocks}
 use Rattle.bp_queue.specs.States.{later_than, line_of, overdue, without}
 use Rattle.bp_queue.specs.declared.queues.Queues.{Queues}
 use Rattle.bp_queue.proofs.FirstLemmas.{is_item, split_among}

@@ -1,18 +1,16 @@
 -- Those that are overdue go one after another.
-use Rattle.std.proofs.Common.{◌≡◌, ◌≢◌, ℕ, ◌+◌, ◌-◌, ◌*◌, ◌≤◌, ◌<◌, Bool, true, false, List, [], ◌∷◌, ◌++◌, length, Option, Some, None, refl, sym, ap, ◌∙◌, subst, arith, append_assoc, length-append}
-use Rattle.std.specs.Prelude.{filter, fold, map, nat_lt}
+use Rattle.std.proofs.Common.{◌≡◌, ℕ, ◌+◌, List, [], ◌∷◌, ◌++◌, length, refl, sym, ap, ◌∙◌, subst, arith, append_assoc}
+use Rattle.std.specs.Prelude.{filter, fold, nat_lt}
 use Rattle.std.proofs.lemmas.List.{length-map}
 use Rattle.std.proofs.lemmas.List.Filters.{length-filter_both}
-use Rattle.sdr_base.specs.Blocks.{Blocks}
 use Rattle.sdr_base.specs.Entries.{Entries}
 use Rattle.sdr_base.specs.Making.{besides, gave, with_moves}
 use Rattle.sdr_base.specs.Objects.{Heap}
 use Rattle.sdr_base.specs.ZcoObjects.{ObjectRow}
 use Rattle.zco_obj.specs.Gone.{NamedSource, sources_entries}
 use Rattle.bp_queue.specs.Expiring.{Expired, Expiry, KeepsOverdue, expire_one, expiry_of, gone_with, objects_entries}
-use Rattle.bp_queue.specs.Kept.{KeepsQueues, Row, state_of, waiting_of}
-use Rattle.bp_queue.specs.Runs.{QueueStep, Expires}
-use Rattle.bp_queue.specs.States.{later_than, line_of, overdue, without}
+use Rattle.bp_queue.specs.Kept.{KeepsQueues, Row, waiting_of}
+use Rattle.bp_queue.specs.States.{later_than, overdue}
 use Rattle.bp_queue.specs.declared.queues.Queues.{Queues}
 use Rattle.bp_queue.proofs.SortingLemmas.{filter-sorted, length-sorted, map-filter}
 use Rattle.bp_queue.proofs.StateLemmas.{all_later, due, due_order, is_due, later-not}
@@ -77,8 +75,9 @@ done {q} {now} {next} {i} {rows} {object_at} {sources} {rest} {old} {new} c none
           (objects_entries object_at xs ++ (sources_entries c.so_far.sources ++ c.so_far.rest))) none c.keeps.keeps));
       others = c.others ∙ ap (λ (x : Expiry). besides (with_moves x.heap (gave x.gone))) e;
       counted = n;
-      step =
-          (map-filter waiting_of (λ w. nat_lt now w.deadline) rows,
-          (let t = counts now rows in let m = length-map (later_than waiting_of now rows) waiting_of in
-          let l = length-map rows waiting_of in omega (arith, n, t, m, l)));
+      step = (
+        map-filter waiting_of (λ w. nat_lt now w.deadline) rows,
+        (let t = counts now rows in let m = length-map (later_than waiting_of now rows) waiting_of in
+            let l = length-map rows waiting_of in omega (arith, n, t, m, l)),
+      );
     }

@@ -1,8 +1,7 @@
 -- The first one of the line expires where it is overdue.
-use Rattle.std.proofs.Common.{◌≡◌, ℕ, ◌+◌, ◌≤◌, ◌<◌, Bool, true, false, List, [], ◌∷◌, ◌++◌, length, Option, Some, None, refl, sym, ap, ◌∙◌, subst, arith, append-nil, length-append}
+use Rattle.std.proofs.Common.{◌≡◌, ℕ, ◌+◌, ◌≤◌, ◌<◌, true, false, List, [], ◌∷◌, ◌++◌, length, Some, None, refl, sym, ap, ◌∙◌, subst, arith, append-nil, length-append}
 use Rattle.std.specs.Prelude.{fold}
 use Rattle.std.proofs.lemmas.Bool.{le-leb, lt-leb}
-use Rattle.sdr_base.specs.Blocks.{Blocks}
 use Rattle.sdr_base.specs.Entries.{Entries}
 use Rattle.sdr_base.specs.Making.{GaveSome}
 use Rattle.sdr_base.specs.Objects.{Heap, OnlyFault}
@@ -74,7 +73,7 @@ module _ (q : Queues) (now : ℕ) (old : Heap) where
       room_first object_at sources rest r due h =
           let first = expire_one object_at (record { gone = []; sources = sources; rest = rest; heap = h }) r in
           let e : (expire_all object_at sources rest h (r ∷ due)).gone
-              ≡ gone_with object_at sources r ++ (fold (expire_one object_at) (record first { gone = [] }) due).gone =
+          ≡ gone_with object_at sources r ++ (fold (expire_one object_at) (record first { gone = [] }) due).gone =
           ap (λ (addrs : List ℕ). (fold (expire_one object_at) (record first { gone = addrs }) due).gone)
           (sym (append-nil (gone_with object_at sources r)))
           ∙ gone_before object_at (record first { gone = [] }) (gone_with object_at sources r) due in

@@ -1,6 +1,6 @@
 -- The first one of a list, and what is told of it.
-use Rattle.std.proofs.Common.{◌≡◌, ◌≢◌, ℕ, ◌+◌, ◌<◌, ◌^◌, Bool, true, false, List, [], ◌∷◌, ◌++◌, Option, Some, None, refl, sym, ap, ◌∙◌, subst, arith, inl, inr}
-use Rattle.std.specs.Prelude.{◌⊎◌, is_some, length, map, option_map, slice_get}
+use Rattle.std.proofs.Common.{◌≡◌, ◌≢◌, ℕ, ◌<◌, ◌^◌, true, false, List, [], ◌∷◌, ◌++◌, Option, Some, None, refl, sym, ap, ◌∙◌, subst, inl, inr}
+use Rattle.std.specs.Prelude.{is_some, length, map, option_map, slice_get}
 use Rattle.std.specs.Option.{option_or}
 use Rattle.sdr_base.specs.Blocks.{Block, Blocks}
 use Rattle.sdr_base.specs.Entries.{BlocksAre, Entries}
@@ -12,19 +12,19 @@ use Rattle.sdr_base.specs.declared.kind.Kind.TheVariants as kinds
 use Rattle.sdr_base.specs.declared.stop.Stop.{Stop}
 use Rattle.sdr_base.proofs.StandingLemmas.{nonzero}
 use Rattle.sdr_list.specs.Calls.{TellsOfElement, TellsOfList}
-use Rattle.sdr_list.specs.Kept.{IsSpot, SomeList, SomeSpot, Spot}
+use Rattle.sdr_list.specs.Kept.{IsSpot, SomeList, SomeSpot}
 use Rattle.sdr_list.proofs.KeptLemmas.{element_there, spot_words}
 use Rattle.bp_queue.specs.Calls.{Tells, TellsFirst, earliest_of, highest_item}
-use Rattle.bp_queue.specs.Kept.{KeepsQueues, Row, SomeQueues, class_element, class_row, line_element, list_of, waiting_of}
+use Rattle.bp_queue.specs.Kept.{KeepsQueues, Row, SomeQueues, class_element, line_element, list_of, waiting_of}
 use Rattle.bp_queue.specs.Removing.{IsItem, SomeItem}
 use Rattle.bp_queue.specs.Sorting.{first}
-use Rattle.bp_queue.specs.States.{class_of, highest, line_of}
+use Rattle.bp_queue.specs.States.{class_of, line_of}
 use Rattle.bp_queue.specs.declared.class.Class.{Class}
 use Rattle.bp_queue.specs.declared.class.Class.TheVariants as classes
 use Rattle.bp_queue.specs.declared.queues.Queues.{Queues}
 use Rattle.bp_queue.proofs.QueueLemmas.{class_list, line_list, never_missed}
 use Rattle.bp_queue.proofs.RemoveLemmas.{deadline_is}
-use Rattle.bp_queue.proofs.SortingLemmas.{Among, among_between}
+use Rattle.bp_queue.proofs.SortingLemmas.{Among}
 use Rattle.bp_queue.proofs.StateLemmas.{first_among, from_line}
 
 -- the first element's address isn't 0

@@ -1,11 +1,11 @@
 -- Those that are overdue go one after another, by calls on a state that has a heap.
-use Rattle.std.proofs.Common.{◌≡◌, ◌≢◌, ℕ, ◌+◌, ◌-◌, ◌*◌, ◌≤◌, ◌<◌, Bool, true, false, List, [], ◌∷◌, ◌++◌, length, refl, sym, ap, ◌∙◌, subst, arith, append_assoc, append-nil, length-append}
-use Rattle.std.specs.Prelude.{Result, Ok, Err, fold, map}
+use Rattle.std.proofs.Common.{◌≡◌, ℕ, ◌+◌, ◌-◌, ◌*◌, ◌≤◌, Bool, true, false, List, [], ◌∷◌, ◌++◌, length, refl, sym, ap, ◌∙◌, subst, arith, append_assoc, append-nil, length-append}
+use Rattle.std.specs.Prelude.{Ok, fold, map}
 use Rattle.std.proofs.lemmas.List.{length-map}
 use Rattle.sdr_base.specs.Entries.{Entries}
-use Rattle.sdr_base.specs.Making.{GaveSome, besides, gave, with_moves}
+use Rattle.sdr_base.specs.Making.{GaveSome, besides}
 use Rattle.sdr_base.specs.Moves.{KeepsSome}
-use Rattle.sdr_base.specs.Objects.{Heap, OnlyFault}
+use Rattle.sdr_base.specs.Objects.{Heap}
 use Rattle.sdr_base.specs.Works.{Looks, Spends}
 use Rattle.sdr_base.specs.ZcoObjects.{ExtentRow, ObjectRow, capsule_addr}
 use Rattle.sdr_base.specs.declared.has_heap.HasHeap.{Ghosts}
@@ -14,14 +14,14 @@ use Rattle.sdr_base.specs.declared.refusal.Refusal.TheVariants as refusals
 use Rattle.sdr_base.specs.declared.stop.Stop.{Stop}
 use Rattle.sdr_base.specs.declared.stop.Stop.TheVariants.{Refused, DiskFault, MediaFault, Failed}
 use Rattle.sdr_base.proofs.GaveLemmas.{gave_spare, none_made, some_then}
-use Rattle.sdr_base.proofs.WorksLemmas.{looks_works, works_more, works_ok, works_stopped, works_then}
+use Rattle.sdr_base.proofs.WorksLemmas.{looks_works, works_more, works_ok, works_then}
 use Rattle.sdr_list.specs.Calls.{TellsOfList}
 use Rattle.zco_obj.specs.Destroying.{charges_of, gone_object, parts_lines}
 use Rattle.zco_obj.specs.Gone.{NamedSource, going_before, gone_blocks, source_at}
-use Rattle.bp_queue.specs.Expiring.{Expired, ExpireStops, ExpiresAll, ExpiresFirst, ExpiresSome, Expiry, FirstExpires, FirstGives, FirstStops, KeepsOverdue, SomeOverdue, expire_one, expiry_of, first_lines, gone_with, object_for}
+use Rattle.bp_queue.specs.Expiring.{Expired, ExpireStops, ExpiresAll, ExpiresFirst, Expiry, FirstExpires, FirstGives, FirstStops, KeepsOverdue, SomeOverdue, expire_one, expiry_of, first_lines, gone_with, object_for}
 use Rattle.bp_queue.specs.Kept.{Row, line_element, waiting_of}
 use Rattle.bp_queue.specs.Removing.{item_blocks}
-use Rattle.bp_queue.specs.States.{later_than, line_of, overdue, without}
+use Rattle.bp_queue.specs.States.{line_of, overdue, without}
 use Rattle.bp_queue.specs.declared.queues.Queues.{Queues}
 use Rattle.bp_queue.proofs.DueLemmas.{gone_then, later_left, others_due}
 use Rattle.bp_queue.proofs.ExpireLemmas.{Come, counts, done, gone_before, gone_heap}
@@ -95,7 +95,7 @@ module _ {S : Type 0} (m : Ghosts S) (q : Queues) (now : ℕ) where
         let e = c.so_far in
         let left = overdue waiting_of now c.left in
         let all : (expiry_of now s.rows s.object_at s.sources s.rest (m.heap old)).gone
-            ≡ e.gone ++ (fold (expire_one s.object_at) (record e { gone = [] }) left).gone =
+        ≡ e.gone ++ (fold (expire_one s.object_at) (record e { gone = [] }) left).gone =
         ap (λ (x : Expiry). x.gone) (sym c.comes_to)
         ∙ ap (λ (addrs : List ℕ). (fold (expire_one s.object_at) (record e { gone = addrs }) left).gone) (sym (append-nil e.gone))
         ∙ gone_before s.object_at (record e { gone = [] }) e.gone left in
@@ -231,7 +231,7 @@ module _ {S : Type 0} (m : Ghosts S) (q : Queues) (now : ℕ) where
               let one = expire_one object_at c.so_far r in
               let later = (fold (expire_one object_at) (record one { gone = [] }) left).gone in
               let all : c.so_far.gone ++ (gone_with object_at c.so_far.sources r ++ later)
-                  ≡ (expiry_of now rows object_at sources rest (m.heap old)).gone =
+              ≡ (expiry_of now rows object_at sources rest (m.heap old)).gone =
               sym (append_assoc c.so_far.gone (gone_with object_at c.so_far.sources r) later)
               ∙ sym (ap (λ (x : Expiry). x.gone) (sym c.comes_to ∙ ap (fold (expire_one object_at) c.so_far) some)
               ∙ ap (λ (addrs : List ℕ). (fold (expire_one object_at) (record one { gone = addrs }) left).gone) (sym (append-nil one.gone))

@@ -1,12 +1,12 @@
 -- The block of an item: its words, and its bytes as a key.
-use Rattle.std.proofs.Common.{◌≡◌, ℕ, ◌+◌, ◌-◌, ◌*◌, ◌<◌, ◌^◌, Bool, not, List, [], ◌∷◌, ◌++◌, Option, Some, refl, sym, ap, ◌∙◌, subst, arith, append_assoc, inl, inr}
-use Rattle.std.specs.Prelude.{◌⊎◌, replicate, get_or, length}
+use Rattle.std.proofs.Common.{◌≡◌, ℕ, ◌+◌, ◌-◌, ◌*◌, ◌<◌, not, List, [], ◌∷◌, ◌++◌, Some, refl, sym, ap, ◌∙◌, subst, arith, append_assoc, inl, inr}
+use Rattle.std.specs.Prelude.{replicate}
 use Rattle.std.specs.Int.{byte_at}
 use Rattle.std.specs.declared.cmp.Ordering.{Ordering}
 use Rattle.std.specs.Ordering.{is_gt, nat_cmp}
 use Rattle.byteorder.specs.Endian.{big_bytes, big_number}
 use Rattle.byteorder.specs.Numbers.{big_number-reads_back}
-use Rattle.sdr_base.specs.Blocks.{Block, Blocks}
+use Rattle.sdr_base.specs.Blocks.{Blocks}
 use Rattle.sdr_base.specs.Entries.{BlocksAre, Entries}
 use Rattle.sdr_base.specs.Raws.{raw_block}
 use Rattle.sdr_base.specs.Words.{layout}
@@ -16,7 +16,7 @@ use Rattle.sdr_base.proofs.WritingLemmas.{block}
 use Rattle.sdr_list.specs.Orders.{key_in, sort_key}
 use Rattle.sdr_list.proofs.KeyLemmas.{key-raw}
 use Rattle.bp_queue.specs.Classes.{class_number}
-use Rattle.bp_queue.specs.Kept.{Row, RowFits, item_bytes, item_entries, items_entries, rank_bytes, waiting_of}
+use Rattle.bp_queue.specs.Kept.{Row, RowFits, item_bytes, item_entries, items_entries, rank_bytes}
 use Rattle.bp_queue.specs.Keys.{ByDeadline, ByOrdinal}
 use Rattle.bp_queue.specs.States.{Waiting, is_due_by, ranks_as}
 use Rattle.bp_queue.specs.declared.class.Class.{Class}

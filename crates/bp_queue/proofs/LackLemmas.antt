@@ -7,7 +7,7 @@ use Rattle.sdr_base.specs.declared.moves.Move.TheVariants.{Short, Took}
 use Rattle.sdr_base.specs.declared.refusal.Refusal.TheVariants as refusals
 use Rattle.sdr_base.specs.declared.stop.Stop.{Stop}
 use Rattle.sdr_base.specs.declared.stop.Stop.TheVariants.{Refused, DiskFault, MediaFault, Failed}
-use Rattle.bp_queue.specs.Lacking.{LacksBlock, LacksRoom, TakenBlock, TookSome, needs_of, took_blocks}
+use Rattle.bp_queue.specs.Lacking.{LacksRoom, TakenBlock, TookSome, needs_of, took_blocks}
 
 -- a first part of a list of one is empty or all
 one_of : {X : Type 0} (x y : X) (ys rest : List X) → x ∷ [] ≡ (y ∷ ys) ++ rest → y ∷ ys ≡ x ∷ []

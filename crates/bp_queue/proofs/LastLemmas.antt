@@ -1,5 +1,5 @@
 -- An object is put, or it is refused.
-use Rattle.std.proofs.Common.{◌≡◌, ◌≢◌, ℕ, ◌+◌, ◌≤◌, ◌<◌, ◌^◌, List, [], ◌∷◌, ◌++◌, Option, Some, None, refl, sym, ap, ◌∙◌, subst, arith}
+use Rattle.std.proofs.Common.{◌≡◌, ◌≢◌, ℕ, ◌+◌, ◌≤◌, ◌<◌, List, [], ◌∷◌, ◌++◌, Option, Some, None, sym, ap, ◌∙◌, subst, arith}
 use Rattle.std.proofs.lemmas.List.{map-append}
 use Rattle.std.proofs.lemmas.List.Elements.{All-map}
 use Rattle.sdr_base.specs.Blocks.{Block, Blocks, IsKind}
@@ -11,7 +11,7 @@ use Rattle.sdr_base.specs.declared.stop.Stop.{Stop}
 use Rattle.sdr_base.specs.declared.stop.Stop.TheVariants.{Refused, DiskFault, MediaFault, Failed}
 use Rattle.sdr_base.proofs.StandingLemmas.{at-nowhere}
 use Rattle.sdr_list.specs.Calls.{TellsOfList}
-use Rattle.bp_queue.specs.Kept.{KeepsQueues, Row, SomeQueues, last_number, waiting_of}
+use Rattle.bp_queue.specs.Kept.{KeepsQueues, Row, last_number, waiting_of}
 use Rattle.bp_queue.specs.Lacking.{LacksRoom}
 use Rattle.bp_queue.specs.Putting.{Admits, Allows, FindsItem, IsFull, IsTaken, NewStops, PutsLast, PutStops, row_of}
 use Rattle.bp_queue.specs.declared.putting.Wanted.{Wanted}

@@ -1,13 +1,13 @@
 -- The line is walked in search of the item that names an object.
-use Rattle.std.proofs.Common.{◌≡◌, ◌≢◌, ℕ, suc, ◌+◌, ◌<◌, ◌^◌, List, [], ◌∷◌, ◌++◌, length, drop, Option, Some, None, refl, sym, ap, ◌∙◌, subst, arith, append_assoc, length-append, inl, inr, add-one, append-nil}
-use Rattle.std.specs.Prelude.{◌⊎◌, All, Any, map, slice_get, slice_index_or}
+use Rattle.std.proofs.Common.{◌≡◌, ◌≢◌, ℕ, suc, ◌+◌, ◌<◌, List, [], ◌∷◌, ◌++◌, length, drop, Some, None, refl, sym, ap, ◌∙◌, subst, arith, append_assoc, length-append, inl, inr, add-one, append-nil}
+use Rattle.std.specs.Prelude.{Any, map, slice_get}
 use Rattle.std.specs.List.{AllByRecursion as Each}
 use Rattle.std.proofs.lemmas.List.{length-map, map-append}
 use Rattle.std.proofs.lemmas.List.Elements.{All-from_recursion}
-use Rattle.sdr_base.specs.Blocks.{Blocks, Reaches}
+use Rattle.sdr_base.specs.Blocks.{Blocks}
 use Rattle.sdr_base.specs.Entries.{Entries}
 use Rattle.sdr_base.specs.Linked.{first_of}
-use Rattle.sdr_base.specs.Lists.{ListElement, ListRow, addr_of}
+use Rattle.sdr_base.specs.Lists.{ListElement, addr_of}
 use Rattle.sdr_base.specs.Objects.{Misses, OnlyFault}
 use Rattle.sdr_base.specs.Words.{HasWord, layout}
 use Rattle.sdr_base.specs.declared.kind.Kind.TheVariants as kinds
@@ -16,7 +16,7 @@ use Rattle.sdr_list.specs.Calls.{TellsOfElement, TellsOfList}
 use Rattle.sdr_list.specs.Kept.{IsSpot, SomeSpot, Spot, addr_from}
 use Rattle.sdr_list.proofs.KeptLemmas.{element_there, spot_words}
 use Rattle.bp_queue.specs.Kept.{KeepsQueues, Row, SomeQueues, line_element, line_row, waiting_of}
-use Rattle.bp_queue.specs.Putting.{FindsItem, IsNamedBy, IsUnnamed, NamesObject}
+use Rattle.bp_queue.specs.Putting.{FindsItem}
 use Rattle.bp_queue.specs.Removing.{SomeItem}
 use Rattle.bp_queue.specs.States.{line_of}
 use Rattle.bp_queue.specs.declared.queues.Queues.{Queues}

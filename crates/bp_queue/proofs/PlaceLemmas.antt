@@ -1,5 +1,5 @@
 -- Where one goes in a list that is in order.
-use Rattle.std.proofs.Common.{◌≡◌, ℕ, suc, ◌+◌, ◌-◌, ◌<◌, ◌^◌, ◌==◌, Bool, true, false, not, cond, List, [], ◌∷◌, ◌++◌, length, take, drop, refl, sym, ap, ◌∙◌, subst, arith, leb}
+use Rattle.std.proofs.Common.{◌≡◌, ℕ, suc, ◌+◌, ◌-◌, ◌<◌, ◌==◌, Bool, true, false, not, cond, List, [], ◌∷◌, refl, sym, ap, ◌∙◌, arith, leb}
 use Rattle.std.specs.Prelude.{◌&&◌, insert, map, nat_le}
 use Rattle.std.specs.List.{AllByRecursion as Each}
 use Rattle.std.specs.Ordering.{is_gt, nat_cmp}
@@ -11,7 +11,7 @@ use Rattle.std.proofs.lemmas.Bool.{le-leb, leb-false, leb-true, lt-leb}
 use Rattle.sdr_base.specs.Lists.{ListElement}
 use Rattle.sdr_list.specs.Orders.{place_behind}
 use Rattle.bp_queue.specs.Sorting.{put_in}
-use Rattle.bp_queue.proofs.SortingLemmas.{InOrder, IsOrder, each_weaker, precedes_all}
+use Rattle.bp_queue.proofs.SortingLemmas.{InOrder, IsOrder, precedes_all}
 
 -- the test of an order that numbers give
 pub not_gt : (a b : ℕ) → not (is_gt (nat_cmp a b)) ≡ nat_le a b

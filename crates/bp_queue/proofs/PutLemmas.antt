@@ -1,6 +1,6 @@
 -- One more is put: its item comes into its lists, and says so.
-use Rattle.std.proofs.Common.{◌≡◌, ◌≢◌, ℕ, ◌+◌, ◌*◌, ◌≤◌, ◌<◌, ◌^◌, Bool, true, false, not, cond, List, [], ◌∷◌, ◌++◌, length, set, Option, Some, None, refl, sym, ap, ◌∙◌, subst, arith, append_assoc, length-append}
-use Rattle.std.specs.Prelude.{filter, insert, map}
+use Rattle.std.proofs.Common.{◌≡◌, ℕ, ◌+◌, ◌*◌, ◌≤◌, ◌<◌, ◌^◌, Bool, true, false, not, cond, List, [], ◌∷◌, ◌++◌, length, set, Some, refl, sym, ap, ◌∙◌, subst, arith, append_assoc, length-append}
+use Rattle.std.specs.Prelude.{filter, map}
 use Rattle.std.specs.List.{AllByRecursion as Each}
 use Rattle.std.specs.Ordering.{is_gt}
 use Rattle.std.specs.declared.cmp.Ordering.{Ordering}
@@ -10,26 +10,25 @@ use Rattle.byteorder.specs.Endian.{big_bytes}
 use Rattle.sdr_base.specs.Blocks.{Block, Blocks, Reaches, overwritten, with_block}
 use Rattle.sdr_base.specs.Entries.{BlocksAre, Changes, Entries, Few}
 use Rattle.sdr_base.specs.Lists.{KeepsList, ListElement, ListRow, list_entries}
-use Rattle.sdr_base.specs.Making.{Made, MakesThing, besides}
+use Rattle.sdr_base.specs.Making.{MakesThing, besides}
 use Rattle.sdr_base.specs.Objects.{Heap, OnlyUnmoved}
 use Rattle.sdr_base.specs.Raws.{raw_block}
-use Rattle.sdr_base.specs.Words.{TakesBytes, layout, with_word}
+use Rattle.sdr_base.specs.Words.{layout, with_word}
 use Rattle.sdr_base.specs.declared.kind.Kind.TheVariants as kinds
 use Rattle.sdr_base.specs.declared.moves.Move.TheVariants.{Took}
 use Rattle.sdr_base.specs.declared.stop.Stop.{Stop}
 use Rattle.sdr_base.proofs.GaveLemmas.{made_then}
 use Rattle.sdr_base.proofs.HeapLemmas.{heap_blocks}
-use Rattle.sdr_base.proofs.MakingLemmas.{taken_makes}
 use Rattle.sdr_base.proofs.StandingLemmas.{found, moved}
 use Rattle.sdr_base.proofs.WritingLemmas.{block, reaches, word_set}
 use Rattle.sdr_list.specs.Calls.{InsertsInList, SetsInList}
 use Rattle.sdr_list.specs.Kept.{SomeList, with_element}
 use Rattle.sdr_list.specs.Orders.{ordered_place, sort_key}
 use Rattle.bp_queue.specs.Classes.{is_class}
-use Rattle.bp_queue.specs.Kept.{FitQueue, KeepsQueues, Row, RowFits, class_element, class_row, four_lists, item_bytes, item_entries, items_entries, line_element, line_row, list_of, queue_entries, waiting_of}
+use Rattle.bp_queue.specs.Kept.{KeepsQueues, Row, RowFits, class_element, class_row, four_lists, item_bytes, item_entries, items_entries, line_element, line_row, list_of, queue_entries, waiting_of}
 use Rattle.bp_queue.specs.Keys.{ByDeadline, ByOrdinal}
 use Rattle.bp_queue.specs.Lacking.{LacksRoom}
-use Rattle.bp_queue.specs.Putting.{Admits, Enlists, IsUnnamed, KeepsListed, KeepsUnlisted, NotesElements, SomeListed, SomeUnlisted, nowhere, row_of}
+use Rattle.bp_queue.specs.Putting.{Admits, Enlists, KeepsListed, KeepsUnlisted, NotesElements, SomeUnlisted, nowhere, row_of}
 use Rattle.bp_queue.specs.States.{Waiting, class_of, line_of}
 use Rattle.bp_queue.specs.declared.class.Class.{Class}
 use Rattle.bp_queue.specs.declared.putting.Elements.{Elements}
@@ -37,11 +36,11 @@ use Rattle.bp_queue.specs.declared.putting.Wanted.{Wanted}
 use Rattle.bp_queue.specs.declared.queues.Queues.{Queues}
 use Rattle.bp_queue.proofs.FitLemmas.{fit_push}
 use Rattle.bp_queue.proofs.FourLemmas.{around_more, before_more, class_changed, four_same, line_changed, with_class}
-use Rattle.bp_queue.proofs.ItemLemmas.{due_test, item_block, item_found, item_key, item_words, rank_test, rank_word}
+use Rattle.bp_queue.proofs.ItemLemmas.{due_test, item_block, item_found, item_key, item_words, rank_test}
 use Rattle.bp_queue.proofs.LackLemmas.{all_lack}
 use Rattle.bp_queue.proofs.PlaceLemmas.{insert_place}
 use Rattle.bp_queue.proofs.QueueLemmas.{class_list, closed, each_fits, line_few, line_fits, line_kept, opened}
-use Rattle.bp_queue.proofs.SortingLemmas.{Among, each_among, each_at, each_filter, each_sorted, sorted_order}
+use Rattle.bp_queue.proofs.SortingLemmas.{each_among, each_at, each_filter, each_sorted, sorted_order}
 use Rattle.bp_queue.proofs.StateLemmas.{class_is, class_of-push, due, due_order, in_class, line_of-push, other_class-push, rank_order, ranked, same_class}
 
 -- Blocks where the items of rows stand, and one more, behind others.

@@ -1,12 +1,12 @@
 -- Queues that are kept: each list of theirs is kept, with elements that name the items.
-use Rattle.std.proofs.Common.{◌≡◌, ◌≢◌, ℕ, suc, ◌+◌, ◌≤◌, ◌<◌, ◌^◌, Bool, true, false, cond, List, [], ◌∷◌, ◌++◌, length, Option, Some, None, refl, sym, ap, ◌∙◌, subst, arith, append_assoc}
-use Rattle.std.specs.Prelude.{All, filter, map, option_map}
+use Rattle.std.proofs.Common.{◌≡◌, ℕ, ◌<◌, ◌^◌, List, [], ◌++◌, length, Option, Some, None, refl, sym, ◌∙◌, subst, arith}
+use Rattle.std.specs.Prelude.{All, filter, map}
 use Rattle.std.specs.List.{AllByRecursion as Each}
 use Rattle.std.proofs.lemmas.List.{length-map}
 use Rattle.std.proofs.lemmas.List.Elements.{All-from_recursion, All-map, recursion_from_All}
 use Rattle.sdr_base.specs.Blocks.{Block, Blocks, IsOther}
 use Rattle.sdr_base.specs.Entries.{BlocksAre, Entries}
-use Rattle.sdr_base.specs.Lists.{ElementFits, KeepsList, ListElement, ListRow, list_entries}
+use Rattle.sdr_base.specs.Lists.{ElementFits, KeepsList, ListElement, ListRow}
 use Rattle.sdr_base.specs.Lists.{RowFits as ListFits}
 use Rattle.sdr_base.specs.Objects.{Misses, OnlyFault}
 use Rattle.sdr_base.specs.Words.{layout}
@@ -17,15 +17,14 @@ use Rattle.sdr_base.specs.declared.stop.Stop.{Stop}
 use Rattle.sdr_base.specs.declared.stop.Stop.TheVariants.{Refused, DiskFault, MediaFault, Failed}
 use Rattle.sdr_base.proofs.WritingLemmas.{block}
 use Rattle.sdr_list.proofs.KeptLemmas.{list_there, list_words}
-use Rattle.bp_queue.specs.Classes.{class_number, is_class}
-use Rattle.bp_queue.specs.Kept.{FitQueue, KeepsQueues, ListsFit, Row, RowFits, class_element, class_row, four_lists, items_entries, line_element, line_row, list_of, queue_entries, waiting_of}
-use Rattle.bp_queue.specs.Sorting.{sorted_by}
+use Rattle.bp_queue.specs.Classes.{class_number}
+use Rattle.bp_queue.specs.Kept.{FitQueue, KeepsQueues, ListsFit, Row, RowFits, class_element, class_row, four_lists, items_entries, line_element, line_row, list_of, waiting_of}
 use Rattle.bp_queue.specs.States.{class_of, line_of}
 use Rattle.bp_queue.specs.declared.class.Class.{Class}
 use Rattle.bp_queue.specs.declared.class.Class.TheVariants as classes
 use Rattle.bp_queue.specs.declared.queues.Queues.{Queues}
 use Rattle.bp_queue.proofs.FourLemmas.{before_class, before_line, behind_class, class_stands, four_append, line_stands}
-use Rattle.bp_queue.proofs.SortingLemmas.{Among, each_at, each_filter, each_sorted, each_weaker}
+use Rattle.bp_queue.proofs.SortingLemmas.{each_filter, each_sorted, each_weaker}
 use Rattle.bp_queue.proofs.StateLemmas.{due, in_class, length-class, length-line, ranked}
 
 -- the blocks of queues with others beside them are four lists with others behind them

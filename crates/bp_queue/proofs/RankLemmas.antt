@@ -1,5 +1,5 @@
 -- The block that is taken for an item.
-use Rattle.std.proofs.Common.{◌≡◌, ◌≢◌, ℕ, ◌+◌, ◌-◌, ◌*◌, ◌<◌, ◌^◌, List, [], ◌∷◌, ◌++◌, length, sym, subst, arith, w64}
+use Rattle.std.proofs.Common.{◌≡◌, ◌≢◌, ℕ, ◌-◌, ◌<◌, ◌^◌, List, [], ◌∷◌, length, sym, subst, arith, w64}
 use Rattle.std.specs.Prelude.{replicate}
 use Rattle.std.specs.Int.{from_be_bytes}
 use Rattle.byteorder.specs.Endian.{big_number}
@@ -30,7 +30,7 @@ made_item {item} {old} {new} w t =
     let words : List ℕ → Block = λ ws. record { kind = kinds.Raw; bytes = layout ws [] } in
     let r = rank_is (255 - w.ordinal) (class_number w.class) in
     let made : MakesThing (length (layout (item_words (row_of w item nowhere)) [])) item
-        ((item, words (item_words (row_of w item nowhere))) ∷ []) old new =
+    ((item, words (item_words (row_of w item nowhere))) ∷ []) old new =
     taken_makes
     (subst (λ (rank : ℕ). TakesBytes kinds.Raw (layout (0 ∷ w.deadline ∷ rank ∷ w.number ∷ w.object ∷ 0 ∷ 0 ∷ []) []) item old new) r t) in
     subst (λ (n : ℕ). MakesThing n item (item_entries (row_of w item nowhere)) old new)

@@ -1,38 +1,33 @@
 -- An item goes: from the list of its class, from the line, and then itself.
-use Rattle.std.proofs.Common.{◌≡◌, ◌≢◌, ℕ, suc, ◌+◌, ◌-◌, ◌≤◌, ◌<◌, ◌^◌, Bool, true, false, not, cond, List, [], ◌∷◌, ◌++◌, length, take, drop, get_or, Option, Some, None, refl, sym, ap, ◌∙◌, subst, arith, append_assoc, append-nil}
-use Rattle.std.specs.Prelude.{map, remove, slice_get, Result, Ok, Err}
-use Rattle.std.specs.List.{flat_map}
-use Rattle.std.proofs.lemmas.List.{length-map, map-append}
+use Rattle.std.proofs.Common.{◌≡◌, ℕ, Bool, true, false, cond, List, [], ◌∷◌, ◌++◌, length, Some, None, refl, sym, ap, ◌∙◌, subst, arith, append_assoc}
+use Rattle.std.specs.Prelude.{map, remove, slice_get}
+use Rattle.std.proofs.lemmas.List.{map-append}
 use Rattle.std.proofs.lemmas.List.Concat.{flat_map-append}
-use Rattle.sdr_base.specs.Blocks.{Block, Blocks, IsKind, Reaches, with_block}
+use Rattle.sdr_base.specs.Blocks.{Block, Blocks, Reaches, with_block}
 use Rattle.sdr_base.specs.Entries.{BlocksAre, Changes, Entries}
-use Rattle.sdr_base.specs.Lists.{KeepsList, ListElement, ListRow, list_entries}
-use Rattle.sdr_base.specs.Making.{GaveSome, Made, gave}
-use Rattle.sdr_base.specs.Objects.{Heap, OnlyUnmoved, with_given}
+use Rattle.sdr_base.specs.Lists.{ListElement, ListRow, list_entries}
+use Rattle.sdr_base.specs.Making.{Made, gave}
+use Rattle.sdr_base.specs.Objects.{Heap, with_given}
 use Rattle.sdr_base.specs.Raws.{raw_block}
 use Rattle.sdr_base.specs.Words.{HasWord, layout}
 use Rattle.sdr_base.specs.declared.kind.Kind.TheVariants as kinds
 use Rattle.sdr_base.specs.declared.moves.Move.TheVariants.{Gave}
-use Rattle.sdr_base.specs.declared.refusal.Refusal.TheVariants as refusals
-use Rattle.sdr_base.specs.declared.stop.Stop.{Stop}
-use Rattle.sdr_base.specs.declared.stop.Stop.TheVariants.{Refused, DiskFault, MediaFault, Failed}
-use Rattle.sdr_base.proofs.GaveLemmas.{made_then, none_made, one_gave, some_of, some_then}
+use Rattle.sdr_base.proofs.GaveLemmas.{made_then, one_gave}
 use Rattle.sdr_base.proofs.HeapLemmas.{given_blocks}
 use Rattle.sdr_base.proofs.StandingLemmas.{went}
 use Rattle.sdr_base.proofs.WritingLemmas.{block, reaches, word_is}
-use Rattle.sdr_list.specs.Calls.{ChangeStops, DeletesElement}
+use Rattle.sdr_list.specs.Calls.{DeletesElement}
 use Rattle.sdr_list.specs.Kept.{IsSpot, SomeSpot, Spot, without_element}
-use Rattle.sdr_list.proofs.KeptLemmas.{element_there, spot_words}
 use Rattle.bp_queue.specs.Classes.{is_class}
 use Rattle.bp_queue.specs.Kept.{FitQueue, KeepsQueues, Row, RowFits, class_element, class_row, four_lists, item_bytes, item_entries, items_entries, line_element, line_row, list_of, waiting_of}
-use Rattle.bp_queue.specs.Removing.{IsItem, ItemGone, RemoveStops, RemovesItem, RemovesSome, SomeItem, item_blocks}
+use Rattle.bp_queue.specs.Removing.{IsItem, RemovesItem, SomeItem}
 use Rattle.bp_queue.specs.States.{class_of, line_of, without}
 use Rattle.bp_queue.specs.declared.class.Class.{Class}
 use Rattle.bp_queue.specs.declared.queues.Queues.{Queues}
 use Rattle.bp_queue.proofs.FitLemmas.{fit_filter, rows_apart, without_between}
 use Rattle.bp_queue.proofs.FourLemmas.{around_more, before_more, class_changed, four_same, line_changed, with_class}
-use Rattle.bp_queue.proofs.ItemLemmas.{item_block, item_found, item_words, rank_word}
-use Rattle.bp_queue.proofs.QueueLemmas.{class_list, closed, each_fits, line_few, line_fits, line_kept, list_small, never_missed, opened}
+use Rattle.bp_queue.proofs.ItemLemmas.{item_block, item_found, item_words}
+use Rattle.bp_queue.proofs.QueueLemmas.{class_list, closed, each_fits, line_few, line_fits, line_kept, list_small, opened}
 use Rattle.bp_queue.proofs.SortingLemmas.{Among, Split, among_between, each_at}
 use Rattle.bp_queue.proofs.StateLemmas.{among_class, among_line, apart_class, apart_line, class_is, class_of-without, keeps_but, line_of-without, other_class-without, split_object}
 

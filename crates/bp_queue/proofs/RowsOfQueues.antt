@@ -1,7 +1,6 @@
 -- Worked rows: three objects wait, and what is first, overdue and left.
-use Rattle.std.proofs.Common.{◌≡◌, ℕ, List, [], ◌∷◌, ◌++◌, Some, refl}
-use Rattle.std.specs.Prelude.{map}
-use Rattle.bp_queue.specs.Kept.{Row, item_bytes}
+use Rattle.std.proofs.Common.{◌≡◌, List, [], ◌∷◌, ◌++◌, Some, refl}
+use Rattle.bp_queue.specs.Kept.{item_bytes}
 use Rattle.bp_queue.specs.Runs.{QueueCall, Puts, Takes, Expires, Looks, put_and_stay}
 use Rattle.bp_queue.specs.States.{State, Waiting, class_of, except, highest, itself, later_than, line_of, overdue}
 use Rattle.bp_queue.specs.declared.class.Class.TheVariants as classes

@@ -1,11 +1,10 @@
 -- What waits behind a run of calls.
-use Rattle.std.proofs.Common.{◌≡◌, ℕ, Bool, true, false, not, cond, List, [], ◌∷◌, ◌++◌, Option, Some, None, refl, sym, ap, ◌∙◌, subst, append_assoc, append-nil}
+use Rattle.std.proofs.Common.{◌≡◌, ℕ, Bool, true, false, not, cond, List, [], ◌∷◌, ◌++◌, Option, Some, None, refl, sym, ap, ◌∙◌, append_assoc, append-nil}
 use Rattle.std.specs.Prelude.{◌||◌, ◌==◌, filter, nat_le, nat_lt}
-use Rattle.std.specs.List.{AllByRecursion as Each, list_any}
+use Rattle.std.specs.List.{list_any}
 use Rattle.std.proofs.lemmas.List.Elements.{filter-append, filter_agree}
 use Rattle.bp_queue.specs.Runs.{QueueCall, QueueStep, RunsQueue, Puts, Takes, Expires, Looks, put_and_stay, stays, takes_out}
-use Rattle.bp_queue.specs.States.{State, Waiting, except, highest, itself, later_than, object_of, without}
-use Rattle.bp_queue.proofs.SortingLemmas.{filter_all}
+use Rattle.bp_queue.specs.States.{State, Waiting, except, highest, itself, object_of, without}
 use Rattle.bp_queue.proofs.StateLemmas.{later-not, none_waits}
 
 -- those that pass neither of two tests are those that don't pass the one among those that don't pass the other

@@ -1,5 +1,5 @@
 -- Lists in an order: one is put in, some are left out, and what holds of all.
-use Rattle.std.proofs.Common.{◌≡◌, ℕ, suc, ◌+◌, Bool, true, false, cond, List, [], ◌∷◌, ◌++◌, length, refl, sym, ap, ◌∙◌, subst, arith, inl, inr}
+use Rattle.std.proofs.Common.{◌≡◌, suc, ◌+◌, Bool, true, false, cond, List, [], ◌∷◌, ◌++◌, length, refl, sym, ap, ◌∙◌, subst, arith, inl, inr}
 use Rattle.std.specs.Prelude.{◌⊎◌, AllPairs, filter, fold, map}
 use Rattle.std.specs.List.{AllByRecursion as Each}
 use Rattle.std.proofs.lemmas.List.Elements.{recursion_from_All}
@@ -322,6 +322,7 @@ map-filter f p (x ∷ xs) =
 -- between std's words and these
 pub apart_from_pairs : {X : Type 0} (R : X → X → Type 0) (xs : List X) → AllPairs R xs → Apart R xs
 apart_from_pairs R [] a = tt
-apart_from_pairs R (x ∷ xs) a =
-    (recursion_from_All (R x) xs (λ k d h. a 0 (suc k) d (omega arith) (omega (arith, h))),
-    apart_from_pairs R xs (λ i j d l h. a (suc i) (suc j) d (omega (arith, l)) (omega (arith, h))))
+apart_from_pairs R (x ∷ xs) a = (
+  recursion_from_All (R x) xs (λ k d h. a 0 (suc k) d (omega arith) (omega (arith, h))),
+  apart_from_pairs R xs (λ i j d l h. a (suc i) (suc j) d (omega (arith, l)) (omega (arith, h))),
+)

@@ -1,16 +1,16 @@
 -- Which of those that wait is first, and what stays where one goes.
-use Rattle.std.proofs.Common.{◌≡◌, ◌≢◌, ℕ, suc, ◌+◌, ◌==◌, ◌≤◌, Bool, true, false, not, cond, List, [], ◌∷◌, ◌++◌, length, Option, Some, None, refl, sym, ap, ◌∙◌, subst, arith, inl, inr, eq-eqb, append-nil, leb, ltb}
-use Rattle.std.specs.Prelude.{◌⊎◌, ◌||◌, filter, fold, map, nat_le, nat_lt}
+use Rattle.std.proofs.Common.{◌≡◌, ◌≢◌, ℕ, suc, ◌==◌, ◌≤◌, Bool, true, false, not, cond, List, [], ◌∷◌, ◌++◌, length, Option, Some, None, refl, sym, ap, ◌∙◌, subst, arith, inl, inr, eq-eqb, append-nil, leb, ltb}
+use Rattle.std.specs.Prelude.{filter, nat_le, nat_lt}
 use Rattle.std.specs.List.{AllByRecursion as Each}
 use Rattle.std.specs.Option.{option_or}
-use Rattle.std.proofs.lemmas.Bool.{eqb-true, le-leb, leb-false, leb-true, lt-leb, ne_eqb}
+use Rattle.std.proofs.lemmas.Bool.{le-leb, leb-false, leb-true, lt-leb, ne_eqb}
 use Rattle.std.proofs.lemmas.List.Elements.{filter-append}
-use Rattle.bp_queue.specs.Classes.{class_number, is_class}
+use Rattle.bp_queue.specs.Classes.{is_class}
 use Rattle.bp_queue.specs.Sorting.{first, put_in, sorted_by}
-use Rattle.bp_queue.specs.States.{Waiting, class_of, except, highest, is_due_by, later_than, line_of, object_of, overdue, ranks_as, without}
+use Rattle.bp_queue.specs.States.{Waiting, class_of, highest, is_due_by, later_than, line_of, overdue, ranks_as, without}
 use Rattle.bp_queue.specs.declared.class.Class.{Class}
 use Rattle.bp_queue.specs.declared.class.Class.TheVariants as classes
-use Rattle.bp_queue.proofs.SortingLemmas.{Among, Apart, InOrder, IsOrder, Split, among_filter, among_from, among_sorted, apart_filter, apart_sorted, each_at, each_filter, each_sorted, each_weaker, filter-filter, filter-sorted, filter_all, filter_none, length-sorted, map-filter, map-sorted, sorted-push, sorted_order, split_at}
+use Rattle.bp_queue.proofs.SortingLemmas.{Among, Apart, InOrder, IsOrder, Split, among_filter, among_from, among_sorted, apart_filter, apart_sorted, each_at, each_sorted, each_weaker, filter-filter, filter-sorted, filter_all, filter_none, length-sorted, sorted-push, sorted_order, split_at}
 
 -- each class is the same as itself, and as no other
 pub same_class : (c : Class) → is_class c c ≡ true
@@ -275,10 +275,11 @@ module _ {X : Type 0} (of : X → Waiting) where
       by : (ys : List X) → first ys ≡ Some x → (due' : List X) × (filter (is_due now) ys ≡ x ∷ due')
       by [] g = absurd (let h : None ≡ Some x = g in cc)
       by (y ∷ ys) g =
-          let same : y ≡ x = let h : Some y ≡ Some x = g in cc in
-          (filter (is_due now) ys,
-          ap (λ v. cond v (y ∷ filter (is_due now) ys) (filter (is_due now) ys)) (ap (is_due now) same ∙ is)
-          ∙ ap (λ z. z ∷ filter (is_due now) ys) same)
+          let same : y ≡ x = let h : Some y ≡ Some x = g in cc in (
+            filter (is_due now) ys,
+            ap (λ v. cond v (y ∷ filter (is_due now) ys) (filter (is_due now) ys)) (ap (is_due now) same ∙ is)
+                ∙ ap (λ z. z ∷ filter (is_due now) ys) same,
+          )
 
   -- those that are overdue once one has gone
   pub overdue-without : (now object : ℕ) (xs : List X) → overdue of now (without of object xs) ≡ filter (keeps_but object) (overdue of now xs)

@@ -1,8 +1,7 @@
 -- The first one of the highest class is taken: what that makes of the state.
-use Rattle.std.proofs.Common.{◌≡◌, ℕ, List, [], ◌∷◌, ◌++◌, Option, Some, None, Bool, not, refl, sym, ap, ◌∙◌, subst}
+use Rattle.std.proofs.Common.{◌≡◌, ℕ, List, [], ◌∷◌, ◌++◌, Option, Some, None, not, refl, sym, ap, ◌∙◌, subst}
 use Rattle.std.specs.Prelude.{◌==◌, filter, map, option_map}
 use Rattle.std.specs.Option.{option_or}
-use Rattle.sdr_base.specs.Entries.{Entries}
 use Rattle.sdr_base.specs.Making.{GaveSome, Made, gave}
 use Rattle.sdr_base.specs.Objects.{Heap, OnlyFault}
 use Rattle.sdr_base.specs.declared.refusal.Refusal.TheVariants as refusals
@@ -12,17 +11,17 @@ use Rattle.sdr_base.proofs.GaveLemmas.{none_made}
 use Rattle.bp_queue.specs.Calls.{Tells, highest_item}
 use Rattle.bp_queue.specs.Classes.{is_class}
 use Rattle.bp_queue.specs.Kept.{KeepsQueues, Row, SomeQueues, state_of, waiting_of}
-use Rattle.bp_queue.specs.Removing.{ItemGone, RemoveStops, RemovesItem, RemovesSome, SomeItem, item_blocks}
+use Rattle.bp_queue.specs.Removing.{RemoveStops, RemovesItem, SomeItem}
 use Rattle.bp_queue.specs.Runs.{QueueStep, Takes}
 use Rattle.bp_queue.specs.Sorting.{first, sorted_by}
-use Rattle.bp_queue.specs.States.{State, Waiting, class_of, except, highest, itself, object_of, ranks_as, without}
-use Rattle.bp_queue.specs.Taking.{TakeStops, TakesFirst, TakesRow, TakesSome, blocks_of}
+use Rattle.bp_queue.specs.States.{Waiting, class_of, except, highest, itself, object_of, ranks_as, without}
+use Rattle.bp_queue.specs.Taking.{TakeStops, TakesFirst, blocks_of}
 use Rattle.bp_queue.specs.declared.class.Class.{Class}
 use Rattle.bp_queue.specs.declared.class.Class.TheVariants as classes
 use Rattle.bp_queue.specs.declared.queues.Queues.{Queues}
 use Rattle.bp_queue.proofs.FirstLemmas.{is_item, no_row, some_item, some_row, split_among}
 use Rattle.bp_queue.proofs.FitLemmas.{rows_apart, without_between}
-use Rattle.bp_queue.proofs.SortingLemmas.{Among, Apart, map-filter, map-sorted}
+use Rattle.bp_queue.proofs.SortingLemmas.{Apart, map-filter, map-sorted}
 use Rattle.bp_queue.proofs.StateLemmas.{Differ, highest_among}
 
 -- the first one of the rows of a class is that of the state
@@ -49,9 +48,9 @@ highest-state rows =
     let n = first_of-state classes.Normal rows in
     let b = first_of-state classes.Bulk rows in
     let each : highest itself (state_of rows)
-        ≡ option_or (option_map waiting_of (first (class_of waiting_of classes.Urgent rows)))
-        (option_or (option_map waiting_of (first (class_of waiting_of classes.Normal rows)))
-        (option_map waiting_of (first (class_of waiting_of classes.Bulk rows)))) =
+    ≡ option_or (option_map waiting_of (first (class_of waiting_of classes.Urgent rows)))
+    (option_or (option_map waiting_of (first (class_of waiting_of classes.Normal rows)))
+    (option_map waiting_of (first (class_of waiting_of classes.Bulk rows)))) =
     λ i. option_or (u i) (option_or (n i) (b i)) in
     each
     ∙ ap (option_or (option_map waiting_of (first (class_of waiting_of classes.Urgent rows))))
@@ -74,9 +73,10 @@ object-state (Some r) = refl
 takes_step : (rows : List Row) (object : ℕ) → object ≡ object_of waiting_of (highest waiting_of rows) →
     QueueStep (state_of rows) (Takes object) (state_of (except waiting_of (highest waiting_of rows) rows))
 takes_step rows object e =
-    let h = highest-state rows in
-    (e ∙ sym (ap (object_of itself) h ∙ object-state (highest waiting_of rows)),
-    sym (ap (λ (o : Option Waiting). except itself o (state_of rows)) h ∙ except-state (highest waiting_of rows) rows))
+    let h = highest-state rows in (
+      e ∙ sym (ap (object_of itself) h ∙ object-state (highest waiting_of rows)),
+      sym (ap (λ (o : Option Waiting). except itself o (state_of rows)) h ∙ except-state (highest waiting_of rows) rows),
+    )
 
 module _ {q : Queues} (old : Heap) where
   -- none waits

@@ -13,7 +13,6 @@ use Rattle.bp_queue.specs.Kept.{FitQueue, KeepsQueues, Row, RowFits, class_row, 
 use Rattle.bp_queue.specs.Lacking.{LacksRoom}
 use Rattle.bp_queue.specs.Runs.{QueueStep, Puts}
 use Rattle.bp_queue.specs.States.{Waiting}
-use Rattle.bp_queue.specs.declared.class.Class.{Class}
 use Rattle.bp_queue.specs.declared.putting.Wanted.{Wanted}
 use Rattle.bp_queue.specs.declared.putting.Elements.{Elements}
 use Rattle.bp_queue.specs.declared.queues.Queues.{Queues}

@@ -1,5 +1,5 @@
 -- Items that go.
-use Rattle.std.specs.Prelude.{◌≡◌, ℕ, List, [], ◌∷◌, ◌++◌, Option, None, Some}
+use Rattle.std.specs.Prelude.{◌≡◌, ℕ, List, [], ◌∷◌, ◌++◌}
 use Rattle.sdr_base.specs.Blocks.{Blocks}
 use Rattle.sdr_base.specs.Entries.{Entries}
 use Rattle.sdr_base.specs.Making.{GaveSome, Made, gave}
@@ -7,8 +7,7 @@ use Rattle.sdr_base.specs.Objects.{Heap, OnlyFault}
 use Rattle.sdr_base.specs.declared.refusal.Refusal.TheVariants as refusals
 use Rattle.sdr_base.specs.declared.stop.Stop.{Stop}
 use Rattle.sdr_base.specs.declared.stop.Stop.TheVariants.{Refused}
-use Rattle.bp_queue.specs.Kept.{KeepsQueues, Row, waiting_of}
-use Rattle.bp_queue.specs.States.{without}
+use Rattle.bp_queue.specs.Kept.{KeepsQueues, Row}
 use Rattle.bp_queue.specs.declared.queues.Queues.{Queues}
 
 -- the addresses of the blocks that go with an item: its elements, in the list of its class and in the line, and its own

@@ -59,11 +59,11 @@ pub fn put<O: Objects, F: Collate + Drop, G: Collate + Drop>(
     requires queues { SomeQueues (O.heap o.old).blocks q.now }
     ensures put { IfOk result (λ item. PutsLast q.now
         (record {
-            item = item;
-            class = class;
-            ordinal = ordinal;
-            deadline = deadline;
-            object = object
+          item = item;
+          class = class;
+          ordinal = ordinal;
+          deadline = deadline;
+          object = object;
         }) (O.heap o.old) (O.heap o.new)) }
     ensures refused { IfErr result (PutStops q.now object (O.heap o.old) (O.heap o.new)) }
     ensures works { Spends O.HasHeap 105 o.old o.new result }
@@ -159,15 +159,7 @@ fn admit<O: Objects, F: Collate + Drop, G: Collate + Drop>(
         0,
         0,
     ]);
-    let fields = [
-        0,
-        wanted.deadline,
-        rank,
-        wanted.number,
-        wanted.object,
-        0,
-        0,
-    ];
+    let fields = [0, wanted.deadline, rank, wanted.number, wanted.object, 0, 0];
     let item = take_words(o, Kind::Raw, &fields)?;
     let at = enlist(o, q, wanted, item, by)?;
     note_elements(o, q, wanted, item, at)?;

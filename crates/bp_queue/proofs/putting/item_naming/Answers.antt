@@ -1,5 +1,5 @@
 -- The line is walked from its front.
-use Rattle.std.proofs.Common.{arith, ◌∙◌}
+use Rattle.std.proofs.Common.{arith}
 use Rattle.std.proofs.lemmas.Result.{err_from_is_err_and}
 use Rattle.sdr_base.proofs.WorksLemmas.{looks_looks, looks_on}
 use Rattle.sdr_base.proofs.WritingLemmas.{reaches_less}

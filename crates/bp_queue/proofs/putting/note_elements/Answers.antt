@@ -5,7 +5,6 @@ use Rattle.sdr_base.specs.Making.{besides}
 use Rattle.sdr_base.specs.Objects.{OnlyUnmoved}
 use Rattle.sdr_base.proofs.HeapLemmas.{heap_blocks}
 use Rattle.sdr_base.proofs.WritingLemmas.{reaches_less}
-use Rattle.bp_queue.specs.Putting.{NotesElements}
 use Rattle.bp_queue.proofs.PutLemmas.{first_reaches, listed_reaches, noted_line, notes}
 use Rattle.bp_queue.proofs.StopLemmas.{change_unmoved, unmoved_since}
 use Rattle.bp_queue.proofs.putting.note_elements.Goals as goal

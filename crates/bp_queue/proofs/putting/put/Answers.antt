@@ -1,5 +1,5 @@
 -- The object is there, and doesn't wait yet.
-use Rattle.std.proofs.Common.{◌≡◌, ◌∙◌, arith}
+use Rattle.std.proofs.Common.{◌∙◌}
 use Rattle.std.proofs.lemmas.Result.{IfErr-weaker, err_from_is_err_and}
 use Rattle.sdr_base.proofs.HeapLemmas.{ok_both}
 use Rattle.sdr_base.proofs.WorksLemmas.{looks_then}
@@ -34,9 +34,11 @@ returns-in_err-value-clause-refused g c =
 
 pub returns-in-Some-clause-refused : goal.returns-in-Some-clause-refused
 returns-in-Some-clause-refused g c =
-    let f = rw (c.user_data.ensures.looks.same, c.expect_kind.ensures.looks.same, c.in-Some.is) at c.in_ok-value.ensures.found in
-    (c.in_ok-expect_kind.ensures.found, is_taken f,
-    c.item_naming.ensures.looks.same ∙ c.user_data.ensures.looks.same ∙ c.expect_kind.ensures.looks.same)
+    let f = rw (c.user_data.ensures.looks.same, c.expect_kind.ensures.looks.same, c.in-Some.is) at c.in_ok-value.ensures.found in (
+      c.in_ok-expect_kind.ensures.found,
+      is_taken f,
+      c.item_naming.ensures.looks.same ∙ c.user_data.ensures.looks.same ∙ c.expect_kind.ensures.looks.same,
+    )
 
 pub put_new-requires-clause-object : goal.put_new-requires-clause-object
 put_new-requires-clause-object g c = object_some c.requires.queues.keeps.stands c.in_ok-expect_kind.ensures.found

@@ -1,6 +1,5 @@
 -- The list of the class says it.
 use Rattle.std.proofs.Common.{length, ◌∙◌}
-use Rattle.std.specs.Prelude.{map}
 use Rattle.std.proofs.lemmas.List.{length-map}
 use Rattle.std.proofs.lemmas.Result.{IfErr-weaker, IfOk-weaker}
 use Rattle.bp_queue.specs.Calls.{Tells}
