@@ -19,7 +19,7 @@ _sdrtool() {
     case ${COMP_WORDS[1]} in
       --help | --version) ;;
       -) mapfile -t COMPREPLY < <(compgen -W dry -- "$word") ;;
-      *) mapfile -t COMPREPLY < <(compgen -W 'format replay run inspect recover dry' -- "$word") ;;
+      *) mapfile -t COMPREPLY < <(compgen -W 'format replay run load inspect recover dry' -- "$word") ;;
     esac
   elif [ "$at" = 3 ] && [ "${COMP_WORDS[COMP_CWORD - 1]}" = run ]; then
     mapfile -t COMPREPLY < <(compgen -W totals -- "$word")

@@ -19,6 +19,7 @@ complete -c sdrtool -n __sdrtool_form -a format -d 'makes an empty heap of the d
 complete -c sdrtool -n __sdrtool_form -a replay -d 'runs the script of standard input on the heap'
 complete -c sdrtool -n __sdrtool_form -a run -d 'runs the daemons of the script side by side on the heap'
 complete -c sdrtool -n __sdrtool_run -a totals -d 'prints a line of totals behind the journal'
+complete -c sdrtool -n __sdrtool_form -a load -d 'runs a generated load on the heap, and sums it up'
 complete -c sdrtool -n __sdrtool_form -a inspect -d 'prints the world that the disk keeps'
 complete -c sdrtool -n __sdrtool_form -a recover -d 'puts back what a crash cut short'
 complete -c sdrtool -n __sdrtool_dry -a dry -d 'runs the script of standard input with no disk'

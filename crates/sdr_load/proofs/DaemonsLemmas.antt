@@ -5,7 +5,7 @@ use Rattle.std.proofs.lemmas.Bool.Decides.{nat_tests}
 use Rattle.std.proofs.lemmas.List.Folds.{list_any-append}
 use Rattle.std.specs.List.{flat_map, list_any, range_with_len}
 use Rattle.sdr_load.proofs.RoundLemmas.{range_push}
-use Rattle.sdr_load.specs.Rounds.{adding, byte_in, closing, daemon_of, dropping, drops_oldest, is_cancelled, later_round, length_in, opening, round_of}
+use Rattle.sdr_load.specs.Rounds.{adding, byte_in, closing, round_daemon, dropping, drops_oldest, is_round_cancelled, later_round, length_in, opening, round_of}
 use Rattle.sdr_load.specs.Schedule.{said_from, script_for}
 use Rattle.sdr_load.specs.Statements.{numbered}
 use Rattle.sdr_load.specs.declared.statement.Statement.{Statement}
@@ -42,22 +42,22 @@ module _ (daemon : ℕ) where
   any-later false cancelled by bytes byte = same_six (by == daemon)
 
   any-chosen : (round : ℕ) (first : Bool) → (round == 0) ≡ first
-      → list_any (λ s. s.daemon == daemon) (cond first (opening 1) (later_round round)) ≡ (daemon_of round == daemon)
-  any-chosen round true is = same_four (1 == daemon) ∙ ap (λ r. daemon_of r == daemon) (sym (zero_where round is))
-  any-chosen round false is = any-later (drops_oldest round) (is_cancelled round) (daemon_of round) (length_in round) (byte_in round)
+      → list_any (λ s. s.daemon == daemon) (cond first (opening 1) (later_round round)) ≡ (round_daemon round == daemon)
+  any-chosen round true is = same_four (1 == daemon) ∙ ap (λ r. round_daemon r == daemon) (sym (zero_where round is))
+  any-chosen round false is = any-later (drops_oldest round) (is_round_cancelled round) (round_daemon round) (length_in round) (byte_in round)
 
   -- a round is its daemon's alone
-  any-round_of : (round : ℕ) → list_any (λ s. s.daemon == daemon) (round_of round) ≡ (daemon_of round == daemon)
+  any-round_of : (round : ℕ) → list_any (λ s. s.daemon == daemon) (round_of round) ≡ (round_daemon round == daemon)
   unfolding round_of
   any-round_of round = any-chosen round (round == 0) refl
 
   -- who speaks in some rounds
-  any-said : (rounds : List ℕ) → list_any (λ s. s.daemon == daemon) (flat_map round_of rounds) ≡ list_any (λ round. daemon_of round == daemon) rounds
+  any-said : (rounds : List ℕ) → list_any (λ s. s.daemon == daemon) (flat_map round_of rounds) ≡ list_any (λ round. round_daemon round == daemon) rounds
   any-said [] = refl
   any-said (round ∷ rounds) =
       list_any-append (λ s. s.daemon == daemon) (round_of round) (flat_map round_of rounds)
       ∙ ap (λ b. b || list_any (λ s. s.daemon == daemon) (flat_map round_of rounds)) (any-round_of round)
-      ∙ ap (λ b. (daemon_of round == daemon) || b) (any-said rounds)
+      ∙ ap (λ b. (round_daemon round == daemon) || b) (any-said rounds)
 
 -- whether a daemon is among the first so many
 abbrev is_among : ℕ → ℕ → Bool
@@ -69,7 +69,7 @@ among_next daemon most = grind (arith, nat_tests)
 among_before : (daemon most here : ℕ) → here < most → (is_among most daemon || (1 + here == daemon)) ≡ is_among most daemon
 among_before daemon most here low = grind (arith, nat_tests)
 
-one_round_more : (daemon rounds : ℕ) → (is_among (min 4 rounds) daemon || (daemon_of rounds == daemon)) ≡ is_among (min 4 (suc rounds)) daemon
+one_round_more : (daemon rounds : ℕ) → (is_among (min 4 rounds) daemon || (round_daemon rounds == daemon)) ≡ is_among (min 4 (suc rounds)) daemon
 one_round_more daemon rounds =
     elim (cases_lt rounds 4) [
       | inl few ↦
@@ -83,7 +83,7 @@ one_round_more daemon rounds =
           let low : rounds % 4 < 4 = omega arith in
           let old : min 4 rounds ≡ 4 = omega (arith, many) in
           let new : min 4 (suc rounds) ≡ 4 = omega (arith, many) in
-          ap (λ n. is_among n daemon || (daemon_of rounds == daemon)) old
+          ap (λ n. is_among n daemon || (round_daemon rounds == daemon)) old
           ∙ among_before daemon 4 (rounds % 4) low ∙ ap (λ n. is_among n daemon) (sym new)
     ]
 
@@ -91,10 +91,10 @@ among_none : (daemon : ℕ) → false ≡ is_among 0 daemon
 among_none daemon = grind (arith, nat_tests)
 
 -- the daemons of the rounds from 0 on
-any-rounds : (daemon rounds : ℕ) → list_any (λ round. daemon_of round == daemon) (range_with_len 0 rounds) ≡ is_among (min 4 rounds) daemon
+any-rounds : (daemon rounds : ℕ) → list_any (λ round. round_daemon round == daemon) (range_with_len 0 rounds) ≡ is_among (min 4 rounds) daemon
 any-rounds daemon zero = among_none daemon
 any-rounds daemon (suc rounds) =
-    let test : ℕ → Bool = λ round. daemon_of round == daemon in
+    let test : ℕ → Bool = λ round. round_daemon round == daemon in
     let here : 0 + rounds ≡ rounds = omega arith in
     ap (list_any test) (range_push 0 rounds)
     ∙ list_any-append test (range_with_len 0 rounds) ((0 + rounds) ∷ [])

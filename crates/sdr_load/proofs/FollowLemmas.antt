@@ -8,11 +8,11 @@ use Rattle.std.specs.List.{flat_map, list_any, range_with_len}
 use Rattle.hex.specs.Hex.{IsBytes}
 use Rattle.sdr_load.proofs.ReadingLemmas.{Follows, Follows-append}
 use Rattle.sdr_load.proofs.StatementLemmas.{length-numbered, numbered-append}
-use Rattle.sdr_load.specs.Rounds.{adding, byte_in, closing, daemon_of, dropping, drops_oldest, is_cancelled, later_round, length_in, opening, round_of}
+use Rattle.sdr_load.specs.Rounds.{adding, byte_in, closing, round_daemon, dropping, drops_oldest, is_round_cancelled, later_round, length_in, opening, round_of}
 use Rattle.sdr_load.specs.Schedule.{script_for}
 use Rattle.sdr_load.specs.Statements.{binds, numbered, says, step_in}
 use Rattle.sdr_load.specs.VerbPlaces.{place_of}
-use Rattle.sdr_load.specs.VerbWords.{word_of}
+use Rattle.sdr_load.specs.VerbWords.{verb_word}
 use Rattle.sdr_load.specs.declared.statement.Statement.{Statement}
 use Rattle.sdr_load.specs.declared.verb.Verb.{Verb}
 use Rattle.sdr_load.specs.declared.verb.Verb.TheVariants as verbs
@@ -24,7 +24,7 @@ use Rattle.sdr_words.specs.Verbs.{shapes, shapes_at, verb_names}
 use Rattle.sdr_words.specs.Words.{is_name}
 
 -- each verb has its place in the table
-in_table : (verb : Verb) → place_of (word_of verb) < length verb_names
+in_table : (verb : Verb) → place_of (verb_word verb) < length verb_names
 unfolding place_of verb_names
 in_table verbs.Begin = lit< tt
 in_table verbs.End = lit< tt
@@ -72,7 +72,7 @@ module _ (daemon : ℕ) (low : 1 ≤ daemon) (high : daemon ≤ 16) where
 
   -- a statement of the daemon is a step behind earlier ones
   step_is : (earlier : List ScriptStep) (line : ℕ) (s : Statement) → s.daemon ≡ daemon → (s.name ≡ []) ⊎ (is_name s.name ≡ true)
-      → AreArgs (is_bound_by earlier s.daemon) (shapes_at (place_of (word_of s.verb))) s.args → IsStep earlier (step_in line s)
+      → AreArgs (is_bound_by earlier s.daemon) (shapes_at (place_of (verb_word s.verb))) s.args → IsStep earlier (step_in line s)
   step_is earlier line s by name are = record {
     first_daemon = omega (arith, by, low);
     last_daemon = omega (arith, by, high);
@@ -201,7 +201,7 @@ later_follows daemon low high earlier line bytes byte drops cancelled fits small
 chosen_follows : (first : Bool) (earlier : List ScriptStep) (line round : ℕ) → Follows earlier line (numbered line (cond first (opening 1) (later_round round)))
 chosen_follows true earlier line round = opening_follows 1 (lit≤ tt) (lit≤ tt) earlier line
 chosen_follows false earlier line round =
-    later_follows (daemon_of round) (omega arith) (omega arith) earlier line (length_in round) (byte_in round) (drops_oldest round) (is_cancelled round)
+    later_follows (round_daemon round) (omega arith) (omega arith) earlier line (length_in round) (byte_in round) (drops_oldest round) (is_round_cancelled round)
     (omega arith) (omega arith)
 
 round_follows : (earlier : List ScriptStep) (line round : ℕ) → Follows earlier line (numbered line (round_of round))

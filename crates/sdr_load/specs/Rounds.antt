@@ -7,8 +7,8 @@ use Rattle.sdr_load.specs.declared.verb.Verb.TheVariants as verbs
 use Rattle.sdr_model.specs.declared.script.Arg.TheVariants as args
 
 -- the daemon of a round
-abbrev pub daemon_of : ℕ → ℕ
-daemon_of round = 1 + round % 4
+abbrev pub round_daemon : ℕ → ℕ
+round_daemon round = 1 + round % 4
 
 -- how many bytes the object of a round has
 abbrev pub length_in : ℕ → ℕ
@@ -19,8 +19,8 @@ abbrev pub byte_in : ℕ → ℕ
 byte_in round = round % 256
 
 -- whether a round is cancelled: 3 divides it
-abbrev pub is_cancelled : ℕ → Bool
-is_cancelled round = round % 3 == 0
+abbrev pub is_round_cancelled : ℕ → Bool
+is_round_cancelled round = round % 3 == 0
 
 -- the rounds behind round 0 and before this one
 abbrev pub rounds_before : ℕ → List ℕ
@@ -28,7 +28,7 @@ rounds_before round = range_with_len 1 (round - 1)
 
 -- whether the oldest element goes in a round: eight or more of the rounds before it aren't divisible by 3
 abbrev pub drops_oldest : ℕ → Bool
-drops_oldest round = nat_le 8 (count_by (λ earlier. not (is_cancelled earlier)) (rounds_before round))
+drops_oldest round = nat_le 8 (count_by (λ earlier. not (is_round_cancelled earlier)) (rounds_before round))
 
 module _ (daemon : ℕ) where
   -- a list is made, and gets the name `load`
@@ -66,9 +66,9 @@ module _ (daemon : ℕ) where
 -- the statements of a round behind round 0
 abbrev pub later_round : ℕ → List Statement
 later_round round =
-    adding (daemon_of round) (length_in round) (byte_in round)
-    ++ (if drops_oldest round then dropping (daemon_of round) else [])
-    ++ closing (daemon_of round) (is_cancelled round) ∷ []
+    adding (round_daemon round) (length_in round) (byte_in round)
+    ++ (if drops_oldest round then dropping (round_daemon round) else [])
+    ++ closing (round_daemon round) (is_round_cancelled round) ∷ []
 
 -- the statements of a round
 unfoldable pub round_of : ℕ → List Statement

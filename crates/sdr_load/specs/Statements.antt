@@ -1,7 +1,7 @@
 -- Statements of daemons, and the steps that they are, a line each.
 use Rattle.std.specs.Prelude.{ℕ, ◌+◌, List, [], ◌∷◌}
 use Rattle.sdr_load.specs.VerbPlaces.{place_of}
-use Rattle.sdr_load.specs.VerbWords.{word_of}
+use Rattle.sdr_load.specs.VerbWords.{verb_word}
 use Rattle.sdr_load.specs.declared.statement.Statement.{Statement}
 use Rattle.sdr_load.specs.declared.verb.Verb.{Verb}
 use Rattle.sdr_model.specs.declared.script.Arg.{Arg}
@@ -18,7 +18,7 @@ binds daemon name verb args = record { daemon = daemon; name = name; verb = verb
 -- the step of a statement in a line
 abbrev pub step_in : ℕ → Statement → ScriptStep
 step_in line s =
-    record { line = line; daemon = s.daemon; name = s.name; verb = place_of (word_of s.verb); args = s.args }
+    record { line = line; daemon = s.daemon; name = s.name; verb = place_of (verb_word s.verb); args = s.args }
 
 -- the steps of statements one behind another, a line each, from this line on
 abbrev pub numbered : ℕ → List Statement → List ScriptStep

@@ -4,17 +4,17 @@ use Rattle.sdr_load.specs.declared.verb.Verb.{Verb}
 use Rattle.sdr_load.specs.declared.verb.Verb.TheVariants as verbs
 
 -- the word of a verb
-abbrev pub word_of : Verb → List ℕ
-word_of verbs.Begin = codes "begin"
-word_of verbs.End = codes "end"
-word_of verbs.Cancel = codes "cancel"
-word_of verbs.Malloc = codes "malloc"
-word_of verbs.Free = codes "free"
-word_of verbs.Write = codes "write"
-word_of verbs.List = codes "list"
-word_of verbs.InsertLast = codes "insert_last"
-word_of verbs.Delete = codes "delete"
-word_of verbs.First = codes "first"
-word_of verbs.Datum = codes "data"
-word_of verbs.Catlg = codes "catlg"
-word_of verbs.Find = codes "find"
+abbrev pub verb_word : Verb → List ℕ
+verb_word verbs.Begin = codes "begin"
+verb_word verbs.End = codes "end"
+verb_word verbs.Cancel = codes "cancel"
+verb_word verbs.Malloc = codes "malloc"
+verb_word verbs.Free = codes "free"
+verb_word verbs.Write = codes "write"
+verb_word verbs.List = codes "list"
+verb_word verbs.InsertLast = codes "insert_last"
+verb_word verbs.Delete = codes "delete"
+verb_word verbs.First = codes "first"
+verb_word verbs.Datum = codes "data"
+verb_word verbs.Catlg = codes "catlg"
+verb_word verbs.Find = codes "find"

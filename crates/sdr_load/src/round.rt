@@ -4,10 +4,10 @@ ghost use Rattle.sdr_load.specs.Rounds.{
   adding,
   byte_in,
   closing,
-  daemon_of,
+  round_daemon,
   dropping,
   drops_oldest,
-  is_cancelled,
+  is_round_cancelled,
   later_round,
   length_in,
   opening,
@@ -27,8 +27,8 @@ pub const MOST_ROUNDS: u64 = 10_000;
 // Where so many rounds ended, each further one takes the oldest element out.
 const KEPT: u64 = 8;
 
-fn daemon_of(round: u64) -> u8
-    ensures { result ≡ daemon_of round }
+fn round_daemon(round: u64) -> u8
+    ensures { result ≡ round_daemon round }
 {
     (1 + round % 4) as u8
 }
@@ -46,8 +46,8 @@ fn byte_in(round: u64) -> u8
     (round % 256) as u8
 }
 
-fn is_cancelled(round: u64) -> bool
-    ensures { result ≡ is_cancelled round }
+fn is_round_cancelled(round: u64) -> bool
+    ensures { result ≡ is_round_cancelled round }
 {
     round % 3 == 0
 }
@@ -195,11 +195,11 @@ fn later_round(alloc: Global, round: u64) -> Result<Vec<Statement>, NoMemory>
 {
     let by = Speaker {
         alloc,
-        daemon: daemon_of(round),
+        daemon: round_daemon(round),
     };
     let mut said = by.adds(length_in(round), byte_in(round))?;
     said.append(&mut by.drops_where(drops_oldest(round))?)?;
-    said.push(by.closes(is_cancelled(round)))?;
+    said.push(by.closes(is_round_cancelled(round)))?;
     Ok(said)
 }
 

@@ -1,6 +1,6 @@
 // The verbs of a load.
 ghost use Rattle.std.specs.Prelude.{◌≡◌};
-ghost use Rattle.sdr_load.specs.VerbWords.{word_of};
+ghost use Rattle.sdr_load.specs.VerbWords.{verb_word};
 ghost use Rattle.sdr_load.specs.VerbPlaces.{place_of};
 
 /// What a statement of a load asks for.
@@ -25,7 +25,7 @@ impl Verb {
     /// The place of the verb in the grammar's table of verbs, from 0.
     #[tactic(auto, unfolding(crate::specs::VerbPlaces::place_of, sdr_words::specs::Verbs::verb_names))]
     pub fn place(self) -> u64
-        ensures { result ≡ place_of (word_of self) }
+        ensures { result ≡ place_of (verb_word self) }
     {
         match self {
             Verb::Begin => 0,

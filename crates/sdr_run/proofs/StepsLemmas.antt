@@ -1,5 +1,5 @@
 -- The next of some steps.
-use Rattle.std.proofs.Common.{◌≡◌, ◌∷◌, List, [], Option, None, Some, IfSome, refl, true≢false}
+use Rattle.std.proofs.Common.{◌≡◌, ◌∷◌, List, [], Option, None, Some, IfSome, drop, refl, true≢false}
 use Rattle.std.specs.List.{slice_get}
 use Rattle.std.specs.Option.{IsNone, option_map}
 use Rattle.sdr_model.specs.declared.script.ScriptStep.{ScriptStep}
@@ -16,3 +16,8 @@ pub starts_with : (steps : List ScriptStep) (first : Option ScriptStep) → firs
 starts_with steps None is = tt
 starts_with [] (Some step) is = cc
 starts_with (first ∷ rest) (Some step) is = record { rest = rest; is = cc }
+
+-- steps that begin with one begin so, whatever their rest
+pub starts_then : (steps : List ScriptStep) (first : Option ScriptStep) → IfSome first (λ step. steps ≡ step ∷ drop 1 steps) → IfSome first (StartsWith steps)
+starts_then steps None is = tt
+starts_then steps (Some step) is = record { rest = drop 1 steps; is = is }

@@ -8,5 +8,6 @@ pub mod Playing
 pub mod Recording
 pub mod Replaying
 pub mod Opening
+pub mod Quiet
 pub mod Running
 pub mod Settled

@@ -27,14 +27,44 @@ impl<D: Disk, M: Media, J: HandedIn> Model for HandedGround<D, M, J> {
 }
 
 impl<D: Disk, M: Media, J: HandedIn> HandedGround<D, M, J> {
-    ghost use Rattle.std.specs.Prelude.{◌≡◌};
+    ghost use Rattle.std.specs.Prelude.{◌≡◌, OnErr, OnOk, false, true};
+    ghost use Rattle.sdr_base.specs.Causes.{Rose};
+    ghost use Rattle.sdr_machine.specs.Serving.{Brings, Calls, RollsBack};
+    ghost use Rattle.sdr_model.specs.Reading.{is_reading, reads_media};
     ghost use Rattle.sdr_run.specs.Handed.{StaysAsHanded};
+    ghost use Rattle.sdr_run.specs.Quiet.{StaysQuiet};
+    ghost use Rattle.sdr_station.specs.Grounded.{StandsInMemory};
 
     pub fn new(ground: HeapGround<Handed<D, J>, M, Compares>) -> HandedGround<D, M, J>
         requires { StaysAsHanded J.was.bytes (D.bytes ground.heap.cells.disk) ground.heap.cells.frame }
         ensures { result ≡ ground }
     {
         HandedGround { ground }
+    }
+
+    /// Rolls the open transaction back. It makes no call of the disk.
+    pub fn restore(&mut self) -> Result<(), Fault>
+        ensures back { OnOk result (Brings StandsInMemory self.old self.new RollsBack) }
+        ensures going { OnOk result (self.old.heap.cells.failed ≡ false → self.new.stopped ≡ false) }
+        ensures fault { OnErr result (Rose (D.faults self.old.heap.cells.disk)
+            (D.faults self.new.heap.cells.disk)) }
+        ensures still { StaysQuiet self.old self.new }
+        ensures seen { self.old.moment ≡ D.moment self.old.heap.cells.disk }
+    {
+        self.ground.restore()
+    }
+
+    /// Makes a call that reads, and asks no media, in a transaction in which none was stopped. It makes no call of the disk.
+    pub fn read(&mut self, call: &Call) -> Reply
+        requires reads { is_reading call.now ≡ true }
+        requires unasked { reads_media call.now ≡ false }
+        requires going { self.old.stopped ≡ false }
+        ensures answered { Brings StandsInMemory self.old self.new
+            (Calls (M.told self.old.media) call.now result) }
+        ensures going { self.new.stopped ≡ false }
+        ensures still { StaysQuiet self.old self.new }
+    {
+        self.ground.serve(call)
     }
 
     /// The disk and the media. What the open transaction has done is lost.

@@ -1,5 +1,5 @@
 // Where the steps of a schedule come from.
-ghost use Rattle.std.specs.Prelude.{◌≡◌, ◌≤◌, ◌∷◌, ◌==◌, [], List, IfOk, IfSome, IsNone, OnOk, filter, length};
+ghost use Rattle.std.specs.Prelude.{◌≡◌, ◌≤◌, ◌∷◌, ◌==◌, [], ℕ, List, false, IfOk, IfSome, IsNone, OnOk, filter, get_or, length};
 ghost use Rattle.std.specs.List.{list_any};
 ghost use Rattle.std.specs.Option.{option_copied};
 ghost use Rattle.sdr_model.specs.declared.script.ScriptStep.{ScriptStep as Step};
@@ -7,6 +7,7 @@ ghost use Rattle.sdr_run.specs.Steps.{StartsWith};
 ghost use Rattle.sdr_words.specs.Daemons.{daemons_of};
 
 use sdr_base::NoMemory;
+use sdr_load::LoadSteps;
 use sdr_model::ScriptStep;
 use std::alloc::Global;
 use std::marker::Model;
@@ -65,11 +66,28 @@ impl Steps for ScriptSteps<'_> {
     }
 }
 
-// Whether a step is this daemon's.
-fn names(script: &[ScriptStep], daemon: u8) -> bool
-    ensures { result ≡ list_any (λ step. step.daemon == daemon) script.now }
+impl Steps for LoadSteps {
+    ghost left = { λ s. s };
+
+    fn next(&self) -> Option<&ScriptStep> {
+        LoadSteps::next(self)
+    }
+
+    fn pass(&mut self) -> Result<(), NoMemory> {
+        LoadSteps::pass(self)
+    }
+}
+
+// Whether a script names each daemon, by its number.
+fn named_by(script: &[ScriptStep]) -> [bool; 256]
+    ensures { (daemon : ℕ) → daemon ≤ 255 →
+        get_or result daemon false ≡ list_any (λ step. step.daemon == daemon) script.now }
 {
-    script.iter().any(|step| step.daemon == daemon)
+    let mut named = [false; 256];
+    for step in script {
+        named[step.daemon as usize] = true;
+    }
+    named
 }
 
 /// The daemons that a script names.
@@ -77,7 +95,8 @@ pub fn daemons_of(alloc: Global, script: &[ScriptStep]) -> Result<Vec<u8>, NoMem
     ensures named { IfOk result (λ daemons. daemons.items ≡ daemons_of script.now) }
     ensures few { IfOk result (λ daemons. length daemons.items ≤ 16) }
 {
+    let named = named_by(script);
     (1..17u8)
-        .filter(|daemon| names(script, *daemon))
+        .filter(|daemon| named[*daemon as usize])
         .collect(alloc)
 }

@@ -12,12 +12,14 @@ use Rattle.sdr_log.specs.Calls.{KeepsDisk}
 use Rattle.sdr_log.specs.declared.frame.Frame.{Frame}
 use Rattle.sdr_run.specs.Playing.{ReplaysSteps}
 use Rattle.sdr_shell.proofs.InspectLemmas as inspection
+use Rattle.sdr_shell.proofs.LoadLemmas as load
 use Rattle.sdr_shell.proofs.OnHeapLemmas as heap_run
 use Rattle.sdr_shell.proofs.RecoverLemmas as recovery
 use Rattle.sdr_shell.proofs.StillLemmas.{reads_none}
 use Rattle.sdr_shell.specs.Answers.{AnswersDry, AnswersFormat, Seen, Wrote, change_of, seen}
 use Rattle.sdr_shell.specs.Formatting.{HasFormatted, IsFormatStatus, LeavesDisk}
 use Rattle.sdr_shell.specs.Inspecting.{AnswersInspect}
+use Rattle.sdr_shell.specs.Loading.{AnswersLoad}
 use Rattle.sdr_shell.specs.Recovering.{AnswersRecover}
 use Rattle.sdr_shell.specs.Running.{AnswersRun, PrintsJournal}
 use Rattle.sdr_shell.specs.Still.{IsDryStatus}
@@ -101,11 +103,12 @@ module _ {D M S K : Type 0} (d : DiskGhosts D) (m : MediaGhosts M) (s : SourceGh
     each = reads_none (s.left input) (s.reads input);
     replay = λ is. absurd (cc);
     run = λ totals is. absurd (cc);
+    load = λ rounds is. absurd (cc);
     recover = λ is. absurd (cc);
     inspect = λ is. absurd (cc);
-    given = λ _ _. refl;
+    given = λ _ _ _. refl;
     media = failed_refl (seen_media m.told m.faults m.short files);
-    unread = λ _ _ _. refl;
+    unread = λ _ _ _ _. refl;
     same = λ _ _. refl;
     told = (refl, refl);
   }
@@ -126,11 +129,12 @@ module _ {D M S K : Type 0} (d : DiskGhosts D) (m : MediaGhosts M) (s : SourceGh
     each = each;
     replay = λ is. absurd (cc);
     run = λ totals is. absurd (cc);
+    load = λ rounds is. absurd (cc);
     recover = λ is. absurd (cc);
     inspect = λ is. absurd (cc);
-    given = λ _ _. refl;
+    given = λ _ _ _. refl;
     media = media;
-    unread = λ other _ _. absurd (other refl);
+    unread = λ other _ _ _. absurd (other refl);
     same = λ _ _. refl;
     told = (refl, refl);
   }
@@ -153,11 +157,12 @@ module _ {D M S K : Type 0} (d : DiskGhosts D) (m : MediaGhosts M) (s : SourceGh
     each = reads_none (s.left input) (s.reads input);
     replay = λ is. absurd (cc);
     run = λ totals is. absurd (cc);
+    load = λ rounds is. absurd (cc);
     recover = λ is. absurd (cc);
     inspect = λ is. absurd (cc);
-    given = λ _ _. refl;
+    given = λ _ _ _. refl;
     media = failed_refl (seen_media m.told m.faults m.short files);
-    unread = λ _ _ _. refl;
+    unread = λ _ _ _ _. refl;
     same = λ _ leaves. small (format_leaves status answers.known leaves);
     told = (tells, size);
   }
@@ -180,11 +185,12 @@ module _ {D M S K : Type 0} (d : DiskGhosts D) (m : MediaGhosts M) (s : SourceGh
         each = e.each;
         replay = λ is. e.answers;
         run = λ totals is. absurd (cc);
+        load = λ rounds is. absurd (cc);
         recover = λ is. absurd (cc);
         inspect = λ is. absurd (cc);
-        given = λ other _. absurd (other refl);
+        given = λ other _ _. absurd (other refl);
         media = e.media;
-        unread = λ _ other _. absurd (other refl);
+        unread = λ _ other _ _. absurd (other refl);
         same = λ opens. absurd (true≢false opens);
         told = (e.keeps.tells, e.keeps.size);
       }
@@ -210,13 +216,45 @@ module _ {D M S K : Type 0} (d : DiskGhosts D) (m : MediaGhosts M) (s : SourceGh
             let same : with_totals ≡ totals = cc is in
             subst (λ (b : Bool). AnswersRun b d m r.status (source input) (source input') disk r.disk files r.media r.journal (sink output) (sink output')) same
             e.answers;
+        load = λ rounds is. absurd (cc);
         recover = λ is. absurd (cc);
         inspect = λ is. absurd (cc);
-        given = λ _ other. absurd (true≢false other);
+        given = λ _ other _. absurd (true≢false other);
         media = e.media;
-        unread = λ _ _ other. absurd (true≢false other);
+        unread = λ _ _ other _. absurd (true≢false other);
         same = λ opens. absurd (true≢false opens);
         told = (e.keeps.tells, e.keeps.size);
+      }
+
+  -- to `load`
+  pub answers_load : (rounds : ℕ) (r : RunOutcome D M)
+      → AnswersLoad rounds d m r.status disk r.disk files r.media r.journal (sink output) (sink output')
+      → HaveFailed 0 0 (change_of m files r.media) → (k.faults output ≤ k.faults output') × (d.faults disk ≤ d.faults r.disk)
+      → KeepsDisk d.size d.bytes disk r.disk → AnswersForm d m s k (Some (forms.Load rounds)) disk files input input output output' r
+  answers_load rounds r answers media later keeps =
+      let never : r.status ≡ USAGE → ⊥ =
+      load.never_usage d m rounds disk r.disk files r.media r.journal (sink output) (sink output') r.status answers.comes in
+      record {
+        usage = (λ is. absurd (never is), λ none. absurd (cc));
+        usage_text = λ is. absurd (never is);
+        usage_input = λ none. absurd (cc);
+        dry = λ is. absurd (cc);
+        format = tt;
+        synced = tt;
+        counts = (omega arith, later.0, later.1, omega arith);
+        each = reads_none (s.left input) (s.reads input);
+        replay = λ is. absurd (cc);
+        run = λ totals is. absurd (cc);
+        load = λ asked is.
+            let same : rounds ≡ asked = cc in
+            (refl, subst (λ (n : ℕ). AnswersLoad n d m r.status disk r.disk files r.media r.journal (sink output) (sink output')) same answers);
+        recover = λ is. absurd (cc);
+        inspect = λ is. absurd (cc);
+        given = λ _ _ other. absurd (true≢false other);
+        media = media;
+        unread = λ _ _ _ other. absurd (true≢false other);
+        same = λ opens. absurd (true≢false opens);
+        told = (keeps.tells, keeps.size);
       }
 
   -- to `recover`
@@ -237,11 +275,12 @@ module _ {D M S K : Type 0} (d : DiskGhosts D) (m : MediaGhosts M) (s : SourceGh
         each = reads_none (s.left input) (s.reads input);
         replay = λ is. absurd (cc);
         run = λ totals is. absurd (cc);
+        load = λ rounds is. absurd (cc);
         recover = λ is. (refl, answers);
         inspect = λ is. absurd (cc);
-        given = λ _ _. refl;
+        given = λ _ _ _. refl;
         media = failed_refl (seen_media m.told m.faults m.short files);
-        unread = λ _ _ _. refl;
+        unread = λ _ _ _ _. refl;
         same = λ opens. absurd (true≢false opens);
         told = (keeps.tells, keeps.size);
       }
@@ -264,11 +303,12 @@ module _ {D M S K : Type 0} (d : DiskGhosts D) (m : MediaGhosts M) (s : SourceGh
         each = reads_none (s.left input) (s.reads input);
         replay = λ is. absurd (cc);
         run = λ totals is. absurd (cc);
+        load = λ rounds is. absurd (cc);
         recover = λ is. absurd (cc);
         inspect = λ is. (refl, answers);
-        given = λ _ _. refl;
+        given = λ _ _ _. refl;
         media = failed_refl (seen_media m.told m.faults m.short files);
-        unread = λ _ _ _. refl;
+        unread = λ _ _ _ _. refl;
         same = λ opens. absurd (true≢false opens);
         told = (ap is_some answers.reads.same, size);
       }

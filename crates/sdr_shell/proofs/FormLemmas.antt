@@ -6,7 +6,7 @@ use Rattle.std.specs.Rc.{rc_str_bytes}
 use Rattle.std.specs.declared.alloc.Global.{Global}
 use Rattle.std.specs.declared.rc.RcStr.{RcStr}
 use Rattle.sdr_log.specs.declared.frame.Frame.{Frame}
-use Rattle.sdr_shell.specs.Form.{asks_live, form_of, format_of, is_word, live_form, live_totals, still_form}
+use Rattle.sdr_shell.specs.Form.{asks_live, form_of, format_of, is_word, live_form, live_totals, load_of, still_form}
 use Rattle.sdr_shell.specs.declared.form.Form.{Form}
 use Rattle.sdr_shell.specs.declared.form.Form.TheVariants as forms
 
@@ -14,6 +14,11 @@ use Rattle.sdr_shell.specs.declared.form.Form.TheVariants as forms
 run_is_not_format : (word : RcStr Global) → is_word word (codes "run") ≡ true → is_word word (codes "format") ≡ false
 run_is_not_format word is =
     subst (λ (l : List ℕ). pointwise nat_eq l (codes "format") ≡ false) (sym ((bytes_decides (rc_str_bytes word) (codes "run")).0 is)) refl
+
+-- nor is it `load`
+run_is_not_load : (word : RcStr Global) → is_word word (codes "run") ≡ true → is_word word (codes "load") ≡ false
+run_is_not_load word is =
+    subst (λ (l : List ℕ). pointwise nat_eq l (codes "load") ≡ false) (sym ((bytes_decides (rc_str_bytes word) (codes "run")).0 is)) refl
 
 -- a form that is told first is `run`
 live_first : (first : Bool) (other : Option Form) → first ≡ true
@@ -26,18 +31,21 @@ live_none : (later : Bool) (other : Option Form) → later ≡ false → live_fo
 live_none true other is = absurd (true≢false is)
 live_none false other is = refl
 
--- two words are `run` or no form
-live_two : (first second : Bool)
-    → live_form (if first && second then Some (forms.Run true) else None) ≡ (if first && second then Some (forms.Run true) else None)
-live_two true true = refl
-live_two true false = refl
-live_two false second = refl
+-- two words are `run` or no form, where they aren't `load`
+live_two : (first second load : Bool) (rounds : Option ℕ) → load ≡ false
+    → live_form (if first && second then Some (forms.Run true) else (if load then load_of rounds else None))
+    ≡ (if first && second then Some (forms.Run true) else (if load then load_of rounds else None))
+live_two first second true rounds is = absurd (true≢false is)
+live_two true true false rounds is = refl
+live_two true false false rounds is = refl
+live_two false second false rounds is = refl
 
 -- `live` answers words that are for it by their form
 pub live_words : (words : List (RcStr Global)) → asks_live words ≡ true → live_form (form_of words) ≡ form_of words
 live_words [] is = refl
 live_words (word ∷ []) is = live_first (is_word word (codes "run")) _ is
-live_words (word ∷ second ∷ []) is = live_two (is_word word (codes "run")) (is_word second (codes "totals"))
+live_words (word ∷ second ∷ []) is =
+    live_two (is_word word (codes "run")) (is_word second (codes "totals")) (is_word word (codes "load")) _ (run_is_not_load word is)
 live_words (word ∷ log ∷ heap ∷ []) is = live_none (is_word word (codes "format")) _ (run_is_not_format word is)
 live_words (word ∷ second ∷ third ∷ fourth ∷ words) is = refl
 
@@ -55,10 +63,13 @@ still_first false false false false true is = refl
 still_first false false false false false is = refl
 
 -- nor one of two
-still_two : (first second : Bool) → first ≡ false
-    → still_form (if first && second then Some (forms.Run true) else None) ≡ (if first && second then Some (forms.Run true) else None)
-still_two true second is = absurd (true≢false is)
-still_two false second is = refl
+still_two : (first second load : Bool) (rounds : Option ℕ) → first ≡ false
+    → still_form (if first && second then Some (forms.Run true) else (if load then load_of rounds else None))
+    ≡ (if first && second then Some (forms.Run true) else (if load then load_of rounds else None))
+still_two true second load rounds is = absurd (true≢false is)
+still_two false second true (Some rounds) is = refl
+still_two false second true None is = refl
+still_two false second false rounds is = refl
 
 -- nor one of three
 still_format : (format : Bool) (frame : Option Frame)
@@ -73,13 +84,15 @@ still_words [] is = refl
 still_words (word ∷ []) is =
     still_first (is_word word (codes "run")) (is_word word (codes "dry")) (is_word word (codes "replay")) (is_word word (codes "recover"))
     (is_word word (codes "inspect")) is
-still_words (word ∷ second ∷ []) is = still_two (is_word word (codes "run")) (is_word second (codes "totals")) is
+still_words (word ∷ second ∷ []) is =
+    still_two (is_word word (codes "run")) (is_word second (codes "totals")) (is_word word (codes "load")) _ is
 still_words (word ∷ log ∷ heap ∷ []) is = still_format (is_word word (codes "format")) _
 still_words (word ∷ second ∷ third ∷ fourth ∷ words) is = refl
 
 -- the form that is `run` is the one that `live` answers
 pub live_known : (form : Option Form) (totals : Bool) → live_totals form ≡ Some totals → live_form form ≡ Some (forms.Run totals)
 live_known (Some (forms.Run asked)) totals is = ap (λ (b : Bool). Some (forms.Run b)) (cc is)
+live_known (Some (forms.Load rounds)) totals is = absurd (cc is)
 live_known (Some forms.Dry) totals is = absurd (cc is)
 live_known (Some forms.Replay) totals is = absurd (cc is)
 live_known (Some forms.Recover) totals is = absurd (cc is)
@@ -90,6 +103,7 @@ live_known None totals is = absurd (cc is)
 -- and there is no other
 pub live_unknown : (form : Option Form) → live_totals form ≡ None → live_form form ≡ None
 live_unknown (Some (forms.Run asked)) is = absurd (cc is)
+live_unknown (Some (forms.Load rounds)) is = refl
 live_unknown (Some forms.Dry) is = refl
 live_unknown (Some forms.Replay) is = refl
 live_unknown (Some forms.Recover) is = refl

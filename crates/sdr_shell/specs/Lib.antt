@@ -2,6 +2,7 @@ pub mod Answers
 pub mod Form
 pub mod Formatting
 pub mod Inspecting
+pub mod Loading
 pub mod OnHeap
 pub mod Recovering
 pub mod Replaying

@@ -1,5 +1,5 @@
 -- What the public calls answer to the words of a command line.
-use Rattle.std.specs.Prelude.{◌≡◌, ◌≢◌, ◌≤◌, ◌+◌, ◌↔◌, Bool, IfSome, List, [], Option, None, Some, codes, false, is_some, length}
+use Rattle.std.specs.Prelude.{◌≡◌, ◌≢◌, ◌≤◌, ◌+◌, ◌↔◌, ℕ, Bool, IfSome, List, [], Option, None, Some, codes, false, is_some, length}
 use Rattle.std.specs.declared.alloc.Global.{Global}
 use Rattle.std.specs.declared.rc.RcStr.{RcStr}
 use Rattle.sdr_base.specs.declared.media.Media.{Ghosts as MediaGhosts}
@@ -8,8 +8,9 @@ use Rattle.sdr_base.specs.declared.source.Source.{Ghosts as SourceGhosts}
 use Rattle.sdr_disk.specs.Pending.{IsSynced}
 use Rattle.sdr_disk.specs.declared.disk.Disk.{Ghosts as DiskGhosts}
 use Rattle.sdr_shell.specs.Answers.{AnswersDry, AnswersFormat, Wrote, seen}
-use Rattle.sdr_shell.specs.Form.{OnFormat, form_of, is_live, live_form, opens_heap, still_form}
+use Rattle.sdr_shell.specs.Form.{OnFormat, form_of, is_live, is_load, live_form, opens_heap, still_form}
 use Rattle.sdr_shell.specs.Inspecting.{AnswersInspect}
+use Rattle.sdr_shell.specs.Loading.{AnswersLoad}
 use Rattle.sdr_shell.specs.Recovering.{AnswersRecover}
 use Rattle.sdr_shell.specs.Replaying.{AnswersReplay}
 use Rattle.sdr_shell.specs.Running.{AnswersRun}
@@ -57,6 +58,11 @@ pub record AnswersForm {D M S K : Type 0} (d : DiskGhosts D) (m : MediaGhosts M)
       (totals : Bool) → form ≡ Some (forms.Run totals)
       → AnswersRun totals d m result.status (seen s.left s.faults input) (seen s.left s.faults input') disk result.disk files result.media
       result.journal (seen k.taken k.faults output) (seen k.taken k.faults output')
+  -- `load` reads no input, and answers by what its rounds made on it, and what is left of the disk
+  pub load :
+      (rounds : ℕ) → form ≡ Some (forms.Load rounds) → (input' ≡ input)
+      × AnswersLoad rounds d m result.status disk result.disk files result.media result.journal (seen k.taken k.faults output)
+      (seen k.taken k.faults output')
   -- `recover` reads no input, and answers by what it puts back
   pub recover :
       form ≡ Some forms.Recover → (input' ≡ input)
@@ -65,12 +71,12 @@ pub record AnswersForm {D M S K : Type 0} (d : DiskGhosts D) (m : MediaGhosts M)
   pub inspect :
       form ≡ Some forms.Inspect → (input' ≡ input)
       × AnswersInspect d result.status disk result.disk (seen k.taken k.faults output) (seen k.taken k.faults output')
-  -- only `replay` and `run` keep a journal
-  pub given : (form ≢ Some forms.Replay) → is_live form ≡ false → result.journal ≡ []
+  -- only `replay`, `run` and `load` keep a journal
+  pub given : (form ≢ Some forms.Replay) → is_live form ≡ false → is_load form ≡ false → result.journal ≡ []
   -- media tell the same, and no count of theirs falls
   pub media : HaveFailed 0 0 (media_change m.told m.faults m.short files result.media)
-  -- only `dry`, `replay` and `run` read media
-  pub unread : (form ≢ Some forms.Dry) → (form ≢ Some forms.Replay) → is_live form ≡ false → result.media ≡ files
+  -- only `dry`, `replay`, `run` and `load` read media
+  pub unread : (form ≢ Some forms.Dry) → (form ≢ Some forms.Replay) → is_live form ≡ false → is_load form ≡ false → result.media ≡ files
   -- by these statuses the disk is as it was, where the words ask for no heap to be opened
   pub same : opens_heap form ≡ false → LeavesDisk result.status → result.disk ≡ disk
   -- the disk tells its bytes as before, and keeps its size

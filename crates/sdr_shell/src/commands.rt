@@ -16,6 +16,7 @@ use crate::form::{Form, form_of};
 use crate::formatting::format_disk;
 use crate::inspecting::inspect_disk;
 use crate::last_line::last_line;
+use crate::loading::load_disk;
 use crate::outcome::{no_form, without_journal};
 use crate::recovering::{Recovered, recover_disk};
 use crate::replaying::{RunEnd, replay_input, tell_ran};
@@ -169,6 +170,7 @@ pub fn still<D: Disk, M: Media, S: Source, K: Sink>(
             without_journal(alloc, status, disk, media)
         }
         Some(Form::Replay) => replay_input(alloc, disk, media, input, output),
+        Some(Form::Load { rounds }) => load_disk(alloc, rounds, disk, media, output),
         Some(Form::Recover) => {
             let Recovered { status, disk } = recover_disk(alloc, disk, output);
             without_journal(alloc, status, disk, media)

@@ -292,11 +292,13 @@ impl<D: Disk, M: Media, F: Notify + Drop> HeapGround<D, M, F> {
         }
     }
 
-    /// Puts back what was before the open transaction.
+    /// Puts back what was before the open transaction. It makes no call of the disk.
     pub fn restore(&mut self) -> Result<(), Fault>
         ensures memory { OnOk result (Brings StandsInMemory self.old self.new RollsBack) }
         ensures put_back { OnOk result
             (Brings ⟦<HeapGround<D, M, F> as HasGround>⟧.stands self.old self.new RollsBack) }
+        ensures disk { self.new.heap.cells.disk ≡ self.old.heap.cells.disk }
+        ensures seen { self.old.moment ≡ D.moment self.old.heap.cells.disk }
         ensures going { OnOk result
             (self.old.heap.cells.failed ≡ false → self.new.stopped ≡ false) }
         ensures idle { OnOk result

@@ -22,6 +22,8 @@ puts it back after a power loss.
                                  heap of the disk, and prints the journal
     sdrtool DISK run totals < SCRIPT
                                  the same, and a line of totals behind the journal
+    sdrtool DISK load N          runs a generated load of N rounds (1 to 10000) on the
+                                 heap of the disk, and prints a summary of it
     sdrtool DISK inspect         prints the world that the disk keeps: accounts,
                                  tickets, names and things; the disk is only read
     sdrtool DISK recover         puts back what a power loss cut short, and says
@@ -84,6 +86,7 @@ sdrtool: the words are none of these forms:
     sdrtool DISK replay < SCRIPT
     sdrtool DISK run < SCRIPT
     sdrtool DISK run totals < SCRIPT
+    sdrtool DISK load N            N is 1 to 10000
     sdrtool DISK inspect
     sdrtool DISK recover
     sdrtool DISK dry < SCRIPT

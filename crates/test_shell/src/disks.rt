@@ -28,17 +28,19 @@ pub fn formatted(alloc: Global) -> Option<Vec<u8>> {
     bytes_of(&disk)
 }
 
-/// What a word and this input come to on a disk of these bytes, whose calls with these numbers fail.
+/// What these words and this input come to on a disk of these bytes, whose calls with these numbers fail.
 pub fn answered(
     alloc: Global,
-    word: &str,
+    form: &[&str],
     bytes: Vec<u8>,
     failing: Vec<u64>,
     input: &[u8],
     output: &mut MemorySink,
 ) -> Option<RunOutcome<MemoryDisk, NoMedia>> {
     let mut words = Vec::new(alloc);
-    words.push(RcStr::from_str(alloc, word).ok()?).ok()?;
+    for word in form {
+        words.push(RcStr::from_str(alloc, word).ok()?).ok()?;
+    }
     let mut source = MemorySource::new(Bytes::copied(alloc, input).ok()?, Vec::new(alloc));
     let disk = MemoryDisk::new(bytes, failing);
     Some(still(alloc, &words, disk, NoMedia::new(), &mut source, output))

@@ -14,6 +14,8 @@ mod disks;
 #[cfg(test)]
 mod format_tests;
 #[cfg(test)]
+mod load_tests;
+#[cfg(test)]
 mod machine_tests;
 #[cfg(test)]
 mod recover_tests;

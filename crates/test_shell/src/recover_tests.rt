@@ -13,14 +13,28 @@ const SCRIPT: &[u8] = b"1: begin\n1: string \"hello\"\n1: end\n";
 fn broken(alloc: Global, torn: Torn) -> Option<Vec<u8>> {
     let mut output = MemorySink::new(alloc, Vec::new(alloc));
     let bytes = formatted(alloc)?;
-    let played = answered(alloc, "replay", bytes, Vec::new(alloc), SCRIPT, &mut output)?;
+    let played = answered(
+        alloc,
+        &["replay"],
+        bytes,
+        Vec::new(alloc),
+        SCRIPT,
+        &mut output,
+    )?;
     played.disk.image_at(11, torn).ok()
 }
 
 // Whether a recovery of these bytes prints this, with the disk that it leaves.
 fn recovered(alloc: Global, bytes: Vec<u8>, text: &[u8]) -> Option<(bool, MemoryDisk)> {
     let mut output = MemorySink::new(alloc, Vec::new(alloc));
-    let outcome = answered(alloc, "recover", bytes, Vec::new(alloc), b"", &mut output)?;
+    let outcome = answered(
+        alloc,
+        &["recover"],
+        bytes,
+        Vec::new(alloc),
+        b"",
+        &mut output,
+    )?;
     let told = outcome.status == DONE && output.taken() == text;
     Some((told, outcome.disk))
 }

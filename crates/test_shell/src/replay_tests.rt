@@ -27,7 +27,7 @@ fn replayed(
     script: &[u8],
     output: &mut MemorySink,
 ) -> Option<RunOutcome<MemoryDisk, NoMedia>> {
-    answered(alloc, "replay", bytes, failing, script, output)
+    answered(alloc, &["replay"], bytes, failing, script, output)
 }
 
 // The status of a script on a formatted disk whose call of this number fails, 0 for none, and whether this is printed.

@@ -1,9 +1,9 @@
 use Rattle.std.proofs.Common.{rules, ◌≡◌, Bool, None, Some, ap, refl}
-use Rattle.sdr_shell.proofs.AnsweringLemmas.{answers_dry, answers_format, answers_inspect, answers_recover, answers_replay, answers_usage, form_at, unrun}
+use Rattle.sdr_shell.proofs.AnsweringLemmas.{answers_dry, answers_format, answers_inspect, answers_load, answers_recover, answers_replay, answers_usage, form_at, unrun}
 use Rattle.sdr_shell.proofs.StillLemmas.{dry_completes, format_completes, not_run, spells_none}
 use Rattle.sdr_shell.specs.Answers.{AnswersDry, AnswersFormat, seen}
 use Rattle.sdr_shell.specs.Form.{form_of, still_form}
-use Rattle.sdr_shell.specs.declared.form.Form.TheVariants.{Dry, Format, Inspect, Recover, Replay, Run}
+use Rattle.sdr_shell.specs.declared.form.Form.TheVariants.{Dry, Format, Inspect, Load, Recover, Replay, Run}
 use Rattle.sdr_shell.specs.declared.status.TheConstants.{USAGE}
 use Rattle.sdr_shell.proofs.commands.still.Goals as goal
 
@@ -69,6 +69,16 @@ returns-in-Some-Replay g c =
     c.replay_input.new.output (still_form (form_of c.args.words.now)) (Some Replay) c.replay_input.result c.replay_input.result (ap still_form form) refl
     (answers_replay g.D.Disk g.M.Media g.S.Source g.K.Sink c.args.disk c.args.media c.args.input.now c.replay_input.new.input c.args.output.now
     c.replay_input.new.output c.replay_input.result c.replay_input.ensures)
+
+pub returns-in-Some-Load : goal.returns-in-Some-Load
+returns-in-Some-Load g c =
+    let rounds = c.in-Some-Load.rounds in
+    let e = c.load_disk.ensures in
+    let form : form_of c.args.words.now ≡ Some (Load rounds) = cc (c.in-Some-Load.ensures.form) in
+    form_at g.D.Disk g.M.Media g.S.Source g.K.Sink c.args.disk c.args.media c.args.input.now c.args.input.now c.args.output.now
+    c.load_disk.new.output (still_form (form_of c.args.words.now)) (Some (Load rounds)) c.load_disk.result c.load_disk.result (ap still_form form) refl
+    (answers_load g.D.Disk g.M.Media g.S.Source g.K.Sink c.args.disk c.args.media c.args.input.now c.args.input.now c.args.output.now
+    c.load_disk.new.output rounds c.load_disk.result e.answers e.media e.later e.keeps)
 
 pub returns-in-Some-Recover : goal.returns-in-Some-Recover
 returns-in-Some-Recover g c =

@@ -53,6 +53,8 @@ returns-in-Ok g c =
     record {
       memory = all.memory;
       put_back = all.brings;
+      disk = ap (λ (h : Held (Opened D)). h.cells.disk) at.ensures.same ∙ e.same ∙ ap (λ (o : Grounded D M). o.heap.cells.disk) c.self.view_is;
+      seen = subst (λ (o : Grounded D M). o.moment ≡ m o.heap.cells.disk) c.self.view_is c.self.invariant.seen;
       going = λ _. refl;
       idle = λ _. refl;
       sound = all.sound ∙ sym (ap (λ (o : Grounded D M). o.heap.cells.failed) (sym c.self.view_is) ∙ sound);

@@ -1,0 +1,157 @@
+// What is asked of a heap that was run on, by reading calls.
+ghost use Rattle.std.specs.Prelude.{◌≡◌, ◌≤◌, ◌+◌, ◌^◌, ℕ, List, IfSome, Some, is_some, length};
+ghost use Rattle.std.specs.Option.{option_map};
+ghost use Rattle.run_load.specs.Asking.{AnswersByRow, AsksOnly, IsAskable, IsQuestion};
+ghost use Rattle.run_load.specs.Asking.{addr_in, object_in, tells_bytes, value_in};
+ghost use Rattle.run_load.specs.Listed.{list_at, load_name, load_object, raw_bytes_at};
+ghost use Rattle.sdr_machine.specs.Standing.{GroundState};
+ghost use Rattle.sdr_model.specs.Limits.{longest_raw};
+ghost use Rattle.sdr_model.specs.ListSteps.{datum_at, element_addr};
+ghost use Rattle.sdr_model.specs.Things.{Spot};
+ghost use Rattle.sdr_model.specs.World.{as_raw, spot_of, thing_at};
+ghost use Rattle.sdr_model.specs.declared.things.SdrList.{SdrList};
+ghost use Rattle.sdr_station.specs.Grounded.{StandsInMemory};
+
+use sdr_base::Media;
+use sdr_disk::Disk;
+use sdr_model::{Call, Reply};
+use sdr_run::{HandedGround, HandedIn};
+
+// The address in a reply, if it is one.
+fn addr_in(reply: Reply) -> Option<u64>
+    ensures { result ≡ addr_in reply }
+{
+    match reply {
+        Reply::At { addr } => Some(addr),
+        _ => None,
+    }
+}
+
+// The value in a reply, if it is one.
+fn value_in(reply: Reply) -> Option<u64>
+    ensures { result ≡ value_in reply }
+{
+    match reply {
+        Reply::Value { value } => Some(value),
+        _ => None,
+    }
+}
+
+// The object in a reply that tells what a name finds, if it does.
+fn object_in(reply: Reply) -> Option<u64>
+    ensures { result ≡ object_in reply }
+{
+    match reply {
+        Reply::Pair { second, .. } => Some(second),
+        _ => None,
+    }
+}
+
+// Whether a reply tells of bytes.
+fn tells_bytes(reply: Reply) -> bool
+    ensures { result ≡ tells_bytes reply }
+{
+    matches!(reply, Reply::Bytes { .. })
+}
+
+// Asks a question of a heap.
+fn ask<D: Disk, M: Media, J: HandedIn>(base: &mut HandedGround<D, M, J>, question: &Call) -> Reply
+    requires question { IsQuestion question.now }
+    requires ready { IsAskable base.old }
+    ensures answers { (v : GroundState) → StandsInMemory base.old v →
+        AnswersByRow v.now.world question.now result }
+    ensures asks { AsksOnly base.old base.new }
+{
+    base.read(question)
+}
+
+/// The object that the name of a load finds, if it finds one.
+pub fn find<D: Disk, M: Media, J: HandedIn>(
+    base: &mut HandedGround<D, M, J>,
+    question: &Call,
+) -> Option<u64>
+    requires finds { question.now ≡ Call.Find load_name }
+    requires ready { IsAskable base.old }
+    ensures found { (v : GroundState) → StandsInMemory base.old v → result ≡ load_object v.now.world }
+    ensures asks { AsksOnly base.old base.new }
+{
+    object_in(ask(base, question))
+}
+
+/// How many elements the list at an address has, if there is one.
+pub fn count<D: Disk, M: Media, J: HandedIn>(
+    base: &mut HandedGround<D, M, J>,
+    list: u64,
+) -> Option<u64>
+    requires ready { IsAskable base.old }
+    ensures counted { (v : GroundState) → StandsInMemory base.old v →
+        result ≡ option_map (λ (row : SdrList). length row.elements) (list_at v.now.world list) }
+    ensures few { IfSome result (λ count. count ≤ 2 ^ 32) }
+    ensures asks { AsksOnly base.old base.new }
+{
+    value_in(ask(base, &Call::ListLength(list)))
+}
+
+/// The address of the first element of a list, 0 where it has none.
+pub fn first<D: Disk, M: Media, J: HandedIn>(base: &mut HandedGround<D, M, J>, list: u64) -> u64
+    requires ready { IsAskable base.old }
+    ensures first { (v : GroundState) (row : SdrList) → StandsInMemory base.old v →
+        list_at v.now.world list ≡ Some row → result ≡ element_addr row.elements 0 }
+    ensures asks { AsksOnly base.old base.new }
+{
+    addr_in(ask(base, &Call::First(list))).unwrap_or(0)
+}
+
+/// The address of the element behind another, 0 where that is the last one.
+pub fn next<D: Disk, M: Media, J: HandedIn>(base: &mut HandedGround<D, M, J>, element: u64) -> u64
+    requires ready { IsAskable base.old }
+    ensures next { (v : GroundState) (spot : Spot) → StandsInMemory base.old v →
+        spot_of v.now.world element ≡ Some spot →
+        result ≡ element_addr spot.row.elements (spot.place + 1) }
+    ensures asks { AsksOnly base.old base.new }
+{
+    addr_in(ask(base, &Call::Next(element))).unwrap_or(0)
+}
+
+/// The data of an element.
+pub fn datum<D: Disk, M: Media, J: HandedIn>(base: &mut HandedGround<D, M, J>, element: u64) -> u64
+    requires ready { IsAskable base.old }
+    ensures datum { (v : GroundState) (spot : Spot) → StandsInMemory base.old v →
+        spot_of v.now.world element ≡ Some spot →
+        result ≡ datum_at spot.row.elements spot.place }
+    ensures asks { AsksOnly base.old base.new }
+{
+    value_in(ask(base, &Call::Datum(element))).unwrap_or(0)
+}
+
+// Whether a raw object is at an address. Of all things a raw object alone answers a call that reads bytes from a place on.
+fn is_raw<D: Disk, M: Media, J: HandedIn>(base: &mut HandedGround<D, M, J>, addr: u64) -> bool
+    requires ready { IsAskable base.old }
+    ensures raw { (v : GroundState) → StandsInMemory base.old v →
+        result ≡ is_some (as_raw (thing_at v.now.world addr)) }
+    ensures asks { AsksOnly base.old base.new }
+{
+    tells_bytes(ask(base, &Call::Read(addr, 0, 0)))
+}
+
+// How many bytes the raw object at an address has.
+fn raw_length<D: Disk, M: Media, J: HandedIn>(base: &mut HandedGround<D, M, J>, addr: u64) -> u64
+    requires ready { IsAskable base.old }
+    ensures long { (v : GroundState) (bytes : List ℕ) → StandsInMemory base.old v →
+        as_raw (thing_at v.now.world addr) ≡ Some bytes → result ≡ length bytes }
+    ensures asks { AsksOnly base.old base.new }
+{
+    value_in(ask(base, &Call::Length(addr))).unwrap_or(0)
+}
+
+/// How many bytes the raw object at an address has, 0 where there is none.
+pub fn raw_bytes<D: Disk, M: Media, J: HandedIn>(base: &mut HandedGround<D, M, J>, addr: u64) -> u64
+    requires ready { IsAskable base.old }
+    ensures bytes { (v : GroundState) → StandsInMemory base.old v →
+        result ≡ raw_bytes_at v.now.world addr }
+    ensures few { result ≤ longest_raw }
+    ensures asks { AsksOnly base.old base.new }
+{
+    let raw = is_raw(base, addr);
+    if raw { raw_length(base, addr) } else { 0 }
+}

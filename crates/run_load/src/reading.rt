@@ -1,0 +1,81 @@
+// The list that a load leaves, read element by element.
+ghost use Rattle.std.specs.Prelude.{◌≡◌, ◌≤◌, ◌^◌, IfOk, OnErr};
+ghost use Rattle.run_load.specs.Asking.{AsksOnly, IsAskable};
+ghost use Rattle.run_load.specs.Listed.{bytes_named, elements_at, load_name};
+ghost use Rattle.run_load.specs.Reading.{HasList};
+ghost use Rattle.run_load.specs.Summing.{load_list};
+ghost use Rattle.sdr_base.specs.Causes.{Rose};
+ghost use Rattle.sdr_machine.specs.Standing.{GroundState};
+ghost use Rattle.sdr_run.specs.Quiet.{StaysQuiet};
+ghost use Rattle.sdr_station.specs.Grounded.{StandsInMemory, StandsSome};
+
+use crate::asking::{count, datum, find, first, next, raw_bytes};
+use crate::summary::ListRead;
+use sdr_base::Media;
+use sdr_disk::Disk;
+use sdr_machine::Fault;
+use sdr_model::Call;
+use sdr_run::{HandedGround, HandedIn};
+
+// How many bytes the raw objects have together that the data of the elements name of a list of so many.
+fn bytes_named<D: Disk, M: Media, J: HandedIn>(
+    base: &mut HandedGround<D, M, J>,
+    list: u64,
+    elements: u64,
+) -> u64
+    requires ready { IsAskable base.old }
+    requires few { elements ≤ 2 ^ 32 }
+    ensures bytes { (v : GroundState) → StandsInMemory base.old v →
+        HasList list elements v.now.world →
+        result ≡ bytes_named v.now.world (elements_at v.now.world list) }
+    ensures asks { AsksOnly base.old base.new }
+{
+    let mut bytes = 0;
+    let mut element = first(base, list);
+    for _ in 0..elements {
+        let named = datum(base, element);
+        let more = raw_bytes(base, named);
+        bytes += more;
+        element = next(base, element);
+    }
+    bytes
+}
+
+// The list that the name of a load finds, which has no element where it finds none.
+fn list_found<D: Disk, M: Media, J: HandedIn>(
+    base: &mut HandedGround<D, M, J>,
+    question: &Call,
+) -> ListRead
+    requires finds { question.now ≡ Call.Find load_name }
+    requires ready { IsAskable base.old }
+    ensures list { (v : GroundState) → StandsInMemory base.old v → result ≡ load_list v.now.world }
+    ensures asks { AsksOnly base.old base.new }
+{
+    let Some(list) = find(base, question) else {
+        return ListRead::NONE;
+    };
+    let Some(elements) = count(base, list) else {
+        return ListRead::NONE;
+    };
+    let bytes = bytes_named(base, list, elements);
+    ListRead { elements, bytes }
+}
+
+/// The list that the name of a load finds in the state that a run has left: the one before the open transaction. It makes no call of
+/// the disk, and asks no media.
+pub fn read_list<D: Disk, M: Media, J: HandedIn>(
+    base: &mut HandedGround<D, M, J>,
+    question: &Call,
+) -> Result<ListRead, Fault>
+    requires finds { question.now ≡ Call.Find load_name }
+    requires stands { StandsSome base.old }
+    ensures list { IfOk result (λ list. (v : GroundState) → StandsInMemory base.old v →
+        list ≡ load_list v.before.world) }
+    ensures fault { OnErr result (Rose (D.faults base.old.heap.cells.disk)
+        (D.faults base.new.heap.cells.disk)) }
+    ensures still { StaysQuiet base.old base.new }
+    ensures seen { base.old.moment ≡ D.moment base.old.heap.cells.disk }
+{
+    base.restore()?;
+    Ok(list_found(base, question))
+}
