@@ -2,11 +2,9 @@
 use Rattle.std.proofs.Common.{◌≡◌, ◌≤◌, ◌<◌, ◌⊎◌, inl, inr, ℕ, ◌+◌, ◌*◌, ◌/◌, Bool, true, false}
 use Rattle.std.proofs.Common.{List, [], ◌∷◌, ◌++◌, length, refl, sym, ap, ◌∙◌, subst, arith}
 use Rattle.std.proofs.Common.{length-append}
-use Rattle.std.specs.Prelude.{Option}
 use Rattle.sdr_base.specs.Cells.{lines_of, is_among}
 use Rattle.sdr_base.specs.Parts.{overwrite, part}
 use Rattle.sdr_base.proofs.PartsLemmas.{sides, length-overwrite, get_or-overwrite_outside, length-part}
-use Rattle.sdr_disk.specs.Told.{IfTold}
 use Rattle.sdr_log.specs.Frame.{room_of}
 use Rattle.sdr_log.specs.Log.{names_line, put_records}
 use Rattle.sdr_log.specs.declared.frame.Frame.{Frame}
@@ -17,8 +15,8 @@ use Rattle.sdr_image.specs.Undo.{Olds}
 use Rattle.sdr_image.specs.Opened.{lines_named, HasBytes, IsImage}
 use Rattle.sdr_image.proofs.TouchedLemmas.{is_among-lines_named, is_among-lines_of}
 
-module _ (size : ℕ) (told : Option (List ℕ)) (f : Frame) (bytes : List ℕ) (undo : Olds)
-    (memory : ℕ) (is_open failed : Bool) (i : IsImage size told f bytes undo memory is_open failed) where
+module _ (x : List ℕ) (f : Frame) (bytes : List ℕ) (undo : Olds) (memory : ℕ) (is_open failed : Bool)
+    (i : IsImage x f bytes undo memory is_open failed) where
   -- where a line more is kept, the bytes at begin are the same
   pub begun-keep : (r : Record) → r.line < f.heap_lines → names_line undo.olds r.line ≡ false →
       r.bytes ≡ part (64 * r.line) 64 bytes → put_records (undo.olds ++ r ∷ []) bytes ≡ put_records undo.olds bytes
@@ -28,10 +26,10 @@ module _ (size : ℕ) (told : Option (List ℕ)) (f : Frame) (bytes : List ℕ) 
   -- and the image after it
   pub IsImage-keep : (r : Record) (undo' : Olds) → undo' ≡ record undo { olds = undo.olds ++ r ∷ [] } →
       r.line < f.heap_lines → names_line undo.olds r.line ≡ false → length undo.olds < room_of f →
-      r.bytes ≡ part (64 * r.line) 64 bytes → IsImage size told f bytes undo' memory true failed
+      r.bytes ≡ part (64 * r.line) 64 bytes → IsImage x f bytes undo' memory true failed
   IsImage-keep r undo' is below new few own =
       let inside : 64 * r.line + 64 ≤ length bytes = omega (arith, i.long, below) in
-      subst (λ (u : Olds). IsImage size told f bytes u memory true failed) (sym is) (record {
+      subst (λ (u : Olds). IsImage x f bytes u memory true failed) (sym is) (record {
         limits = i.limits;
         fits = i.fits;
         long = i.long;
@@ -42,8 +40,7 @@ module _ (size : ℕ) (told : Option (List ℕ)) (f : Frame) (bytes : List ℕ) 
         whole = AreLines-push undo.olds r i.whole (ap length own ∙ length-part (64 * r.line) 64 bytes inside);
         reserved = i.reserved;
         idle = λ closed. absurd cc;
-        disk = λ sound x told_is.
-            subst (λ (heap : List ℕ). HasBytes f heap x) (sym (begun-keep r below new own)) (i.disk sound x told_is);
+        disk = λ sound. subst (λ (heap : List ℕ). HasBytes f heap x) (sym (begun-keep r below new own)) (i.disk sound);
       })
 
   -- where bytes of touched lines are written, the bytes at begin are the same
@@ -71,9 +68,9 @@ module _ (size : ℕ) (told : Option (List ℕ)) (f : Frame) (bytes : List ℕ) 
       place + length from ≤ length bytes →
       ((line : ℕ) → is_among (lines_of place (length from)) line ≡ true →
       is_among (lines_named undo.olds) line ≡ true) →
-      IsImage size told f new undo memory is_open failed
+      IsImage x f new undo memory is_open failed
   IsImage-put place from new is inside touched =
-      subst (λ (l : List ℕ). IsImage size told f l undo memory is_open failed) (sym is) (record {
+      subst (λ (l : List ℕ). IsImage x f l undo memory is_open failed) (sym is) (record {
         limits = i.limits;
         fits = i.fits;
         long = length-overwrite place from bytes inside ∙ i.long;
@@ -84,17 +81,16 @@ module _ (size : ℕ) (told : Option (List ℕ)) (f : Frame) (bytes : List ℕ) 
         whole = i.whole;
         reserved = i.reserved;
         idle = i.idle;
-        disk = λ sound x told_is.
-            subst (λ (heap : List ℕ). HasBytes f heap x) (sym (begun-put place from inside touched))
-            (i.disk sound x told_is);
+        disk = λ sound.
+            subst (λ (heap : List ℕ). HasBytes f heap x) (sym (begun-put place from inside touched)) (i.disk sound);
       })
 
   -- the old lines are put back
   pub IsImage-cancel : (new : List ℕ) (undo' : Olds) → new ≡ put_records undo.olds bytes →
-      undo' ≡ record undo { olds = [] } → IsImage size told f new undo' memory false failed
+      undo' ≡ record undo { olds = [] } → IsImage x f new undo' memory false failed
   IsImage-cancel new undo' is undo_is =
-      subst (λ (l : List ℕ). IsImage size told f l undo' memory false failed) (sym is)
-      (subst (λ (u : Olds). IsImage size told f (put_records undo.olds bytes) u memory false failed) (sym undo_is)
+      subst (λ (l : List ℕ). IsImage x f l undo' memory false failed) (sym is)
+      (subst (λ (u : Olds). IsImage x f (put_records undo.olds bytes) u memory false failed) (sym undo_is)
       (record {
         limits = i.limits;
         fits = i.fits;
@@ -111,14 +107,13 @@ module _ (size : ℕ) (told : Option (List ℕ)) (f : Frame) (bytes : List ℕ) 
       }))
 
   -- its bytes stand on the disk
-  pub IsImage-saved : (size' : ℕ) (told' : Option (List ℕ)) (undo' : Olds) (memory' : ℕ) → size' ≡ size →
-      memory' ≡ memory → undo' ≡ record undo { olds = [] } → IfTold told' (HasBytes f bytes) →
-      IsImage size' told' f bytes undo' memory' false failed
-  IsImage-saved size' told' undo' memory' size_is memory_is undo_is has =
-      subst (λ (u : Olds). IsImage size' told' f bytes u memory' false failed) (sym undo_is)
+  pub IsImage-saved : (x' : List ℕ) (undo' : Olds) (memory' : ℕ) → memory' ≡ memory →
+      undo' ≡ record undo { olds = [] } → HasBytes f bytes x' → IsImage x' f bytes undo' memory' false failed
+  IsImage-saved x' undo' memory' memory_is undo_is has =
+      subst (λ (u : Olds). IsImage x' f bytes u memory' false failed) (sym undo_is)
       (record {
         limits = i.limits;
-        fits = omega (arith, i.fits, size_is);
+        fits = has.regions.inside;
         long = i.long;
         lines = i.lines;
         room = i.room;

@@ -2,13 +2,12 @@
 use Rattle.std.proofs.Common.{◌≡◌, ◌≢◌, ◌<◌, ◌==◌, ℕ, zero, suc, ◌+◌, ◌*◌, ◌/◌, Bool, true, false, List, []}
 use Rattle.std.proofs.Common.{length, refl, sym, ap, ◌∙◌}
 use Rattle.std.proofs.Common.{subst, arith, Some}
-use Rattle.std.specs.Prelude.{IsPermutation, Option}
+use Rattle.std.specs.Prelude.{IsPermutation}
 use Rattle.std.specs.List.Sorted.{IsNonDecreasingBy}
 use Rattle.std.proofs.lemmas.Bool.Decides.{nat_tests}
 use Rattle.std.proofs.lemmas.List.{length-map}
 use Rattle.std.proofs.lemmas.List.Sorted.{length_permutation}
 use Rattle.sdr_disk.specs.Moments.{AtEach, Only}
-use Rattle.sdr_disk.specs.Told.{Both, IfTold}
 use Rattle.sdr_log.specs.Calls.{AreBelow, AreNamed, HasPlace, HoldLines}
 use Rattle.sdr_log.specs.Frame.{IsInLimits}
 use Rattle.sdr_log.specs.Log.{AreLines, are_good, heap_of, put_back_of, put_records}
@@ -147,26 +146,27 @@ holds_gives f bytes x left h image of_left =
     ap put_back_of (h.rest.only image of_left) ∙ rest_gives f x left h.rest ∙ ap Some h.heap
 
 -- what a commit leaves, of the fields of an image and as contracts see it
-pub Saves-from : {D : Type 0} (told : D → Option (List ℕ)) (moment : D → ℕ) (may_hold_after : D → ℕ → List ℕ → Type 0)
-    (old new : Opened D) (disk : D) (f : Frame) (bytes : List ℕ) (olds : List Record) → disk ≡ old.disk →
+pub Saves-from : {D : Type 0} (bytes_of : D → List ℕ) (tells : D → Bool) (moment : D → ℕ)
+    (may_hold_after : D → ℕ → List ℕ → Type 0) (old new : Opened D) (disk : D) (f : Frame) (bytes : List ℕ) (olds : List Record) → disk ≡ old.disk →
     f ≡ old.frame → bytes ≡ old.bytes → put_records olds bytes ≡ old.begun → lines_named olds ≡ old.touched →
     are_good f.heap_lines olds ≡ true → AreLines olds → length bytes ≡ 64 * f.heap_lines →
-    (old.touched ≢ [] → Both (told disk) (told new.disk) (HasChanged f olds bytes)) →
-    IfTold (told new.disk) (HasBytes f bytes) → (old.touched ≢ [] → Rests told moment may_hold_after new) →
-    Saves told moment may_hold_after old new
-Saves-from told moment may_hold_after old new disk f bytes olds disk_is f_is bytes_is begun_is touched_is good whole
+    (old.touched ≢ [] → HasChanged f olds bytes (bytes_of disk) (bytes_of new.disk)) →
+    HasBytes f bytes (bytes_of new.disk) → (old.touched ≢ [] → Rests bytes_of tells moment may_hold_after new) →
+    Saves bytes_of tells moment may_hold_after old new
+Saves-from {D = D} bytes_of tells moment may_hold_after old new disk f bytes olds disk_is f_is bytes_is begun_is touched_is good whole
     long
     written holds rests =
     let own = HoldLines-lines_in (put_records olds bytes) olds
     (HoldLines-put_records f.heap_lines olds bytes good whole (omega (arith, long))) in
     let olds_are : olds ≡ lines_in old.begun old.touched = own ∙ (λ i. lines_in (begun_is i) (touched_is i)) in
     record {
-      written = λ some x was y now.
-          subst (λ (rs : List Record). HasChanged old.frame rs old.bytes x y) olds_are
-          (subst (λ (b : List ℕ). HasChanged old.frame olds b x y) bytes_is
-          (subst (λ (k : Frame). HasChanged k olds bytes x y) f_is
-          (written some x (ap told disk_is ∙ was) y now)));
-      back = λ y now. bytes_back f bytes y (holds y now) ∙ ap Some bytes_is;
+      written = λ some.
+          let y = bytes_of new.disk in
+          subst (λ (d : D). HasChanged old.frame (lines_in old.begun old.touched) old.bytes (bytes_of d) y) disk_is
+          (subst (λ (rs : List Record). HasChanged old.frame rs old.bytes (bytes_of disk) y) olds_are
+          (subst (λ (b : List ℕ). HasChanged old.frame olds b (bytes_of disk) y) bytes_is
+          (subst (λ (k : Frame). HasChanged k olds bytes (bytes_of disk) y) f_is (written some))));
+      back = bytes_back f bytes (bytes_of new.disk) holds ∙ ap Some bytes_is;
       rests = rests;
     }
 

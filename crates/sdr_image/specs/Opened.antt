@@ -1,11 +1,11 @@
 -- An image, as contracts see it.
-use Rattle.std.specs.Prelude.{◌≡◌, ◌≤◌, ◌*◌, ⊤, ℕ, Bool, true, false, List, [], length, map, Option, Result, Ok, Err}
+use Rattle.std.specs.Prelude.{◌≡◌, ◌≤◌, ◌*◌, ⊤, ℕ, Bool, true, false, List, [], length, map, Result, Ok, Err}
 use Rattle.sdr_base.specs.Transaction.{Transaction}
 use Rattle.sdr_base.specs.declared.line.TheConstants.{LINE}
 use Rattle.sdr_base.specs.declared.stop.Stop.{Stop}
 use Rattle.sdr_base.specs.declared.stop.Stop.TheVariants.{DiskFault}
 use Rattle.sdr_disk.specs.Moments.{AtEach}
-use Rattle.sdr_disk.specs.Told.{IfTold}
+use Rattle.sdr_disk.specs.Tells.{IfTells}
 use Rattle.sdr_log.specs.Frame.{IsInLimits, room_of, disk_bytes}
 use Rattle.sdr_log.specs.Log.{are_good, AreLines, first_gate, put_records, heap_of}
 use Rattle.sdr_log.specs.Logged.{GivesHeap, HasRegions, IsAtRest}
@@ -60,43 +60,48 @@ pub record HasBytes (f : Frame) (bytes disk : List ℕ) : Type 0 where
   pub gate : first_gate disk ≡ 0
   pub heap : heap_of f disk ≡ bytes
 
+-- unless it has failed, the disk of an image has the bytes at begin in its heap region, and no batch is open
+abbrev pub Holds : {D : Type 0} → (D → List ℕ) → Opened D → Type 0
+Holds bytes i = i.failed ≡ false → HasBytes i.frame i.begun (bytes i.disk)
+
 -- the disk is at rest, with this heap in its heap region
 pub record HoldsHeap (f : Frame) (bytes disk : List ℕ) (left : List ℕ → Type 0) : Type 0 where
   pub rest : IsAtRest f disk left
   pub heap : heap_of f disk ≡ bytes
 
--- a crash now leaves only what gives this heap, where the disk tells its bytes
-abbrev pub LeavesHeap : {D : Type 0} → (D → Option (List ℕ)) → (D → ℕ) → (D → ℕ → List ℕ → Type 0) → List ℕ → D
-    → Type 0
-LeavesHeap told moment may_hold_after bytes disk =
-    IfTold (told disk) (λ _. (image : List ℕ) → may_hold_after disk (moment disk) image → GivesHeap bytes image)
+-- a crash now leaves only what gives this heap, where the disk tells what it may leave
+abbrev pub LeavesHeap : {D : Type 0} → (D → Bool) → (D → ℕ) → (D → ℕ → List ℕ → Type 0) → List ℕ → D → Type 0
+LeavesHeap tells moment may_hold_after bytes disk =
+    IfTells (tells disk) ((image : List ℕ) → may_hold_after disk (moment disk) image → GivesHeap bytes image)
 
--- the disk of an image is at rest, with the bytes at begin in its heap region, unless it has failed
-abbrev pub Rests : {D : Type 0} → (D → Option (List ℕ)) → (D → ℕ) → (D → ℕ → List ℕ → Type 0) → Opened D → Type 0
-Rests told moment may_hold_after i =
-    i.failed ≡ false → IfTold (told i.disk) (λ x. HoldsHeap i.frame i.begun x (may_hold_after i.disk (moment i.disk)))
+-- the disk of an image is at rest, with the bytes at begin in its heap region, unless it has failed, and where it
+-- tells what a crash may leave
+abbrev pub Rests : {D : Type 0} → (D → List ℕ) → (D → Bool) → (D → ℕ) → (D → ℕ → List ℕ → Type 0) → Opened D
+    → Type 0
+Rests bytes tells moment may_hold_after i =
+    i.failed ≡ false → IfTells (tells i.disk)
+    (HoldsHeap i.frame i.begun (bytes i.disk) (may_hold_after i.disk (moment i.disk)))
 
 -- where the disk of an image rests, it still does later; and at each moment up to then a crash leaves what gives the
 -- bytes at begin, where the disk had not failed before
-pub record KeepsBegun {D : Type 0} (told : D → Option (List ℕ)) (moment : D → ℕ)
-    (may_hold_after : D → ℕ → List ℕ → Type 0)
-    (old new : Opened D) : Type 0 where
-  pub rests : Rests told moment may_hold_after old → Rests told moment may_hold_after new
-  pub any_moment : old.failed ≡ false → Rests told moment may_hold_after old →
-      IfTold (told old.disk) (λ _. AtEach moment may_hold_after old.disk new.disk (GivesHeap old.begun))
+pub record KeepsBegun {D : Type 0} (bytes : D → List ℕ) (tells : D → Bool) (moment : D → ℕ)
+    (may_hold_after : D → ℕ → List ℕ → Type 0) (old new : Opened D) : Type 0 where
+  pub rests : Rests bytes tells moment may_hold_after old → Rests bytes tells moment may_hold_after new
+  pub any_moment : old.failed ≡ false → Rests bytes tells moment may_hold_after old →
+      IfTells (tells old.disk) (AtEach moment may_hold_after old.disk new.disk (GivesHeap old.begun))
 
 -- what each image keeps: its lengths, its old lines, and memory for a commit; and unless its disk has failed, that
 -- this has the heap at begin and no open batch
-pub record IsImage (size : ℕ) (told : Option (List ℕ)) (f : Frame) (bytes : List ℕ)
-    (undo : Olds) (memory : ℕ) (is_open failed : Bool) : Type 0 where
-  pub limits : IsInLimits f
-  pub fits : disk_bytes f ≤ size
-  pub long : length bytes ≡ LINE * f.heap_lines
-  pub lines : undo.lines ≡ f.heap_lines
-  pub room : undo.room ≡ room_of f
-  pub few : length undo.olds ≤ room_of f
-  pub good : are_good f.heap_lines undo.olds ≡ true
-  pub whole : AreLines undo.olds
-  pub reserved : room_of f ≤ memory
-  pub idle : is_open ≡ false → undo.olds ≡ []
-  pub disk : failed ≡ false → IfTold told (HasBytes f (put_records undo.olds bytes))
+pub record IsImage (x : List ℕ) (f : Frame) (bytes : List ℕ) (undo : Olds) (memory : ℕ) (is_open failed : Bool) : Type 0
+  where
+    pub limits : IsInLimits f
+    pub fits : disk_bytes f ≤ length x
+    pub long : length bytes ≡ LINE * f.heap_lines
+    pub lines : undo.lines ≡ f.heap_lines
+    pub room : undo.room ≡ room_of f
+    pub few : length undo.olds ≤ room_of f
+    pub good : are_good f.heap_lines undo.olds ≡ true
+    pub whole : AreLines undo.olds
+    pub reserved : room_of f ≤ memory
+    pub idle : is_open ≡ false → undo.olds ≡ []
+    pub disk : failed ≡ false → HasBytes f (put_records undo.olds bytes) x

@@ -1,8 +1,7 @@
 -- What a commit needs, and what it leaves on the disk.
 use Rattle.std.specs.Prelude.{◌≡◌, ◌≢◌, ◌≤◌, ◌<◌, ◌+◌, ◌*◌, ℕ, zero, suc, true, List, [], length}
-use Rattle.std.specs.Prelude.{Option, Some}
+use Rattle.std.specs.Prelude.{Bool, Some}
 use Rattle.sdr_base.specs.declared.line.TheConstants.{LINE}
-use Rattle.sdr_disk.specs.Told.{Both, IfTold}
 use Rattle.sdr_log.specs.Batch.{batch_size}
 use Rattle.sdr_log.specs.Frame.{room_of}
 use Rattle.sdr_log.specs.Log.{AreLines, are_good, put_back_of}
@@ -27,12 +26,12 @@ pub record MaySave (f : Frame) (memory : ℕ) (olds : List Record) (region : Lis
   pub long : length region ≡ LINE * f.heap_lines
 
 -- The touched lines are changed on the disk, and opening it gives the bytes now. Where there were any, the disk rests.
-pub record Saves {D : Type 0} (told : D → Option (List ℕ)) (moment : D → ℕ) (may_hold_after : D → ℕ → List ℕ → Type 0)
-    (old new : Opened D) : Type 0 where
-  pub written : old.touched ≢ [] → Both (told old.disk) (told new.disk)
-      (HasChanged old.frame (lines_in old.begun old.touched) old.bytes)
-  pub back : IfTold (told new.disk) (λ x. put_back_of x ≡ Some old.bytes)
-  pub rests : old.touched ≢ [] → Rests told moment may_hold_after new
+pub record Saves {D : Type 0} (bytes : D → List ℕ) (tells : D → Bool) (moment : D → ℕ)
+    (may_hold_after : D → ℕ → List ℕ → Type 0) (old new : Opened D) : Type 0 where
+  pub written : old.touched ≢ [] →
+      HasChanged old.frame (lines_in old.begun old.touched) old.bytes (bytes old.disk) (bytes new.disk)
+  pub back : put_back_of (bytes new.disk) ≡ Some old.bytes
+  pub rests : old.touched ≢ [] → Rests bytes tells moment may_hold_after new
 
 -- how many writes and syncs the end of a transaction that touched so many lines makes at most: one for each and seven
 -- more, none without a line

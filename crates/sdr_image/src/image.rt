@@ -1,20 +1,21 @@
 // An opened disk.
-ghost use Rattle.std.specs.Prelude.{◌≡◌, ◌≤◌, ◌<◌, ◌+◌, ◌-◌, ◌*◌, ◌∷◌, [], ℕ, List, true, false};
-ghost use Rattle.std.specs.Prelude.{length, refl, IfOk, IfErr, OnOk, Some, None};
+ghost use Rattle.std.specs.Prelude.{◌≡◌, ◌≤◌, ◌<◌, ◌+◌, ◌-◌, ◌*◌, ◌∷◌, [], ℕ, true, false};
+ghost use Rattle.std.specs.Prelude.{length, refl, IfOk, IfErr, OnOk, None};
 ghost use Rattle.std.specs.List.{range_with_len};
 ghost use Rattle.std.proofs.Common.{◌∙◌};
 ghost use Rattle.sdr_base.specs.Cells.{is_among, with_lines, lines_of, TouchesLines};
 ghost use Rattle.sdr_base.specs.Parts.{overwrite, part};
 ghost use Rattle.sdr_base.specs.Transaction.{HasReason, IfRefused, TouchesNone};
 ghost use Rattle.sdr_disk.specs.Moments.{AtEach, Only, Reads};
-ghost use Rattle.sdr_disk.specs.Told.{Both, IfTold};
+ghost use Rattle.sdr_disk.specs.Tells.{IfTells};
 ghost use Rattle.sdr_log.specs.Calls.{KeepsDisk, KeepsOutside, KeepsRest};
 ghost use Rattle.sdr_log.specs.Frame.{room_of};
 ghost use Rattle.sdr_log.specs.Left.{IsLeftFrom};
 ghost use Rattle.sdr_log.specs.Log.{first_gate, put_back_of};
 ghost use Rattle.sdr_log.specs.Logged.{GivesHeap, GivesSame};
 ghost use Rattle.sdr_image.specs.Changed.{GivesEither};
-ghost use Rattle.sdr_image.specs.Opened.{transaction_of, KeepsBegun, LeavesHeap, Rests, StaysAt};
+ghost use Rattle.sdr_image.specs.Opened.{Holds, KeepsBegun, LeavesHeap, Rests, StaysAt};
+ghost use Rattle.sdr_image.specs.Opened.{transaction_of};
 ghost use Rattle.sdr_image.specs.Opening.{MayBeOpened, OnNotFormatted, UnlessFault};
 ghost use Rattle.sdr_image.specs.Saved.{Saves, calls_of};
 
@@ -66,8 +67,7 @@ impl<D: Disk> Model for Image<D> {
       restored = s.restored;
     } };
 
-    ghost invariant = { λ s. IsImage (D.size s.disk) (D.bytes s.disk)
-        s.frame s.bytes s.undo s.saving s.is_open s.failed };
+    ghost invariant = { λ s. IsImage (D.bytes s.disk) s.frame s.bytes s.undo s.saving s.is_open s.failed };
 }
 
 impl<D: Disk> Image<D> {
@@ -79,28 +79,30 @@ impl<D: Disk> Image<D> {
     /// first write. A crash on the way leaves the same heap as one before, where nothing is pending
     /// on the disk that is handed in, or a recovery of it was stopped.
     pub fn open(alloc: Global, mut disk: D) -> Result<Image<D>, ImageShut<D>>
-        ensures opened { IfOk result (IsOpened D.bytes D.moment D.may_hold_after disk) }
-        ensures not_formatted { IfErr result (λ shut. OnNotFormatted shut.why
-            (IfTold (D.bytes disk) (λ x. put_back_of x ≡ None))) }
-        ensures disk { Returns D.size D.bytes D.faults disk result }
-        ensures inside { Both (D.bytes disk) (D.bytes (disk_in result)) KeepsRest }
+        ensures opened { IfOk result (IsOpened D.bytes D.tells_crashes D.moment D.may_hold_after
+            disk) }
+        ensures not_formatted { IfErr result (λ shut. OnNotFormatted shut.why (put_back_of
+            (D.bytes disk) ≡ None)) }
+        ensures disk { Returns D.bytes D.tells_crashes D.faults disk result }
+        ensures inside { KeepsRest (D.bytes disk) (D.bytes (disk_in result)) }
         // Where it isn't opened and hasn't failed, the disk was only read.
-        ensures same { IfErr result (λ shut. UnlessFault shut.why
-            (Reads D.bytes D.moment D.may_hold_after disk shut.disk)) }
+        ensures same { IfErr result (λ shut. UnlessFault shut.why (Reads D.bytes D.tells_crashes
+            D.moment D.may_hold_after disk shut.disk)) }
         // After a fault it may be opened again, or it failed as the first gate was being closed.
-        ensures faulted { IfErr result (λ shut.
-            FailsOpening D.bytes D.moment D.may_hold_after disk shut.disk) }
-        ensures quiet { IfTold (D.bytes disk) (λ x. first_gate x ≡ 0
-            → Reads D.bytes D.moment D.may_hold_after disk (disk_in result)) }
+        ensures faulted { IfErr result (λ shut. FailsOpening D.bytes D.tells_crashes D.moment
+            D.may_hold_after disk shut.disk) }
+        ensures quiet { first_gate (D.bytes disk) ≡ 0
+            → Reads D.bytes D.tells_crashes D.moment D.may_hold_after disk (disk_in result) }
         ensures forward { D.moment disk ≤ D.moment (disk_in result) }
         ensures calls { IfOk result (λ i.
             D.moment i.disk ≤ D.moment disk + 2 * (i.restored + 3)) }
         // Where nothing was pending, a crash leaves what a recovery that was stopped may leave.
-        ensures left { IfTold (D.bytes disk) (λ x. Only x (D.may_hold_after disk (D.moment disk))
-            → AtEach D.moment D.may_hold_after disk (disk_in result) (IsLeftFrom x)) }
-        ensures any_moment { IfTold (D.bytes disk)
-            (λ x. MayBeOpened x (D.may_hold_after disk (D.moment disk))
-            → AtEach D.moment D.may_hold_after disk (disk_in result) (GivesSame x)) }
+        ensures left { IfTells (D.tells_crashes disk)
+            (Only (D.bytes disk) (D.may_hold_after disk (D.moment disk))
+            → AtEach D.moment D.may_hold_after disk (disk_in result) (IsLeftFrom (D.bytes disk))) }
+        ensures any_moment { IfTells (D.tells_crashes disk)
+            (MayBeOpened (D.bytes disk) (D.may_hold_after disk (D.moment disk))
+            → AtEach D.moment D.may_hold_after disk (disk_in result) (GivesSame (D.bytes disk))) }
     {
         match load(alloc, &mut disk) {
             Ok(loaded) => Ok(Image {
@@ -152,10 +154,12 @@ impl<D: Disk> Image<D> {
     /// one at each moment since any state before it in the transaction.
     pub fn now(&self) -> u64
         ensures moment { result ≡ D.moment self.now.disk }
-        ensures leaves { self.now.failed ≡ false → Rests D.bytes D.moment D.may_hold_after self.now
-            → LeavesHeap D.bytes D.moment D.may_hold_after self.now.begun self.now.disk }
-        ensures any_moment { (before : Opened D) → ⟦<Image<D> as Cells>⟧.quiet before self.now
-            → KeepsBegun D.bytes D.moment D.may_hold_after before self.now }
+        ensures leaves { self.now.failed ≡ false
+            → Rests D.bytes D.tells_crashes D.moment D.may_hold_after self.now
+            → LeavesHeap D.tells_crashes D.moment D.may_hold_after self.now.begun self.now.disk }
+        ensures any_moment { (before : Opened D)
+            → ⟦<Image<D> as Cells>⟧.quiet before self.now
+            → KeepsBegun D.bytes D.tells_crashes D.moment D.may_hold_after before self.now }
     {
         self.disk.now()
     }
@@ -227,23 +231,24 @@ impl<D: Disk> Image<D> {
           touched = [];
           is_open = false;
         }) }
-        ensures back { OnOk result (IfTold (D.bytes self.new.disk) (GivesHeap self.old.begun)) }
-        ensures rests { Rests D.bytes D.moment D.may_hold_after self.old
-            → Rests D.bytes D.moment D.may_hold_after self.new }
+        ensures back { OnOk result (GivesHeap self.old.begun (D.bytes self.new.disk)) }
+        ensures rests { Rests D.bytes D.tells_crashes D.moment D.may_hold_after self.old
+            → Rests D.bytes D.tells_crashes D.moment D.may_hold_after self.new }
 
         ensures answered { IfRefused result (λ _. ⊥) }
         ensures cause { HasReason (transaction_of D.faults self.old)
             (transaction_of D.faults self.new) result }
         ensures stays { StaysAt result self.old self.new }
 
-        ensures disk { KeepsDisk D.size D.bytes self.old.disk self.new.disk }
+        ensures disk { KeepsDisk D.bytes D.tells_crashes self.old.disk self.new.disk }
         ensures same { self.new.disk ≡ self.old.disk }
         ensures forward { D.moment self.old.disk ≤ D.moment self.new.disk }
         ensures calls { D.moment self.new.disk
             ≤ D.moment self.old.disk + 2 * calls_of (length self.old.touched) }
-        ensures any_moment { self.old.failed ≡ false → Rests D.bytes D.moment D.may_hold_after self.old
-            → IfTold (D.bytes self.old.disk)
-            (λ _. AtEach D.moment D.may_hold_after self.old.disk self.new.disk (GivesHeap self.old.begun)) }
+        ensures any_moment { self.old.failed ≡ false
+            → Rests D.bytes D.tells_crashes D.moment D.may_hold_after self.old
+            → IfTells (D.tells_crashes self.old.disk) (AtEach D.moment D.may_hold_after
+            self.old.disk self.new.disk (GivesHeap self.old.begun)) }
     {
         let lines = self.frame.heap_lines;
         if self.failed {
@@ -266,26 +271,27 @@ impl<D: Disk> Image<D> {
           touched = [];
           is_open = false;
         }) }
-        ensures saved { OnOk result (Saves D.bytes D.moment D.may_hold_after self.old self.new) }
-        ensures rests { Rests D.bytes D.moment D.may_hold_after self.old
-            → Rests D.bytes D.moment D.may_hold_after self.new }
+        ensures saved { OnOk result (Saves D.bytes D.tells_crashes D.moment D.may_hold_after
+            self.old self.new) }
+        ensures rests { Rests D.bytes D.tells_crashes D.moment D.may_hold_after self.old
+            → Rests D.bytes D.tells_crashes D.moment D.may_hold_after self.new }
 
         ensures answered { IfRefused result (λ _. ⊥) }
         ensures cause { HasReason (transaction_of D.faults self.old)
             (transaction_of D.faults self.new) result }
         ensures stays { StaysAt result self.old self.new }
 
-        ensures disk { KeepsDisk D.size D.bytes self.old.disk self.new.disk }
-        ensures inside { Both (D.bytes self.old.disk) (D.bytes self.new.disk)
-            (KeepsOutside self.old.frame) }
+        ensures disk { KeepsDisk D.bytes D.tells_crashes self.old.disk self.new.disk }
+        ensures inside { KeepsOutside self.old.frame (D.bytes self.old.disk)
+            (D.bytes self.new.disk) }
         ensures idle { self.old.touched ≡ [] → self.new.disk ≡ self.old.disk }
         ensures forward { D.moment self.old.disk ≤ D.moment self.new.disk }
         ensures calls { D.moment self.new.disk
             ≤ D.moment self.old.disk + 2 * calls_of (length self.old.touched) }
-        ensures any_moment { self.old.failed ≡ false → Rests D.bytes D.moment D.may_hold_after self.old
-            → IfTold (D.bytes self.old.disk)
-            (λ _. AtEach D.moment D.may_hold_after self.old.disk self.new.disk
-            (GivesEither self.old.begun self.old.bytes)) }
+        ensures any_moment { self.old.failed ≡ false
+            → Rests D.bytes D.tells_crashes D.moment D.may_hold_after self.old
+            → IfTells (D.tells_crashes self.old.disk) (AtEach D.moment D.may_hold_after
+            self.old.disk self.new.disk (GivesEither self.old.begun self.old.bytes)) }
     {
         let touched = self.undo.olds();
         if self.failed {
@@ -308,24 +314,24 @@ impl<D: Disk> Image<D> {
           touched = [];
           is_open = false;
         }) }
-        ensures saved { OnOk result (Saves D.bytes D.moment D.may_hold_after self.old self.new) }
-        ensures rests { Rests D.bytes D.moment D.may_hold_after self.new }
+        ensures saved { OnOk result (Saves D.bytes D.tells_crashes D.moment D.may_hold_after
+            self.old self.new) }
+        ensures rests { Rests D.bytes D.tells_crashes D.moment D.may_hold_after self.new }
 
         ensures answered { IfRefused result (λ _. ⊥) }
         ensures cause { HasReason (transaction_of D.faults self.old)
             (transaction_of D.faults self.new) result }
         ensures stays { StaysAt result self.old self.new }
 
-        ensures disk { KeepsDisk D.size D.bytes self.old.disk self.new.disk }
-        ensures inside { Both (D.bytes self.old.disk) (D.bytes self.new.disk)
-            (KeepsOutside self.old.frame) }
+        ensures disk { KeepsDisk D.bytes D.tells_crashes self.old.disk self.new.disk }
+        ensures inside { KeepsOutside self.old.frame (D.bytes self.old.disk)
+            (D.bytes self.new.disk) }
         ensures forward { D.moment self.old.disk ≤ D.moment self.new.disk }
         ensures calls { D.moment self.new.disk
             ≤ D.moment self.old.disk + 2 * (length self.old.touched + 7) }
-        ensures any_moment { Rests D.bytes D.moment D.may_hold_after self.old
-            → IfTold (D.bytes self.old.disk)
-            (λ _. AtEach D.moment D.may_hold_after self.old.disk self.new.disk
-            (GivesEither self.old.begun self.old.bytes)) }
+        ensures any_moment { Rests D.bytes D.tells_crashes D.moment D.may_hold_after self.old
+            → IfTells (D.tells_crashes self.old.disk) (AtEach D.moment D.may_hold_after
+            self.old.disk self.new.disk (GivesEither self.old.begun self.old.bytes)) }
     {
         let olds = self.undo.olds();
         let Ok(()) = self
@@ -343,8 +349,10 @@ impl<D: Disk> Image<D> {
     /// The disk. What was not committed is lost.
     pub fn into_disk(self) -> D
         ensures disk { result ≡ self.disk }
-        ensures leaves { self.failed ≡ false → Rests D.bytes D.moment D.may_hold_after self
-            → LeavesHeap D.bytes D.moment D.may_hold_after self.begun result }
+        ensures holds { Holds D.bytes self }
+        ensures leaves { self.failed ≡ false
+            → Rests D.bytes D.tells_crashes D.moment D.may_hold_after self
+            → LeavesHeap D.tells_crashes D.moment D.may_hold_after self.begun result }
     {
         let Image {
             disk,

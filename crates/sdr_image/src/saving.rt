@@ -1,11 +1,11 @@
 // The touched lines, gathered and written to the disk.
-ghost use Rattle.std.specs.Prelude.{◌≡◌, ◌≤◌, ◌<◌, ◌+◌, ◌*◌, ℕ, true, length, map, IfOk};
+ghost use Rattle.std.specs.Prelude.{◌≡◌, ◌≤◌, ◌<◌, ◌+◌, ◌*◌, ℕ, length, IfOk};
 ghost use Rattle.std.specs.Prelude.{OnOk, vec_capacity, IsPermutation};
 ghost use Rattle.std.specs.List.Sorted.{IsNonDecreasingBy};
 ghost use Rattle.sdr_base.specs.Causes.{HasCause};
 ghost use Rattle.sdr_disk.specs.Moments.{AtEach};
 ghost use Rattle.sdr_disk.specs.Pending.{IsSynced};
-ghost use Rattle.sdr_disk.specs.Told.{Both, IfTold};
+ghost use Rattle.sdr_disk.specs.Tells.{IfTells};
 ghost use Rattle.sdr_log.specs.Calls.{AreBelow, KeepsDisk, KeepsOutside};
 ghost use Rattle.sdr_log.specs.Frame.{LieInside};
 ghost use Rattle.sdr_log.specs.Log.{put_records};
@@ -102,28 +102,29 @@ impl Saving {
         olds: &[Record],
         region: &Region,
     ) -> Result<(), DiskFault>
-        requires regions { LieInside frame (D.size disk.old) }
+        requires regions { LieInside frame (length (D.bytes disk.old)) }
         requires lines { MaySave frame self.old olds.now region.now }
 
         ensures memory { self.new ≡ self.old }
-        ensures written { OnOk result (Both (D.bytes disk.old) (D.bytes disk.new)
-            (HasChanged frame olds.now region.now)) }
+        ensures written { OnOk result (HasChanged frame olds.now region.now (D.bytes disk.old)
+            (D.bytes disk.new)) }
         ensures cause { HasCause (D.faults disk.old) (D.faults disk.new) result }
 
-        ensures disk { KeepsDisk D.size D.bytes disk.old disk.new }
-        ensures inside { Both (D.bytes disk.old) (D.bytes disk.new) (KeepsOutside frame) }
+        ensures disk { KeepsDisk D.bytes D.tells_crashes disk.old disk.new }
+        ensures inside { KeepsOutside frame (D.bytes disk.old) (D.bytes disk.new) }
 
-        ensures bytes { OnOk result (Both (D.bytes disk.old) (D.bytes disk.new)
-            (λ x y. HasBytes frame (put_records olds.now region.now) x
-            → HasBytes frame region.now y)) }
-        ensures synced { OnOk result (IsSynced D.bytes D.moment D.may_hold_after disk.new) }
+        ensures bytes { OnOk result (HasBytes frame (put_records olds.now region.now)
+            (D.bytes disk.old)
+            → HasBytes frame region.now (D.bytes disk.new)) }
+        ensures synced { OnOk result (IsSynced D.bytes D.tells_crashes D.moment D.may_hold_after
+            disk.new) }
         ensures forward { D.moment disk.old ≤ D.moment disk.new }
         ensures calls { D.moment disk.new ≤ D.moment disk.old + 2 * (length olds.now + 7) }
-        ensures any_moment { IfTold (D.bytes disk.old)
-            (λ x. HoldsHeap frame (put_records olds.now region.now) x
+        ensures any_moment { IfTells (D.tells_crashes disk.old)
+            (HoldsHeap frame (put_records olds.now region.now) (D.bytes disk.old)
             (D.may_hold_after disk.old (D.moment disk.old))
-            → AtEach D.moment D.may_hold_after disk.old disk.new
-            (GivesEither (put_records olds.now region.now) region.now)) }
+            → AtEach D.moment D.may_hold_after disk.old disk.new (GivesEither (put_records olds.now
+            region.now) region.now)) }
     {
         gather_rising(olds, &mut self.olds);
         gather_now(&self.olds, frame.heap_lines, region, &mut self.news);

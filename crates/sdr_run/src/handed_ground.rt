@@ -29,6 +29,7 @@ impl<D: Disk, M: Media, J: HandedIn> Model for HandedGround<D, M, J> {
 impl<D: Disk, M: Media, J: HandedIn> HandedGround<D, M, J> {
     ghost use Rattle.std.specs.Prelude.{◌≡◌, OnErr, OnOk, false, true};
     ghost use Rattle.sdr_base.specs.Causes.{Rose};
+    ghost use Rattle.sdr_image.specs.Opened.{Holds};
     ghost use Rattle.sdr_machine.specs.Serving.{Brings, Calls, RollsBack};
     ghost use Rattle.sdr_model.specs.Reading.{is_reading, reads_media};
     ghost use Rattle.sdr_run.specs.Handed.{StaysAsHanded};
@@ -72,8 +73,9 @@ impl<D: Disk, M: Media, J: HandedIn> HandedGround<D, M, J> {
         ensures disk { result.0 ≡ self.heap.cells.disk }
         ensures media { result.1 ≡ self.media }
         ensures seen { D.moment result.0 ≡ self.moment }
-        ensures size { D.size result.0 ≡ J.was.size }
+        ensures tells { D.tells_crashes result.0 ≡ J.was.tells }
         ensures stays { StaysAsHanded J.was.bytes (D.bytes result.0) self.heap.cells.frame }
+        ensures holds { Holds D.bytes self.heap.cells }
     {
         let HandedGround { ground } = self;
         let (disk, media) = ground.into_parts();
@@ -86,7 +88,8 @@ impl<D: Disk, M: Media, J: HandedIn> HasGround for HandedGround<D, M, J> {
     ghost use Rattle.sdr_run.specs.Settled as under;
     ghost use Rattle.sdr_station.specs.Grounded as grounded;
 
-    ghost stands = { λ g v. under.StandsWhere J.condition D.bytes D.moment D.may_hold_after g v };
+    ghost stands = { λ g v.
+        under.StandsWhere J.condition D.bytes D.tells_crashes D.moment D.may_hold_after g v };
 
     ghost moment = { λ g. g.moment };
 
@@ -107,12 +110,13 @@ impl<D: Disk, M: Media, J: HandedIn> HasGround for HandedGround<D, M, J> {
     ghost idle = { λ g. grounded.HasNoCalls g };
 
     ghost left = { λ g m image.
-        under.LeavesWhere J.condition D.bytes D.may_hold_after g.heap.cells.disk m image };
+        under.LeavesWhere J.condition D.tells_crashes D.may_hold_after g.heap.cells.disk m image };
 
     ghost opens = { λ image s. grounded.OpensAs image s };
 
     ghost crash_now = { λ g v image at left.
-        under.crash_now J.condition D.bytes D.moment D.may_hold_after g v image at left };
+        under.crash_now J.condition D.bytes D.tells_crashes D.moment D.may_hold_after
+        g v image at left };
 
     ghost lasts_less = { λ g n lasts. lasts };
 

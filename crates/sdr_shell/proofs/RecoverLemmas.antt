@@ -4,7 +4,7 @@ use Rattle.std.specs.Io.KnownBytes.{Appends}
 use Rattle.sdr_base.specs.Causes.{Rose}
 use Rattle.sdr_base.specs.Written.{AppendsPart}
 use Rattle.sdr_disk.specs.Moments.{AtEach}
-use Rattle.sdr_disk.specs.Told.{IfTold}
+use Rattle.sdr_disk.specs.Tells.{IfTells}
 use Rattle.sdr_disk.specs.declared.disk.Disk.{Ghosts as DiskGhosts}
 use Rattle.sdr_image.specs.Opening.{MayBeOpened}
 use Rattle.sdr_log.specs.Logged.{GivesSame}
@@ -18,24 +18,25 @@ use Rattle.sdr_station.specs.Opening.{IsOpen, first_on}
 use Rattle.sdr_station.specs.declared.error.OpenError.{OpenError}
 
 -- a heap that was opened is put back
-pub opened_recovered : {D M : Type 0} (d : DiskGhosts D) (disk : D) (g : Grounded D M) → IsOpen d.bytes d.moment d.may_hold_after disk g
+pub opened_recovered : {D M : Type 0} (d : DiskGhosts D) (disk : D) (g : Grounded D M) → IsOpen d.bytes d.tells_crashes d.moment d.may_hold_after disk g
     → IsRecovered d disk g.heap.cells.disk g.restored
 opened_recovered d disk g o = record {
   frame = g.heap.cells.frame;
   back = o.back;
-  world = λ x told. record {
+  world = record {
     heap = g.heap.cells.begun;
-    gives = o.gives x told;
+    gives = o.gives;
     world = (first_on g).world;
     pools = o.memory.before.pools;
     stands = o.memory.before.stands;
   };
-  synced = λ may x told. ((o.stands may).rests o.sound x told).rest.only;
+  synced = λ may told. ((o.stands may).rests o.sound told).rest.only;
 }
 
 -- what a recovery came to gives its answers
 pub recover_answers : {D : Type 0} (d : DiskGhosts D) (status : ℕ) (disk disk' : D) (sink sink' : Seen) → RecoversTo d status disk disk' sink sink'
-    → IfTold (d.bytes disk) (λ x. MayBeOpened x (d.may_hold_after disk (d.moment disk)) → AtEach d.moment d.may_hold_after disk disk' (GivesSame x))
+    → IfTells (d.tells_crashes disk) (MayBeOpened (d.bytes disk) (d.may_hold_after disk (d.moment disk))
+    → AtEach d.moment d.may_hold_after disk disk' (GivesSame (d.bytes disk)))
     → AnswersRecover d status disk disk' sink sink'
 recover_answers d status disk disk' sink sink' comes moments = record {
   comes = comes;
@@ -45,18 +46,18 @@ recover_answers d status disk disk' sink sink' comes moments = record {
     | RecoversTo.unwritten count is so rose text ↦ absurd (no_sink rose)
     | RecoversTo.shut why is so text ↦ shut_status why status _ _ _ no_disk is so.explained
   ];
-  exact = λ no_disk no_sink x told. elim comes [
-    | RecoversTo.done count is so text ↦ by_world status x is (so.world x told)
+  exact = λ no_disk no_sink. elim comes [
+    | RecoversTo.done count is so text ↦ by_world status (d.bytes disk) is so.world
     | RecoversTo.unwritten count is so rose text ↦ absurd (no_sink rose)
-    | RecoversTo.shut why is so text ↦ by_shut why status _ _ _ x told no_disk is so.explained
+    | RecoversTo.shut why is so text ↦ by_shut why status _ _ _ no_disk is so.explained
   ];
 }
 
 -- a heap that was opened answers so, where the line that tells of it was written, or the output failed
 pub opened_answers : {D M : Type 0} (d : DiskGhosts D) (status : ℕ) (disk disk' : D) (sink sink' : Seen) (g : Grounded D M) (count : ℕ)
-    → count ≡ g.restored → disk' ≡ g.heap.cells.disk → IsOpen d.bytes d.moment d.may_hold_after disk g
-    → IfTold (d.bytes disk) (λ x. MayBeOpened x (d.may_hold_after disk (d.moment disk))
-    → AtEach d.moment d.may_hold_after disk g.heap.cells.disk (GivesSame x))
+    → count ≡ g.restored → disk' ≡ g.heap.cells.disk → IsOpen d.bytes d.tells_crashes d.moment d.may_hold_after disk g
+    → IfTells (d.tells_crashes disk) (MayBeOpened (d.bytes disk) (d.may_hold_after disk (d.moment disk))
+    → AtEach d.moment d.may_hold_after disk g.heap.cells.disk (GivesSame (d.bytes disk)))
     → (status ≡ DONE) ⊎ (status ≡ OUTPUT_FAULT)
     → (status ≡ DONE → Appends sink.bytes sink'.bytes (line_recovered count))
     → (status ≡ OUTPUT_FAULT → AppendsPart sink.bytes sink'.bytes (line_recovered count))
@@ -72,7 +73,8 @@ opened_answers {D} d status disk disk' sink sink' g count count_is same opened m
 -- one that wasn't opened answers so, where the last line tells why
 pub shut_answers : {D : Type 0} (d : DiskGhosts D) (status : ℕ) (disk disk' : D) (why : OpenError) (sink sink' : Seen) → status ≡ status_shut why
     → IsNotOpened d disk disk' why
-    → IfTold (d.bytes disk) (λ x. MayBeOpened x (d.may_hold_after disk (d.moment disk)) → AtEach d.moment d.may_hold_after disk disk' (GivesSame x))
+    → IfTells (d.tells_crashes disk) (MayBeOpened (d.bytes disk) (d.may_hold_after disk (d.moment disk))
+    → AtEach d.moment d.may_hold_after disk disk' (GivesSame (d.bytes disk)))
     → Wrote sink sink' (line_shut why) → AnswersRecover d status disk disk' sink sink'
 shut_answers d status disk disk' why sink sink' is shut moments written =
     recover_answers d status disk disk' sink sink' (RecoversTo.shut why is shut written) moments

@@ -38,10 +38,10 @@ use Rattle.step_zco_parts.specs.Giving.{AsksInEach, may_read}
 use Rattle.sdr_station.specs.Grounded.{Grounded, IsGround, StandsForBoth, StandsInMemory, StandsSome, StandsWithin, heap_in}
 
 -- what a call came to on a ground
-pub record CameTo {D M : Type 0} (told : D → Option (List ℕ)) (moment faults : D → ℕ) (may_hold_after : D → ℕ → List ℕ → Type 0)
+pub record CameTo {D M : Type 0} (bytes : D → List ℕ) (tells : D → Bool) (moment faults : D → ℕ) (may_hold_after : D → ℕ → List ℕ → Type 0)
     (media : MediaGhosts M) (call : Call) (reply : Reply) (old new : Grounded D M) : Type 0 where
   pub memory : Brings StandsInMemory old new (Calls (media.told old.media) call reply)
-  pub answered : Brings (λ g v. StandsForBoth told moment may_hold_after g v) old new (Calls (media.told old.media) call reply)
+  pub answered : Brings (λ g v. StandsForBoth bytes tells moment may_hold_after g v) old new (Calls (media.told old.media) call reply)
   pub stopped : new.stopped ≡ dooms call reply
   pub gives : GivesReply reply new
   pub gap : HasLapseCause (answers.Reply reply) (lapses_of media old.media) (lapses_of media new.media)
@@ -50,12 +50,12 @@ pub record CameTo {D M : Type 0} (told : D → Option (List ℕ)) (moment faults
   pub sound : new.heap.cells.failed ≡ false
   pub quiet : IsQuiet old.heap.cells new.heap.cells
   pub time : old.moment ≤ new.moment
-  pub keeps : KeepsGround (heap_ground told moment faults may_hold_after media) true old new
-  pub any_moment : LeavesBefore (heap_ground told moment faults may_hold_after media) old new
+  pub keeps : KeepsGround (heap_ground bytes tells moment faults may_hold_after media) true old new
+  pub any_moment : LeavesBefore (heap_ground bytes tells moment faults may_hold_after media) old new
   pub is_ground : IsGround moment new
 
 -- A call on a ground in which none was stopped, from this heap before it, without moves.
-module _ {D M : Type 0} (told : D → Option (List ℕ)) (moment faults : D → ℕ) (may_hold_after : D → ℕ → List ℕ → Type 0)
+module _ {D M : Type 0} (bytes : D → List ℕ) (tells : D → Bool) (moment faults : D → ℕ) (may_hold_after : D → ℕ → List ℕ → Type 0)
     (media : MediaGhosts M) (old : Grounded D M) (ground : IsGround moment old) (going : old.stopped ≡ false) (call : Call) (fit : FitsCall call)
     (before : Held (Opened D)) (from : before ≡ record old.heap { moves = []; spare = before.spare })
     (heap : Held (Opened D)) (files : M) (lasts : KeepsTold media old.media files) (page : List ℕ) where
@@ -128,10 +128,10 @@ module _ {D M : Type 0} (told : D → Option (List ℕ)) (moment faults : D → 
       → faults old.heap.cells.disk ≤ faults new.heap.cells.disk → new.stopped ≡ dooms call reply → new.idle ≡ false → GivesReply reply new
       → HasLapseCause (answers.Reply reply) (lapses_of media old.media) (lapses_of media files) → (reads_by call reply ≡ false → files ≡ old.media)
       → AsksBefore
-      → Brings StandsInMemory old new (Calls (media.told old.media) call reply) → CameTo told moment faults may_hold_after media call reply old new
+      → Brings StandsInMemory old new (Calls (media.told old.media) call reply) → CameTo bytes tells moment faults may_hold_after media call reply old new
   comes_to reply new quiet same read later stopped made gives gap unread asked memory = record {
     memory = memory;
-    answered = brings_quiet told moment may_hold_after old new quiet same memory;
+    answered = brings_quiet bytes tells moment may_hold_after old new quiet same memory;
     stopped = stopped;
     gives = gives;
     gap = subst (λ (f : M). HasLapseCause (answers.Reply reply) (lapses_of media old.media) (lapses_of media f)) (sym read) gap;
@@ -140,11 +140,11 @@ module _ {D M : Type 0} (told : D → Option (List ℕ)) (moment faults : D → 
     sound = quiet.failed ∙ sound;
     quiet = quiet;
     time = omega (arith, same);
-    keeps = keeps_more (heap_ground told moment faults may_hold_after media)
-        (keeps_read told moment faults may_hold_after media old new (ap media.told read ∙ lasts.told)
+    keeps = keeps_more (heap_ground bytes tells moment faults may_hold_after media)
+        (keeps_read bytes tells moment faults may_hold_after media old new (ap media.told read ∙ lasts.told)
         (subst (λ (f : M). LapsesLast (lapses_of media old.media) (lapses_of media f)) (sym read) (record { faults = lasts.faults; short = lasts.short }))
         later);
-    any_moment = leaves_quiet told moment faults may_hold_after media old new quiet.disk same;
+    any_moment = leaves_quiet bytes tells moment faults may_hold_after media old new quiet.disk same;
     is_ground = ground_brought moment old new ground (omega (arith, ap moment quiet.disk, same, ground.seen)) sound (quiet.failed ∙ sound)
         (λ idle. absurd (true≢false (sym idle ∙ made))) memory;
   }
@@ -156,7 +156,7 @@ module _ {D M : Type 0} (told : D → Option (List ℕ)) (moment faults : D → 
   -- an answered call
   pub came_answered : (reply : Reply) → ComesInEach call (heap_in before) (heap_in heap) old.shown page (Ok reply)
       → WorksFrom (Ok reply) → AsksFrom (Ok reply) → (may_read call (Ok reply) ≡ false → files ≡ old.media) → AsksBefore
-      → CameTo told moment faults may_hold_after media call reply old going_on
+      → CameTo bytes tells moment faults may_hold_after media call reply old going_on
   came_answered reply comes' works asks unread asked =
       let comes = comes_from (Ok reply) comes' in
       let ans = comes.each some.for.now.world stands (served_in within) in
@@ -171,7 +171,7 @@ module _ {D M : Type 0} (told : D → Option (List ℕ)) (moment faults : D → 
   -- a call that media failed
   pub came_missed : (stop : Stop) → stop ≡ stops.MediaFault → WorksFrom (Err stop) → AsksFrom (Err stop)
       → (may_read call (Err stop) ≡ false → files ≡ old.media) → AsksBefore
-      → CameTo told moment faults may_hold_after media call replies.MediaFault old going_on
+      → CameTo bytes tells moment faults may_hold_after media call replies.MediaFault old going_on
   came_missed stop is works' asks' unread asked =
       let works = subst (λ (s : Stop). WorksFrom (Err s)) is works' in
       let asks = asks_from (Err stops.MediaFault) (subst (λ (s : Stop). AsksFrom (Err s)) is asks') in
@@ -185,7 +185,7 @@ module _ {D M : Type 0} (told : D → Option (List ℕ)) (moment faults : D → 
       → left ≡ record heap { moves = moves_left refusal heap.moves; spare = left.spare } → (reads : Bool) → reads ≡ is_reading call
       → ComesInEach call (heap_in before) (heap_in heap) old.shown page (Err stop) → WorksFrom (Err stop) → AsksFrom (Err stop)
       → (may_read call (Err stop) ≡ false → files ≡ old.media) → AsksBefore
-      → CameTo told moment faults may_hold_after media call (replies.Refused refusal) old
+      → CameTo bytes tells moment faults may_hold_after media call (replies.Refused refusal) old
       (record { heap = left; media = files; shown = page; stopped = not reads; idle = false; moment = old.moment; restored = old.restored })
   came_refused refusal stop is left left_is reads reads_is comes' works' asks' unread asked =
       let comes = comes_from (Err (stops.Refused refusal))
@@ -193,13 +193,13 @@ module _ {D M : Type 0} (told : D → Option (List ℕ)) (moment faults : D → 
       let works = subst (λ (s : Stop). WorksFrom (Err s)) is works' in
       let asks = asks_from (Err (stops.Refused refusal)) (subst (λ (s : Stop). AsksFrom (Err s)) is asks') in
       let new = refused_ground faults media old going call fit before.spare heap files page refusal left.spare in
-      let came : CameTo told moment faults may_hold_after media call (replies.Refused refusal) old new =
+      let came : CameTo bytes tells moment faults may_hold_after media call (replies.Refused refusal) old new =
       comes_to (replies.Refused refusal) new (quiet_from (Err (stops.Refused refusal)) works) refl refl (later_from (Err (stops.Refused refusal)) works) refl refl tt
       (refused_gap media some.for.now.world call old.media files refusal (asks.each some.for.now.world stands (served_in within)).misses)
       (λ none. subst (λ (s : Stop). may_read call (Err s) ≡ false → files ≡ old.media) is unread (refused_reads call refusal none)) asked
       (brings_refused faults media old going call fit before.spare heap files page refusal left.spare comes
       (works_from (Err (stops.Refused refusal)) works) asks) in
-      subst (λ (g : Grounded D M). CameTo told moment faults may_hold_after media call (replies.Refused refusal) old g)
+      subst (λ (g : Grounded D M). CameTo bytes tells moment faults may_hold_after media call (replies.Refused refusal) old g)
       (λ i. record { heap = sym left_is i; media = files; shown = page; stopped = not (sym reads_is i); idle = false; moment = old.moment; restored = old.restored }) came
 
 -- a call that leaves the lines touched in the heap before it, which is a ground's without moves, leaves those of the ground

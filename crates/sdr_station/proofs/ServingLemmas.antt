@@ -408,18 +408,18 @@ module _ {D M : Type 0} (faults : D → ℕ) (m : MediaGhosts M) (old : Grounded
       (λ w stands served. let r = comes.each w stands served in (r.step, r.left, r.gave)) works asks
 
 -- what a call brings in memory it brings on its disk, where the disk is quiet and the moment the same
-pub brings_quiet : {D M : Type 0} (told : D → Option (List ℕ)) (moment : D → ℕ)
+pub brings_quiet : {D M : Type 0} (bytes : D → List ℕ) (tells : D → Bool) (moment : D → ℕ)
     (may_hold_after : D → ℕ → List ℕ → Type 0)
     {P : GroundState → GroundState → Type 0} (old new : Grounded D M) → IsQuiet old.heap.cells new.heap.cells → new.moment ≡ old.moment
-    → Brings StandsInMemory old new P → Brings (λ g v. StandsForBoth told moment may_hold_after g v) old new P
-brings_quiet told moment may_hold_after old new q same brings = record {
+    → Brings StandsInMemory old new P → Brings (λ g v. StandsForBoth bytes tells moment may_hold_after g v) old new P
+brings_quiet bytes tells moment may_hold_after old new q same brings = record {
   each = λ v at.
       let s = brings.each v at.memory in
       record {
         for = s.for;
         holds = record {
-          rests = rests_same told moment may_hold_after old.heap.cells new.heap.cells q at.rests;
-          moment_is = λ x tells. same ∙ at.moment_is x (sym (ap told q.disk) ∙ tells) ∙ sym (ap moment q.disk);
+          rests = rests_same bytes tells moment may_hold_after old.heap.cells new.heap.cells q at.rests;
+          moment_is = same ∙ at.moment_is ∙ sym (ap moment q.disk);
           memory = s.holds;
         };
         tells = s.tells;
@@ -427,17 +427,17 @@ brings_quiet told moment may_hold_after old new q same brings = record {
 }
 
 -- where the disk is the same and its moment too, a crash leaves the state before
-pub leaves_quiet : {D M : Type 0} (told : D → Option (List ℕ)) (moment faults : D → ℕ) (may_hold_after : D → ℕ → List ℕ → Type 0)
-    (media : MediaGhosts M) (old new : Grounded D M) → new.heap.cells.disk ≡ old.heap.cells.disk → new.moment ≡ old.moment → LeavesBefore (heap_ground told moment faults may_hold_after media) old new
-leaves_quiet {D} told moment faults may_hold_after media old new disk same = record {
+pub leaves_quiet : {D M : Type 0} (bytes : D → List ℕ) (tells : D → Bool) (moment faults : D → ℕ) (may_hold_after : D → ℕ → List ℕ → Type 0)
+    (media : MediaGhosts M) (old new : Grounded D M) → new.heap.cells.disk ≡ old.heap.cells.disk → new.moment ≡ old.moment → LeavesBefore (heap_ground bytes tells moment faults may_hold_after media) old new
+leaves_quiet {D} bytes tells moment faults may_hold_after media old new disk same = record {
   each = λ v at. record {
     later = omega (arith, same);
     each = λ m image ge le l.
         let here : m ≡ old.moment = omega (arith, ge, le, same) in
-        crash_now told moment may_hold_after old v image at
-        (subst (λ (n : ℕ). Leaves told may_hold_after old.heap.cells.disk n image) here
-        (subst (λ (d : D). Leaves told may_hold_after d m image) disk l));
-    past = λ m image le l. subst (λ (d : D). Leaves told may_hold_after d m image) disk l;
+        crash_now bytes tells moment may_hold_after old v image at
+        (subst (λ (n : ℕ). Leaves tells may_hold_after old.heap.cells.disk n image) here
+        (subst (λ (d : D). Leaves tells may_hold_after d m image) disk l));
+    past = λ m image le l. subst (λ (d : D). Leaves tells may_hold_after d m image) disk l;
   };
 }
 

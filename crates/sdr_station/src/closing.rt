@@ -2,7 +2,7 @@
 ghost use Rattle.std.specs.Prelude.{◌≡◌, ◌≤◌, false, OnErr, OnOk};
 ghost use Rattle.sdr_base.specs.Transaction.{HasReason, IfRefused};
 ghost use Rattle.sdr_disk.specs.Moments.{AtEach};
-ghost use Rattle.sdr_disk.specs.Told.{Both, IfTold};
+ghost use Rattle.sdr_disk.specs.Tells.{IfTells};
 ghost use Rattle.sdr_image.specs.Changed.{GivesEither};
 ghost use Rattle.sdr_image.specs.Opened.{Rests, StaysAt, transaction_of};
 ghost use Rattle.sdr_log.specs.Calls.{KeepsDisk, KeepsOutside};
@@ -19,21 +19,21 @@ use sdr_image::Image;
 pub fn commit<D: Disk>(heap: &mut Heap<Image<D>>) -> Result<(), Stop>
     ensures ended { OnOk result (heap.new ≡ heap_committed heap.old heap.new.cells.disk) }
     ensures stops { OnErr result (heap.new ≡ record heap.old { cells = heap.new.cells }) }
-    ensures rests { Rests D.bytes D.moment D.may_hold_after heap.old.cells
-        → Rests D.bytes D.moment D.may_hold_after heap.new.cells }
+    ensures rests { Rests D.bytes D.tells_crashes D.moment D.may_hold_after heap.old.cells
+        → Rests D.bytes D.tells_crashes D.moment D.may_hold_after heap.new.cells }
     ensures answered { IfRefused result (λ _. ⊥) }
     ensures cause { HasReason (transaction_of D.faults heap.old.cells)
         (transaction_of D.faults heap.new.cells) result }
     ensures stays { StaysAt result heap.old.cells heap.new.cells }
-    ensures disk { KeepsDisk D.size D.bytes heap.old.cells.disk heap.new.cells.disk }
-    ensures inside { Both (D.bytes heap.old.cells.disk) (D.bytes heap.new.cells.disk)
-        (KeepsOutside heap.old.cells.frame) }
+    ensures disk { KeepsDisk D.bytes D.tells_crashes heap.old.cells.disk heap.new.cells.disk }
+    ensures inside { KeepsOutside heap.old.cells.frame (D.bytes heap.old.cells.disk)
+        (D.bytes heap.new.cells.disk) }
     ensures forward { D.moment heap.old.cells.disk ≤ D.moment heap.new.cells.disk }
     ensures any_moment { heap.old.cells.failed ≡ false
-        → Rests D.bytes D.moment D.may_hold_after heap.old.cells
-        → IfTold (D.bytes heap.old.cells.disk)
-        (λ _. AtEach D.moment D.may_hold_after heap.old.cells.disk heap.new.cells.disk
-        (GivesEither heap.old.cells.begun heap.old.cells.bytes)) }
+        → Rests D.bytes D.tells_crashes D.moment D.may_hold_after heap.old.cells
+        → IfTells (D.tells_crashes heap.old.cells.disk) (AtEach D.moment D.may_hold_after
+        heap.old.cells.disk heap.new.cells.disk (GivesEither heap.old.cells.begun
+        heap.old.cells.bytes)) }
 {
     heap.cells().commit()?;
     heap.unmark();
@@ -45,20 +45,19 @@ pub fn commit<D: Disk>(heap: &mut Heap<Image<D>>) -> Result<(), Stop>
 pub fn cancel<D: Disk>(heap: &mut Heap<Image<D>>) -> Result<(), Stop>
     ensures ended { OnOk result (heap.new ≡ heap_rolled_back heap.old heap.new.cells.disk) }
     ensures stops { OnErr result (heap.new ≡ record heap.old { cells = heap.new.cells }) }
-    ensures rests { Rests D.bytes D.moment D.may_hold_after heap.old.cells
-        → Rests D.bytes D.moment D.may_hold_after heap.new.cells }
+    ensures rests { Rests D.bytes D.tells_crashes D.moment D.may_hold_after heap.old.cells
+        → Rests D.bytes D.tells_crashes D.moment D.may_hold_after heap.new.cells }
     ensures answered { IfRefused result (λ _. ⊥) }
     ensures cause { HasReason (transaction_of D.faults heap.old.cells)
         (transaction_of D.faults heap.new.cells) result }
     ensures stays { StaysAt result heap.old.cells heap.new.cells }
-    ensures disk { KeepsDisk D.size D.bytes heap.old.cells.disk heap.new.cells.disk }
+    ensures disk { KeepsDisk D.bytes D.tells_crashes heap.old.cells.disk heap.new.cells.disk }
     ensures same { heap.new.cells.disk ≡ heap.old.cells.disk }
     ensures forward { D.moment heap.old.cells.disk ≤ D.moment heap.new.cells.disk }
     ensures any_moment { heap.old.cells.failed ≡ false
-        → Rests D.bytes D.moment D.may_hold_after heap.old.cells
-        → IfTold (D.bytes heap.old.cells.disk)
-        (λ _. AtEach D.moment D.may_hold_after heap.old.cells.disk heap.new.cells.disk
-        (GivesHeap heap.old.cells.begun)) }
+        → Rests D.bytes D.tells_crashes D.moment D.may_hold_after heap.old.cells
+        → IfTells (D.tells_crashes heap.old.cells.disk) (AtEach D.moment D.may_hold_after
+        heap.old.cells.disk heap.new.cells.disk (GivesHeap heap.old.cells.begun)) }
 {
     heap.cells().cancel()?;
     heap.unmark();

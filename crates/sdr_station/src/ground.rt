@@ -2,13 +2,13 @@
 ghost use Rattle.std.specs.Prelude.{◌≡◌, ◌≤◌, false, true, length};
 ghost use Rattle.std.specs.Prelude.{IfErr, IfOk, IsErrOf, OnErr, OnOk};
 ghost use Rattle.sdr_disk.specs.Moments.{AtEach};
-ghost use Rattle.sdr_disk.specs.Told.{Both, IfTold};
+ghost use Rattle.sdr_disk.specs.Tells.{IfTells};
 ghost use Rattle.sdr_image.specs.Opening.{MayBeOpened};
 ghost use Rattle.sdr_machine.specs.Crash.{LeavesBefore, LeavesEither};
 ghost use Rattle.sdr_machine.specs.Lapses.{HasLapseCause};
 ghost use Rattle.sdr_machine.specs.Served.{GoesOnAfter};
 ghost use Rattle.sdr_machine.specs.Serving.{Brings, CallAsks, Calls, Commits, KeepsGround, MeetsFault, RollsBack, Shows};
-ghost use Rattle.sdr_image.specs.Opened.{IsQuiet};
+ghost use Rattle.sdr_image.specs.Opened.{Holds, IsQuiet};
 ghost use Rattle.sdr_machine.specs.Standing.{GroundState};
 ghost use Rattle.sdr_log.specs.Calls.{KeepsDisk, KeepsRest};
 ghost use Rattle.sdr_log.specs.Logged.{GivesSame};
@@ -87,7 +87,8 @@ impl<D: Disk, M: Media, F: Notify + Drop> HasGround for HeapGround<D, M, F> {
     ghost use Rattle.sdr_station.specs.Grounded as grounded;
     ghost use Rattle.sdr_station.specs.CrashNow as laws;
 
-    ghost stands = { λ g v. grounded.StandsForBoth D.bytes D.moment D.may_hold_after g v };
+    ghost stands = { λ g v.
+        grounded.StandsForBoth D.bytes D.tells_crashes D.moment D.may_hold_after g v };
 
     ghost moment = { λ g. g.moment };
 
@@ -107,12 +108,13 @@ impl<D: Disk, M: Media, F: Notify + Drop> HasGround for HeapGround<D, M, F> {
 
     ghost idle = { λ g. grounded.HasNoCalls g };
 
-    ghost left = { λ g m image. grounded.Leaves D.bytes D.may_hold_after g.heap.cells.disk m image };
+    ghost left = { λ g m image.
+        grounded.Leaves D.tells_crashes D.may_hold_after g.heap.cells.disk m image };
 
     ghost opens = { λ image s. grounded.OpensAs image s };
 
     ghost crash_now = { λ g v image at left.
-        laws.crash_now D.bytes D.moment D.may_hold_after g v image at left };
+        laws.crash_now D.bytes D.tells_crashes D.moment D.may_hold_after g v image at left };
 
     ghost lasts_less = { λ g n lasts. lasts };
 
@@ -155,21 +157,22 @@ impl<D: Disk, M: Media, F: Notify + Drop> HeapGround<D, M, F> {
         media: M,
         notice: Notice<F>,
     ) -> Result<HeapGround<D, M, F>, Shut<D, M>>
-        ensures opened { IfOk result (IsOpen D.bytes D.moment D.may_hold_after disk) }
+        ensures opened { IfOk result (IsOpen D.bytes D.tells_crashes D.moment D.may_hold_after
+            disk) }
         ensures why { IfErr result (λ shut.
             ExplainsOpen (D.bytes disk) (D.faults disk) (D.faults shut.disk) shut.why) }
-        ensures disk { KeepsDisk D.size D.bytes disk (disk_of result) }
-        ensures inside { Both (D.bytes disk) (D.bytes (disk_of result)) KeepsRest }
+        ensures disk { KeepsDisk D.bytes D.tells_crashes disk (disk_of result) }
+        ensures inside { KeepsRest (D.bytes disk) (D.bytes (disk_of result)) }
         ensures media { media_of result ≡ media }
         ensures bytes { IfErr result (λ shut. LeavesBytes (D.bytes disk) (D.bytes shut.disk)
             shut.why) }
-        ensures again { IfErr result (λ shut.
-            MayBeAgain D.bytes D.moment D.may_hold_after disk shut.disk shut.why) }
+        ensures again { IfErr result (λ shut. MayBeAgain D.bytes D.tells_crashes D.moment
+            D.may_hold_after disk shut.disk shut.why) }
         ensures later { D.faults disk ≤ D.faults (disk_of result) }
         ensures forward { D.moment disk ≤ D.moment (disk_of result) }
-        ensures any_moment { IfTold (D.bytes disk) (λ x.
-            MayBeOpened x (D.may_hold_after disk (D.moment disk))
-            → AtEach D.moment D.may_hold_after disk (disk_of result) (GivesSame x)) }
+        ensures any_moment { IfTells (D.tells_crashes disk)
+            (MayBeOpened (D.bytes disk) (D.may_hold_after disk (D.moment disk))
+            → AtEach D.moment D.may_hold_after disk (disk_of result) (GivesSame (D.bytes disk))) }
     {
         let mut image = match Image::open(alloc, disk) {
             Ok(image) => image,
@@ -233,7 +236,7 @@ impl<D: Disk, M: Media, F: Notify + Drop> HeapGround<D, M, F> {
         ensures asks { AsksMedia M.Media call.now self.old self.new }
         ensures time { self.old.moment ≤ self.new.moment }
         ensures keeps { KeepsGround ⟦<HeapGround<D, M, F> as HasGround>⟧ true self.old self.new }
-        ensures inside { StaysInside D.bytes self.old self.new }
+        ensures inside { StaysInside D.bytes D.tells_crashes self.old self.new }
         ensures any_moment { LeavesBefore ⟦<HeapGround<D, M, F> as HasGround>⟧ self.old self.new }
     {
         self.heap.clear_moves();
@@ -272,7 +275,7 @@ impl<D: Disk, M: Media, F: Notify + Drop> HeapGround<D, M, F> {
             (MeetsFault ⟦<HeapGround<D, M, F> as HasGround>⟧ self.old self.new) }
         ensures time { self.old.moment ≤ self.new.moment }
         ensures keeps { KeepsGround ⟦<HeapGround<D, M, F> as HasGround>⟧ false self.old self.new }
-        ensures inside { StaysInside D.bytes self.old self.new }
+        ensures inside { StaysInside D.bytes D.tells_crashes self.old self.new }
         ensures any_moment { LeavesEither ⟦<HeapGround<D, M, F> as HasGround>⟧ self.old self.new }
     {
         match commit(&mut self.heap) {
@@ -310,7 +313,7 @@ impl<D: Disk, M: Media, F: Notify + Drop> HeapGround<D, M, F> {
             (MeetsFault ⟦<HeapGround<D, M, F> as HasGround>⟧ self.old self.new) }
         ensures time { self.old.moment ≤ self.new.moment }
         ensures keeps { KeepsGround ⟦<HeapGround<D, M, F> as HasGround>⟧ false self.old self.new }
-        ensures inside { StaysInside D.bytes self.old self.new }
+        ensures inside { StaysInside D.bytes D.tells_crashes self.old self.new }
         ensures any_moment { LeavesBefore ⟦<HeapGround<D, M, F> as HasGround>⟧ self.old self.new }
     {
         match cancel(&mut self.heap) {
@@ -343,7 +346,7 @@ impl<D: Disk, M: Media, F: Notify + Drop> HeapGround<D, M, F> {
         ensures quiet { IsQuiet self.old.heap.cells self.new.heap.cells }
         ensures time { self.old.moment ≤ self.new.moment }
         ensures keeps { KeepsGround ⟦<HeapGround<D, M, F> as HasGround>⟧ false self.old self.new }
-        ensures inside { StaysInside D.bytes self.old self.new }
+        ensures inside { StaysInside D.bytes D.tells_crashes self.old self.new }
         ensures any_moment { LeavesBefore ⟦<HeapGround<D, M, F> as HasGround>⟧ self.old self.new }
     {
         match look(&mut self.heap, ticket) {
@@ -357,6 +360,7 @@ impl<D: Disk, M: Media, F: Notify + Drop> HeapGround<D, M, F> {
         ensures disk { result.0 ≡ self.heap.cells.disk }
         ensures media { result.1 ≡ self.media }
         ensures seen { D.moment result.0 ≡ self.moment }
+        ensures holds { Holds D.bytes self.heap.cells }
     {
         let HeapGround {
             heap,
@@ -436,7 +440,7 @@ impl<D: Disk, M: Media, F: Notify + Drop> Backing for HeapGround<D, M, F> {
             → MeetsFault ⟦<HeapGround<D, M, F> as HasGround>⟧ self.old self.new }
         ensures time { self.old.moment ≤ self.new.moment }
         ensures keeps { KeepsGround ⟦<HeapGround<D, M, F> as HasGround>⟧ true self.old self.new }
-        ensures inside { StaysInside D.bytes self.old self.new }
+        ensures inside { StaysInside D.bytes D.tells_crashes self.old self.new }
         ensures any_moment { LeavesBefore ⟦<HeapGround<D, M, F> as HasGround>⟧ self.old self.new }
     {
         Ok(self.serve(call))
@@ -456,7 +460,7 @@ impl<D: Disk, M: Media, F: Notify + Drop> Backing for HeapGround<D, M, F> {
             → MeetsFault ⟦<HeapGround<D, M, F> as HasGround>⟧ self.old self.new }
         ensures time { self.old.moment ≤ self.new.moment }
         ensures keeps { KeepsGround ⟦<HeapGround<D, M, F> as HasGround>⟧ false self.old self.new }
-        ensures inside { StaysInside D.bytes self.old self.new }
+        ensures inside { StaysInside D.bytes D.tells_crashes self.old self.new }
         ensures any_moment { LeavesEither ⟦<HeapGround<D, M, F> as HasGround>⟧ self.old self.new }
     {
         match self.save() {

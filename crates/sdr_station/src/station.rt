@@ -1,7 +1,7 @@
 // A transaction on the world that a disk keeps.
 ghost use Rattle.std.specs.Prelude.{◌≡◌, ◌≤◌, ◌<◌, ◌+◌, ◌/◌, None, false, true, IfErr, IfOk};
 ghost use Rattle.sdr_disk.specs.Moments.{AtEach};
-ghost use Rattle.sdr_disk.specs.Told.{IfTold};
+ghost use Rattle.sdr_disk.specs.Tells.{IfTells};
 ghost use Rattle.sdr_image.specs.Opened.{IsQuiet};
 ghost use Rattle.sdr_image.specs.Opening.{MayBeOpened};
 ghost use Rattle.sdr_machine.specs.Crash.{LeavesBefore, LeavesOr, is_kept, commits_in};
@@ -97,18 +97,20 @@ impl<D: Disk, M: Media, F: Notify + Drop> Station<D, M, F> {
         media: M,
         notice: Notice<F>,
     ) -> Result<Station<D, M, F>, Shut<D, M>>
-        ensures opened { IfOk result (λ s. IsOpen D.bytes D.moment D.may_hold_after disk s.ground) }
+        ensures opened { IfOk result (λ s. IsOpen D.bytes D.tells_crashes D.moment D.may_hold_after
+            disk s.ground) }
         ensures idle { IfOk result (λ s. (s.nesting ≡ unbegun) × (s.failed ≡ None)) }
         ensures why { IfErr result (λ shut.
             ExplainsOpen (D.bytes disk) (D.faults disk) (D.faults shut.disk) shut.why) }
-        ensures disk { KeepsDisk D.size D.bytes disk (disk_under result) }
+        ensures disk { KeepsDisk D.bytes D.tells_crashes disk (disk_under result) }
         ensures media { media_under result ≡ media }
         ensures bytes { IfErr result (λ shut.
             LeavesBytes (D.bytes disk) (D.bytes shut.disk) shut.why) }
         ensures later { D.faults disk ≤ D.faults (disk_under result) }
-        ensures any_moment { IfTold (D.bytes disk) (λ x.
-            MayBeOpened x (D.may_hold_after disk (D.moment disk))
-            → AtEach D.moment D.may_hold_after disk (disk_under result) (GivesSame x)) }
+        ensures any_moment { IfTells (D.tells_crashes disk)
+            (MayBeOpened (D.bytes disk) (D.may_hold_after disk (D.moment disk))
+            → AtEach D.moment D.may_hold_after disk (disk_under result) (GivesSame
+            (D.bytes disk))) }
     {
         match HeapGround::open(alloc, disk, media, notice) {
             Ok(ground) => Ok(Station {

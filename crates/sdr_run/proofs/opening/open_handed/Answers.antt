@@ -8,7 +8,7 @@ use Rattle.sdr_run.proofs.opening.open_handed.Goals as goal
 pub new-requires-in-Ok : goal.new-requires-in-Ok
 new-requires-in-Ok g c =
     let e = c.in-Ok.ensures in
-    stays_opened g.D.Disk g.J.HandedIn.was c.new-held.result c.args.disk c.in-Ok.ground c.requires.handed c.new-held.ensures e.opened e.disk e.inside
+    stays_opened g.D.Disk g.J.HandedIn.was c.new-held.result c.args.disk c.in-Ok.ground c.requires.handed c.new-held.ensures e.opened e.inside
 
 pub returns-in-Ok-clause-opened : goal.returns-in-Ok-clause-opened
 returns-in-Ok-clause-opened g c =
@@ -32,6 +32,6 @@ returns-in-Err-clause-shut g c =
       bytes = e.bytes;
       outside = e.inside;
       again = e.again;
-      any_moment = λ settled x is. e.any_moment x is (settled x is);
+      any_moment = λ settled told. e.any_moment told (settled told);
       later = e.later;
     })

@@ -2,7 +2,7 @@ use Rattle.std.proofs.Common.{◌≡◌, ◌∙◌, ap, sym, subst, [], length, 
 use Rattle.std.proofs.lemmas.List.{nil_from_length}
 use Rattle.std.proofs.lemmas.Bool.{eqb-true}
 use Rattle.sdr_disk.specs.Moments.{AtEach}
-use Rattle.sdr_disk.specs.Told.{IfTold}
+use Rattle.sdr_disk.specs.Tells.{IfTells}
 use Rattle.sdr_disk.proofs.MomentsLemmas.{at_then}
 use Rattle.sdr_image.specs.Changed.{GivesEither}
 use Rattle.sdr_image.specs.Opened.{Opened, lines_named}
@@ -28,7 +28,7 @@ returns-clause-saved g c =
     (eqb-true (length c.olds-touched.result.now) 0 (sym c.is_empty.ensures ∙ c.if-not-is_empty.false)) in
     let touched = ap (λ (v : Opened g.row.D.Denot). v.touched) c.self.view_is in
     let idle = sym touched ∙ ap (λ (rs : List Record). lines_named rs) none in
-    Saves-from g.D.Disk.bytes g.D.Disk.moment g.D.Disk.may_hold_after c.args.self.now _ old.disk old.frame old.bytes
+    Saves-from g.D.Disk.bytes g.D.Disk.tells_crashes g.D.Disk.moment g.D.Disk.may_hold_after c.args.self.now _ old.disk old.frame old.bytes
     old.undo.olds
     (ap (λ (v : Opened g.row.D.Denot). v.disk) c.self.view_is)
     (ap (λ (v : Opened g.row.D.Denot). v.frame) c.self.view_is)
@@ -36,15 +36,15 @@ returns-clause-saved g c =
     (ap (λ (v : Opened g.row.D.Denot). v.begun) c.self.view_is)
     touched i.good i.whole i.long
     (λ some. absurd (some idle))
-    (image_bytes _ _ _ _ _ _ _ _ i c.if-self.false none)
+    (image_bytes _ _ _ _ _ _ _ i c.if-self.false none)
     (λ some. absurd (some idle))
 
 pub returns-clause-any_moment : goal.returns-clause-any_moment
 returns-clause-any_moment g c sound rests =
     let old = c.args.self.now in
-    subst (λ (disk : g.row.D.Denot). IfTold (g.D.Disk.bytes old.disk)
-    (λ _. AtEach g.D.Disk.moment g.D.Disk.may_hold_after old.disk disk (GivesEither old.begun old.bytes)))
+    subst (λ (disk : g.row.D.Denot). IfTells (g.D.Disk.tells_crashes old.disk)
+    (AtEach g.D.Disk.moment g.D.Disk.may_hold_after old.disk disk (GivesEither old.begun old.bytes)))
     (sym (ap (λ (v : Opened g.row.D.Denot). v.disk) c.self.view_is))
-    (λ x is. at_then g.D.Disk.moment g.D.Disk.may_hold_after old.disk old.disk (GivesHeap old.begun)
+    (λ told. at_then g.D.Disk.moment g.D.Disk.may_hold_after old.disk old.disk (GivesHeap old.begun)
     (GivesEither old.begun old.bytes)
-    (rests_now g.D.Disk.bytes g.D.Disk.moment g.D.Disk.may_hold_after old sound rests x is) (λ image gives. inl gives))
+    (rests_now g.D.Disk.bytes g.D.Disk.tells_crashes g.D.Disk.moment g.D.Disk.may_hold_after old sound rests told) (λ image gives. inl gives))

@@ -11,7 +11,7 @@ invariant_of-self g c =
     let old = c.self.inside in
     let same = ap (λ (v : Opened g.row.D.Denot). v.touched) c.self.view_is in
     let bytes = ap (λ (v : Opened g.row.D.Denot). v.bytes) c.self.view_is in
-    IsImage-put (g.D.Disk.size old.disk) (g.D.Disk.bytes old.disk) old.frame old.bytes old.undo
+    IsImage-put (g.D.Disk.bytes old.disk) old.frame old.bytes old.undo
     old.saving old.is_open old.failed c.self.invariant c.args.place c.args.from.now c.put.new.self
     c.put.ensures (omega (arith, c.requires.inside, ap length bytes))
     (λ line own. ap (λ (t : List ℕ). is_among t line) same ∙ c.requires.touched line own)
@@ -23,7 +23,7 @@ returns g c =
     let bytes = ap (λ (v : Opened g.row.D.Denot). v.bytes) c.self.view_is in
     let written = c.put.ensures ∙ ap (overwrite c.args.place c.args.from.now) bytes in
     let begun = ap (put_records old.undo.olds) c.put.ensures
-    ∙ begun-put (g.D.Disk.size old.disk) (g.D.Disk.bytes old.disk) old.frame old.bytes old.undo
+    ∙ begun-put (g.D.Disk.bytes old.disk) old.frame old.bytes old.undo
     old.saving old.is_open old.failed c.self.invariant c.args.place c.args.from.now
     (omega (arith, c.requires.inside, ap length bytes))
     (λ line own. ap (λ (t : List ℕ). is_among t line) same ∙ c.requires.touched line own)

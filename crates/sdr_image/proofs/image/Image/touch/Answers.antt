@@ -26,7 +26,7 @@ invariant_of-self g c =
     let new : names_line old.undo.olds c.args.line ≡ false = sym c.is_touched.ensures ∙ c.if-not-is_touched.true in
     let few = few_more old.undo.olds c.args.self.now.touched c.args.line (room_of old.frame)
     (room_of c.args.self.now.frame) same room new c.requires.room in
-    IsImage-keep (g.D.Disk.size old.disk) (g.D.Disk.bytes old.disk) old.frame old.bytes old.undo
+    IsImage-keep (g.D.Disk.bytes old.disk) old.frame old.bytes old.undo
     old.saving old.is_open old.failed c.self.invariant
     (record { line = c.args.line; bytes = c.line_at-bytes.result }) c.keep.new.self c.keep.ensures
     (omega (arith, c.requires.below, lines)) new few c.line_at-bytes.ensures
@@ -42,7 +42,7 @@ returns-then-not-is_touched g c =
     let touched = ap (λ (l : List Record). lines_named l) olds
     ∙ lines_named-push old.undo.olds c.args.self.now.touched r same new in
     let begun = ap (λ (l : List Record). put_records l old.bytes) olds
-    ∙ begun-keep (g.D.Disk.size old.disk) (g.D.Disk.bytes old.disk) old.frame old.bytes old.undo
+    ∙ begun-keep (g.D.Disk.bytes old.disk) old.frame old.bytes old.undo
     old.saving old.is_open old.failed c.self.invariant r
     (omega (arith, c.requires.below, lines)) new c.line_at-bytes.ensures
     ∙ ap (λ (v : Opened g.row.D.Denot). v.begun) c.self.view_is in

@@ -1,5 +1,4 @@
-use Rattle.std.proofs.Common.{◌∙◌, ℕ, ap, sym, subst, arith, length}
-use Rattle.std.proofs.lemmas.Option.{same_Some}
+use Rattle.std.proofs.Common.{ℕ, ap, sym, subst, arith, length}
 use Rattle.std.proofs.lemmas.List.Sorted.{length_permutation}
 use Rattle.sdr_image.specs.Saved.{MaySave}
 use Rattle.sdr_image.proofs.SavedLemmas.{gathered_both, gathered_one, news_below, news_many, news_named, place_for}
@@ -55,22 +54,22 @@ returns-in_err-change_lines-clause-calls g c = omega (
 )
 
 pub returns-in_err-change_lines-clause-any_moment : goal.returns-in_err-change_lines-clause-any_moment
-returns-in_err-change_lines-clause-any_moment g c x is h =
+returns-in_err-change_lines-clause-any_moment g c told h =
     saved_each _ _ _ _ c.requires.lines _ _ (gathered_both _ _ _ _ _ _ _ c.gather_rising.ensures.lines
     c.gather_rising.ensures.rising c.deref.ensures.value c.gather_now.ensures.lines c.deref-2.ensures.value
-    c.deref-3.ensures.value) _ _ _ _ x _ h (c.change_lines.ensures.any_moment x is)
+    c.deref-3.ensures.value) _ _ _ _ _ _ h (c.change_lines.ensures.any_moment told)
 
 pub returns-clause-written : goal.returns-clause-written
-returns-clause-written g c x is y now =
+returns-clause-written g c =
     saved_as _ _ _ _ c.requires.lines _ _ (gathered_both _ _ _ _ _ _ _ c.gather_rising.ensures.lines
     c.gather_rising.ensures.rising c.deref.ensures.value c.gather_now.ensures.lines c.deref-2.ensures.value
-    c.deref-3.ensures.value) x y (same_Some _ _ (sym now ∙ c.in_ok-change_lines.ensures.written x is))
+    c.deref-3.ensures.value) _ _ c.in_ok-change_lines.ensures.written
 
 pub returns-clause-bytes : goal.returns-clause-bytes
-returns-clause-bytes g c x is y now h =
+returns-clause-bytes g c h =
     saved_bytes _ _ _ _ c.requires.lines _ _ (gathered_both _ _ _ _ _ _ _ c.gather_rising.ensures.lines
     c.gather_rising.ensures.rising c.deref.ensures.value c.gather_now.ensures.lines c.deref-2.ensures.value
-    c.deref-3.ensures.value) x y h (c.in_ok-change_lines.ensures.bytes x is y now)
+    c.deref-3.ensures.value) _ _ h c.in_ok-change_lines.ensures.bytes
 
 pub returns-clause-calls : goal.returns-clause-calls
 returns-clause-calls g c = omega (
@@ -82,7 +81,7 @@ returns-clause-calls g c = omega (
 )
 
 pub returns-clause-any_moment : goal.returns-clause-any_moment
-returns-clause-any_moment g c x is h =
+returns-clause-any_moment g c told h =
     saved_each _ _ _ _ c.requires.lines _ _ (gathered_both _ _ _ _ _ _ _ c.gather_rising.ensures.lines
     c.gather_rising.ensures.rising c.deref.ensures.value c.gather_now.ensures.lines c.deref-2.ensures.value
-    c.deref-3.ensures.value) _ _ _ _ x _ h (c.change_lines.ensures.any_moment x is)
+    c.deref-3.ensures.value) _ _ _ _ _ _ h (c.change_lines.ensures.any_moment told)

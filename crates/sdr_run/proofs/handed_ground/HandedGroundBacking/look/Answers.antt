@@ -14,8 +14,8 @@ returns-clause-shown g c =
     let D = g.row.D.Denot in
     let M = g.row.M.Denot in
     let d = g.D.Disk in
-    subst (λ (o : Grounded D M). Brings (λ (x : Grounded D M) (v : GroundState). StandsWhere g.J.HandedIn.condition d.bytes d.moment d.may_hold_after x v) o c.look.new.self (Shows c.args.ticket c.look.result))
-    c.self.view_is (brings_where g.J.HandedIn.condition d.bytes d.moment d.faults d.may_hold_after g.M.Media c.self.inside.ground c.look.new.self
+    subst (λ (o : Grounded D M). Brings (λ (x : Grounded D M) (v : GroundState). StandsWhere g.J.HandedIn.condition d.bytes d.tells_crashes d.moment d.may_hold_after x v) o c.look.new.self (Shows c.args.ticket c.look.result))
+    c.self.view_is (brings_where g.J.HandedIn.condition d.bytes d.tells_crashes d.moment d.faults d.may_hold_after g.M.Media c.self.inside.ground c.look.new.self
     c.look.ensures.memory c.look.ensures.shown)
 
 pub returns-clause-idle : goal.returns-clause-idle
@@ -29,17 +29,17 @@ returns-clause-keeps g c =
     let D = g.row.D.Denot in
     let M = g.row.M.Denot in
     let d = g.D.Disk in
-    subst (λ (o : Grounded D M). KeepsGround (ground_where g.J.HandedIn.condition d.bytes d.moment d.faults d.may_hold_after g.M.Media) false o c.look.new.self) c.self.view_is
-    (keeps_where g.J.HandedIn.condition d.bytes d.moment d.faults d.may_hold_after g.M.Media c.self.inside.ground c.look.new.self c.look.ensures.keeps)
+    subst (λ (o : Grounded D M). KeepsGround (ground_where g.J.HandedIn.condition d.bytes d.tells_crashes d.moment d.faults d.may_hold_after g.M.Media) false o c.look.new.self) c.self.view_is
+    (keeps_where g.J.HandedIn.condition d.bytes d.tells_crashes d.moment d.faults d.may_hold_after g.M.Media c.self.inside.ground c.look.new.self c.look.ensures.keeps)
 
 pub returns-clause-any_moment : goal.returns-clause-any_moment
 returns-clause-any_moment g c =
     let D = g.row.D.Denot in
     let M = g.row.M.Denot in
     let d = g.D.Disk in
-    subst (λ (o : Grounded D M). LeavesBefore (ground_where g.J.HandedIn.condition d.bytes d.moment d.faults d.may_hold_after g.M.Media) o c.look.new.self) c.self.view_is
-    (leaves_where g.J.HandedIn.condition d.bytes d.moment d.faults d.may_hold_after g.M.Media c.self.inside.ground c.look.new.self c.look.ensures.time c.look.ensures.any_moment)
+    subst (λ (o : Grounded D M). LeavesBefore (ground_where g.J.HandedIn.condition d.bytes d.tells_crashes d.moment d.faults d.may_hold_after g.M.Media) o c.look.new.self) c.self.view_is
+    (leaves_where g.J.HandedIn.condition d.bytes d.tells_crashes d.moment d.faults d.may_hold_after g.M.Media c.self.inside.ground c.look.new.self c.look.ensures.time c.look.ensures.any_moment)
 
 pub invariant_of-self : goal.invariant_of-self
 invariant_of-self g c =
-    stays_more g.D.Disk.bytes g.J.HandedIn.was.bytes c.self.inside.ground c.look.new.self c.self.invariant c.look.ensures.inside
+    stays_more g.D.Disk.bytes g.D.Disk.tells_crashes g.J.HandedIn.was.bytes c.self.inside.ground c.look.new.self c.self.invariant c.look.ensures.inside

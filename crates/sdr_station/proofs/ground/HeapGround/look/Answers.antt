@@ -97,6 +97,7 @@ returns-clause-shown g c =
     let D = g.row.D.Denot in
     let M = g.row.M.Denot in
     let b = g.D.Disk.bytes in
+    let t = g.D.Disk.tells_crashes in
     let m = g.D.Disk.moment in
     let f = g.D.Disk.faults in
     let l = g.D.Disk.may_hold_after in
@@ -113,10 +114,10 @@ returns-clause-shown g c =
     let before = before_idle g.D.Disk.moment old c.self.invariant (ap (λ (o : Grounded D M). o.idle) c.self.view_is ∙ c.requires.idle) in
     let quiet = (looked_quiet g.D.Disk.faults old c.look.new.o _ c.in-Ok.ensures.looks).0 in
     subst
-    (λ (o : Grounded D M). Brings (λ g v. StandsForBoth b m l g v) o (record old { heap = c.look.new.o })
+    (λ (o : Grounded D M). Brings (λ g v. StandsForBoth b t m l g v) o (record old { heap = c.look.new.o })
     (Shows c.args.ticket c.in-Ok.granted))
     c.self.view_is
-    (brings_quiet b m l old (record old { heap = c.look.new.o }) quiet refl
+    (brings_quiet b t m l old (record old { heap = c.look.new.o }) quiet refl
     (shows_seen f old c.look.new.o _ c.in-Ok.ensures.looks c.args.ticket c.in-Ok.granted before c.in-Ok.ensures.seen))
 
 pub returns-clause-quiet : goal.returns-clause-quiet
@@ -140,6 +141,7 @@ returns-clause-keeps g c =
     let D = g.row.D.Denot in
     let M = g.row.M.Denot in
     let b = g.D.Disk.bytes in
+    let t = g.D.Disk.tells_crashes in
     let m = g.D.Disk.moment in
     let f = g.D.Disk.faults in
     let l = g.D.Disk.may_hold_after in
@@ -154,8 +156,8 @@ returns-clause-keeps g c =
       restored = c.self.inside.restored;
     } in
     let quiet = (looked_quiet g.D.Disk.faults old c.look.new.o _ c.in-Ok.ensures.looks).0 in
-    subst (λ (o : Grounded D M). KeepsGround (heap_ground b m f l n) false o (record old { heap = c.look.new.o })) c.self.view_is
-    (keeps_later b m f l n old (record old { heap = c.look.new.o }) refl
+    subst (λ (o : Grounded D M). KeepsGround (heap_ground b t m f l n) false o (record old { heap = c.look.new.o })) c.self.view_is
+    (keeps_later b t m f l n old (record old { heap = c.look.new.o }) refl
     (subst (λ (d : D). f old.heap.cells.disk ≤ f d) (sym quiet.disk) (omega arith)))
 
 pub returns-clause-inside : goal.returns-clause-inside
@@ -172,14 +174,15 @@ returns-clause-inside g c =
       restored = c.self.inside.restored;
     } in
     let quiet = (looked_quiet g.D.Disk.faults old c.look.new.o _ c.in-Ok.ensures.looks).0 in
-    subst (λ (o : Grounded D M). StaysInside g.D.Disk.bytes o (record old { heap = c.look.new.o })) c.self.view_is
-    (inside_quiet g.D.Disk.bytes old (record old { heap = c.look.new.o }) quiet)
+    subst (λ (o : Grounded D M). StaysInside g.D.Disk.bytes g.D.Disk.tells_crashes o (record old { heap = c.look.new.o })) c.self.view_is
+    (inside_quiet g.D.Disk.bytes g.D.Disk.tells_crashes old (record old { heap = c.look.new.o }) quiet)
 
 pub returns-clause-any_moment : goal.returns-clause-any_moment
 returns-clause-any_moment g c =
     let D = g.row.D.Denot in
     let M = g.row.M.Denot in
     let b = g.D.Disk.bytes in
+    let t = g.D.Disk.tells_crashes in
     let m = g.D.Disk.moment in
     let f = g.D.Disk.faults in
     let l = g.D.Disk.may_hold_after in
@@ -194,5 +197,5 @@ returns-clause-any_moment g c =
       restored = c.self.inside.restored;
     } in
     let quiet = (looked_quiet g.D.Disk.faults old c.look.new.o _ c.in-Ok.ensures.looks).0 in
-    subst (λ (o : Grounded D M). LeavesBefore (heap_ground b m f l n) o (record old { heap = c.look.new.o })) c.self.view_is
-    (leaves_quiet b m f l n old (record old { heap = c.look.new.o }) quiet.disk refl)
+    subst (λ (o : Grounded D M). LeavesBefore (heap_ground b t m f l n) o (record old { heap = c.look.new.o })) c.self.view_is
+    (leaves_quiet b t m f l n old (record old { heap = c.look.new.o }) quiet.disk refl)

@@ -1,9 +1,8 @@
 use Rattle.std.proofs.Common.{◌∙◌, ap, false, sym, subst, true}
 use Rattle.sdr_disk.specs.Moments.{AtEach, Reads}
 use Rattle.sdr_disk.specs.Pending.{IsSynced}
-use Rattle.sdr_disk.specs.Told.{Both}
 use Rattle.sdr_image.proofs.OutsideLemmas.{UnlessFault-then}
-use Rattle.sdr_log.specs.Calls.{KeepsRest}
+use Rattle.sdr_log.specs.Calls.{KeepsRest, PutsBack}
 use Rattle.sdr_audit.specs.declared.census.Census.{Census}
 use Rattle.sdr_heap.specs.Noted.{Held}
 use Rattle.sdr_image.specs.Opened.{Opened, transaction_of}
@@ -17,21 +16,25 @@ use Rattle.sdr_station.proofs.ground.HeapGround.open.Goals as goal
 pub returns-in-Err-clause-bytes : goal.returns-in-Err-clause-bytes
 returns-in-Err-clause-bytes g c =
     let b = g.D.Disk.bytes in
+    let t = g.D.Disk.tells_crashes in
     image_leaves (b c.args.disk) (b c.in-Err.shut.disk) c.in-Err.shut.why c.of_image.result c.of_image.ensures
-    (UnlessFault-then c.in-Err.shut.why (λ (reads : Reads b g.D.Disk.moment g.D.Disk.may_hold_after c.args.disk c.in-Err.shut.disk). reads.same) c.in-Err.ensures.same)
+    (UnlessFault-then c.in-Err.shut.why (λ (reads : Reads b t g.D.Disk.moment g.D.Disk.may_hold_after c.args.disk c.in-Err.shut.disk). reads.same) c.in-Err.ensures.same)
 
 pub returns-in-Err-check-clause-bytes : goal.returns-in-Err-check-clause-bytes
 returns-in-Err-check-clause-bytes g c =
     let b = g.D.Disk.bytes in
-    audit_leaves (b c.args.disk) (b c.into_disk.result) c.in-Err-check.why c.of_audit.result c.of_audit.ensures (λ x is y tells. record {
+    let t = g.D.Disk.tells_crashes in
+    audit_leaves (b c.args.disk) (b c.into_disk.result) c.in-Err-check.why c.of_audit.result c.of_audit.ensures (record {
       frame = c.in-Ok.image.frame;
       count = c.in-Ok.image.restored;
-      back = c.in-Ok.ensures.opened.back x is y (sym (ap b (c.into_disk.ensures.disk ∙ c.check.ensures.reads.quiet.disk)) ∙ tells);
+      back = subst (λ (d : g.row.D.Denot). PutsBack c.in-Ok.image.frame c.in-Ok.image.restored (b c.args.disk) (b d))
+          (sym (c.into_disk.ensures.disk ∙ c.check.ensures.reads.quiet.disk)) c.in-Ok.ensures.opened.back;
     })
 
 pub returns-in-Err-check-clause-why : goal.returns-in-Err-check-clause-why
 returns-in-Err-check-clause-why g c =
     let b = g.D.Disk.bytes in
+    let t = g.D.Disk.tells_crashes in
     let f = g.D.Disk.faults in
     let e = c.in-Err-check.ensures in
     let o = c.in-Ok.ensures.opened in
@@ -39,20 +42,21 @@ returns-in-Err-check-clause-why g c =
     c.in-Err-check.why c.of_audit.result c.of_audit.ensures o.heap e.reads.cause o.sound e.reads.quiet.failed e.damaged e.none
 
 pub returns-in-Err-check-clause-any_moment : goal.returns-in-Err-check-clause-any_moment
-returns-in-Err-check-clause-any_moment g c x is may =
+returns-in-Err-check-clause-any_moment g c told may =
     let D = g.row.D.Denot in
-    subst (λ (d : D). AtEach g.D.Disk.moment g.D.Disk.may_hold_after c.args.disk d (GivesSame x))
-    (sym (c.into_disk.ensures.disk ∙ c.check.ensures.reads.quiet.disk)) (c.in-Ok.ensures.any_moment x is may)
+    subst (λ (d : D). AtEach g.D.Disk.moment g.D.Disk.may_hold_after c.args.disk d (GivesSame (g.D.Disk.bytes c.args.disk)))
+    (sym (c.into_disk.ensures.disk ∙ c.check.ensures.reads.quiet.disk)) (c.in-Ok.ensures.any_moment told may)
 
 pub returns-in-Ok-new-clause-opened : goal.returns-in-Ok-new-clause-opened
 returns-in-Ok-new-clause-opened g c =
     let D = g.row.D.Denot in
     let M = g.row.M.Denot in
     let b = g.D.Disk.bytes in
+    let t = g.D.Disk.tells_crashes in
     let m = g.D.Disk.moment in
     let l = g.D.Disk.may_hold_after in
     let made = c.in-Ok-new.ensures.made in
-    subst (λ (n : Grounded D M). IsOpen b m l c.args.disk n)
+    subst (λ (n : Grounded D M). IsOpen b t m l c.args.disk n)
     (λ i. record {
       heap = sym made i;
       media = c.args.media;
@@ -62,29 +66,30 @@ returns-in-Ok-new-clause-opened g c =
       moment = sym c.now-moment.ensures.moment i;
       restored = sym c.restored-restored.ensures i;
     })
-    (open_stands b m l c.args.disk c.args.media c.in-Ok.image c.check.new.c _ _ c.in-Ok.ensures.opened c.check.ensures.reads.quiet c.check.ensures.reads.bytes c.check.ensures.reads.touched c.in_default.ensures.stands)
+    (open_stands b t m l c.args.disk c.args.media c.in-Ok.image c.check.new.c _ _ c.in-Ok.ensures.opened c.check.ensures.reads.quiet c.check.ensures.reads.bytes c.check.ensures.reads.touched c.in_default.ensures.stands)
 
 pub returns-in-Ok-new-clause-any_moment : goal.returns-in-Ok-new-clause-any_moment
-returns-in-Ok-new-clause-any_moment g c x is may =
+returns-in-Ok-new-clause-any_moment g c told may =
     let D = g.row.D.Denot in
-    subst (λ (d : D). AtEach g.D.Disk.moment g.D.Disk.may_hold_after c.args.disk d (GivesSame x))
-    (sym (ap (λ (h : Held (Opened D)). h.cells.disk) c.in-Ok-new.ensures.made ∙ c.check.ensures.reads.quiet.disk)) (c.in-Ok.ensures.any_moment x is may)
+    subst (λ (d : D). AtEach g.D.Disk.moment g.D.Disk.may_hold_after c.args.disk d (GivesSame (g.D.Disk.bytes c.args.disk)))
+    (sym (ap (λ (h : Held (Opened D)). h.cells.disk) c.in-Ok-new.ensures.made ∙ c.check.ensures.reads.quiet.disk)) (c.in-Ok.ensures.any_moment told may)
 
 pub returns-in-Err-new-clause-any_moment : goal.returns-in-Err-new-clause-any_moment
-returns-in-Err-new-clause-any_moment g c x is may =
+returns-in-Err-new-clause-any_moment g c told may =
     let D = g.row.D.Denot in
-    subst (λ (d : D). AtEach g.D.Disk.moment g.D.Disk.may_hold_after c.args.disk d (GivesSame x))
-    (sym (c.into_disk-in-Err-new.ensures.disk ∙ ap (λ (i : Opened D). i.disk) c.in-Err-new.ensures.back ∙ c.check.ensures.reads.quiet.disk)) (c.in-Ok.ensures.any_moment x is may)
+    subst (λ (d : D). AtEach g.D.Disk.moment g.D.Disk.may_hold_after c.args.disk d (GivesSame (g.D.Disk.bytes c.args.disk)))
+    (sym (c.into_disk-in-Err-new.ensures.disk ∙ ap (λ (i : Opened D). i.disk) c.in-Err-new.ensures.back ∙ c.check.ensures.reads.quiet.disk)) (c.in-Ok.ensures.any_moment told may)
 
 pub invariant_of-result : goal.invariant_of-result
 invariant_of-result g c =
     let D = g.row.D.Denot in
     let M = g.row.M.Denot in
     let b = g.D.Disk.bytes in
+    let t = g.D.Disk.tells_crashes in
     let m = g.D.Disk.moment in
     let l = g.D.Disk.may_hold_after in
     let made = c.in-Ok-new.ensures.made in
-    open_ground b m l c.args.disk _ (subst (λ (n : Grounded D M). IsOpen b m l c.args.disk n)
+    open_ground b t m l c.args.disk _ (subst (λ (n : Grounded D M). IsOpen b t m l c.args.disk n)
     (λ i. record {
       heap = sym made i;
       media = c.args.media;
@@ -94,49 +99,54 @@ invariant_of-result g c =
       moment = sym c.now-moment.ensures.moment i;
       restored = sym c.restored-restored.ensures i;
     })
-    (open_stands b m l c.args.disk c.args.media c.in-Ok.image c.check.new.c _ _ c.in-Ok.ensures.opened c.check.ensures.reads.quiet c.check.ensures.reads.bytes c.check.ensures.reads.touched c.in_default.ensures.stands))
+    (open_stands b t m l c.args.disk c.args.media c.in-Ok.image c.check.new.c _ _ c.in-Ok.ensures.opened c.check.ensures.reads.quiet c.check.ensures.reads.bytes c.check.ensures.reads.touched c.in_default.ensures.stands))
 
 pub returns-in-Err-clause-again : goal.returns-in-Err-clause-again
 returns-in-Err-clause-again g c =
-    image_again g.D.Disk.bytes g.D.Disk.moment g.D.Disk.may_hold_after c.args.disk c.in-Err.shut.disk c.in-Err.shut.why c.of_image.result
+    image_again g.D.Disk.bytes g.D.Disk.tells_crashes g.D.Disk.moment g.D.Disk.may_hold_after c.args.disk c.in-Err.shut.disk c.in-Err.shut.why c.of_image.result
     c.of_image.ensures c.in-Err.ensures.same c.in-Err.ensures.faulted
 
 pub returns-in-Err-check-clause-again : goal.returns-in-Err-check-clause-again
 returns-in-Err-check-clause-again g c =
     let D = g.row.D.Denot in
     let b = g.D.Disk.bytes in
+    let t = g.D.Disk.tells_crashes in
     let m = g.D.Disk.moment in
     let l = g.D.Disk.may_hold_after in
-    synced_again b m l c.args.disk c.into_disk.result c.of_audit.result
-    (λ may. subst (λ (d : D). IsSynced b m l d) (sym (c.into_disk.ensures.disk ∙ c.check.ensures.reads.quiet.disk))
-    (opened_synced b m l c.args.disk c.in-Ok.image c.in-Ok.ensures.opened may))
+    synced_again b t m l c.args.disk c.into_disk.result c.of_audit.result
+    (ap t (c.into_disk.ensures.disk ∙ c.check.ensures.reads.quiet.disk) ∙ c.in-Ok.ensures.disk.keeps.tells)
+    (λ may. subst (λ (d : D). IsSynced b t m l d) (sym (c.into_disk.ensures.disk ∙ c.check.ensures.reads.quiet.disk))
+    (opened_synced b t m l c.args.disk c.in-Ok.image c.in-Ok.ensures.opened may))
 
 pub returns-in-Err-new-clause-again : goal.returns-in-Err-new-clause-again
 returns-in-Err-new-clause-again g c =
     let D = g.row.D.Denot in
     let b = g.D.Disk.bytes in
+    let t = g.D.Disk.tells_crashes in
     let m = g.D.Disk.moment in
     let l = g.D.Disk.may_hold_after in
-    synced_again b m l c.args.disk c.into_disk-in-Err-new.result errors.NoMemory
-    (λ may. subst (λ (d : D). IsSynced b m l d)
+    synced_again b t m l c.args.disk c.into_disk-in-Err-new.result errors.NoMemory
+    (ap t (c.into_disk-in-Err-new.ensures.disk ∙ ap (λ (i : Opened D). i.disk) c.in-Err-new.ensures.back
+    ∙ c.check.ensures.reads.quiet.disk) ∙ c.in-Ok.ensures.disk.keeps.tells)
+    (λ may. subst (λ (d : D). IsSynced b t m l d)
     (sym (c.into_disk-in-Err-new.ensures.disk ∙ ap (λ (i : Opened D). i.disk) c.in-Err-new.ensures.back ∙ c.check.ensures.reads.quiet.disk))
-    (opened_synced b m l c.args.disk c.in-Ok.image c.in-Ok.ensures.opened may))
+    (opened_synced b t m l c.args.disk c.in-Ok.image c.in-Ok.ensures.opened may))
 
 pub returns-in-Err-check-clause-inside : goal.returns-in-Err-check-clause-inside
 returns-in-Err-check-clause-inside g c =
     let D = g.row.D.Denot in
-    subst (λ (d : D). Both (g.D.Disk.bytes c.args.disk) (g.D.Disk.bytes d) KeepsRest)
+    subst (λ (d : D). KeepsRest (g.D.Disk.bytes c.args.disk) (g.D.Disk.bytes d))
     (sym (c.into_disk.ensures.disk ∙ c.check.ensures.reads.quiet.disk)) c.in-Ok.ensures.inside
 
 pub returns-in-Ok-new-clause-inside : goal.returns-in-Ok-new-clause-inside
 returns-in-Ok-new-clause-inside g c =
     let D = g.row.D.Denot in
-    subst (λ (d : D). Both (g.D.Disk.bytes c.args.disk) (g.D.Disk.bytes d) KeepsRest)
+    subst (λ (d : D). KeepsRest (g.D.Disk.bytes c.args.disk) (g.D.Disk.bytes d))
     (sym (ap (λ (h : Held (Opened D)). h.cells.disk) c.in-Ok-new.ensures.made ∙ c.check.ensures.reads.quiet.disk)) c.in-Ok.ensures.inside
 
 pub returns-in-Err-new-clause-inside : goal.returns-in-Err-new-clause-inside
 returns-in-Err-new-clause-inside g c =
     let D = g.row.D.Denot in
-    subst (λ (d : D). Both (g.D.Disk.bytes c.args.disk) (g.D.Disk.bytes d) KeepsRest)
+    subst (λ (d : D). KeepsRest (g.D.Disk.bytes c.args.disk) (g.D.Disk.bytes d))
     (sym (c.into_disk-in-Err-new.ensures.disk ∙ ap (λ (i : Opened D). i.disk) c.in-Err-new.ensures.back ∙ c.check.ensures.reads.quiet.disk))
     c.in-Ok.ensures.inside

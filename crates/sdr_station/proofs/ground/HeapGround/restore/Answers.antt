@@ -16,6 +16,7 @@ returns-in-Ok g c =
     let D = g.row.D.Denot in
     let M = g.row.M.Denot in
     let b = g.D.Disk.bytes in
+    let t = g.D.Disk.tells_crashes in
     let m = g.D.Disk.moment in
     let l = g.D.Disk.may_hold_after in
     let f = g.D.Disk.faults in
@@ -47,9 +48,9 @@ returns-in-Ok g c =
     let at_now = at.ensures.moment ∙ ap (λ (h : Held (Opened D)). m h.cells.disk) at.ensures.same in
     let since : old.moment ≤ at.result = omega (arith, at_now, c.self.invariant.seen, e.forward) in
     let sound : old.heap.cells.failed ≡ false = e.cause.explained.0 in
-    let closed = closes_back b m f l n old disk at.result at_now since sound e.disk.tells _ (e.any_moment sound) new is c.self.invariant
-    e.cause.later (λ rests. subst (λ (h : Held (Opened D)). Rests b m l h.cells) e.ended (e.rests rests)) (λ image p. p) in
-    let all : ClosesTo b m f l n false RollsBack c.args.self.now new = subst (λ (o : Grounded D M). ClosesTo b m f l n false RollsBack o new) c.self.view_is closed in
+    let closed = closes_back b t m f l n old disk at.result at_now since sound e.disk.tells _ (e.any_moment sound) new is c.self.invariant
+    e.cause.later (λ rests. subst (λ (h : Held (Opened D)). Rests b t m l h.cells) e.ended (e.rests rests)) (λ image p. p) in
+    let all : ClosesTo b t m f l n false RollsBack c.args.self.now new = subst (λ (o : Grounded D M). ClosesTo b t m f l n false RollsBack o new) c.self.view_is closed in
     record {
       memory = all.memory;
       put_back = all.brings;
@@ -63,8 +64,8 @@ returns-in-Ok g c =
       fault = tt;
       time = all.time;
       keeps = all.keeps;
-      inside = subst (λ (o : Grounded D M). StaysInside b o new) c.self.view_is
-          (inside_same b old new c.cancel.new.heap at.ensures.same (ap (λ (h : Held (Opened D)). h.cells.frame) e.ended) e.same);
+      inside = subst (λ (o : Grounded D M). StaysInside b t o new) c.self.view_is
+          (inside_same b t old new c.cancel.new.heap at.ensures.same (ap (λ (h : Held (Opened D)). h.cells.frame) e.ended) e.same);
       any_moment = all.any_moment;
     }
 
@@ -73,6 +74,7 @@ returns-in-Err-DiskFault-clause-any_moment g c =
     let D = g.row.D.Denot in
     let M = g.row.M.Denot in
     let b = g.D.Disk.bytes in
+    let t = g.D.Disk.tells_crashes in
     let m = g.D.Disk.moment in
     let l = g.D.Disk.may_hold_after in
     let f = g.D.Disk.faults in
@@ -101,8 +103,8 @@ returns-in-Err-DiskFault-clause-any_moment g c =
     let at_now = at.ensures.moment ∙ ap (λ (h : Held (Opened D)). m h.cells.disk) at.ensures.same in
     let since : old.moment ≤ at.result = omega (arith, at_now, c.self.invariant.seen, e.forward) in
     let sound : old.heap.cells.failed ≡ false = (subst (λ (s : Stop). Explains {T = Unit {0}} (transaction_of f old.heap.cells) (transaction_of f c.cancel.new.heap.cells) (Err s)) c.in-Err-DiskFault.field-0-is e.cause.explained).0 in
-    subst (λ (o : Grounded D M). LeavesBefore (heap_ground b m f l n) o new) c.self.view_is
-    (leaves_back b m f l n old disk at.result at_now since sound e.disk.tells _ (e.any_moment sound) new
+    subst (λ (o : Grounded D M). LeavesBefore (heap_ground b t m f l n) o new) c.self.view_is
+    (leaves_back b t m f l n old disk at.result at_now since sound e.disk.tells _ (e.any_moment sound) new
     (ap (λ (h : Held (Opened D)). h.cells.disk) at.ensures.same) refl (λ image p. p))
 
 pub invariant_of-self : goal.invariant_of-self
@@ -110,6 +112,7 @@ invariant_of-self g c =
     let D = g.row.D.Denot in
     let M = g.row.M.Denot in
     let b = g.D.Disk.bytes in
+    let t = g.D.Disk.tells_crashes in
     let m = g.D.Disk.moment in
     let l = g.D.Disk.may_hold_after in
     let f = g.D.Disk.faults in
@@ -141,8 +144,8 @@ invariant_of-self g c =
     let at_now = at.ensures.moment ∙ ap (λ (h : Held (Opened D)). m h.cells.disk) at.ensures.same in
     let since : old.moment ≤ at.result = omega (arith, at_now, c.self.invariant.seen, e.forward) in
     let sound : old.heap.cells.failed ≡ false = e.cause.explained.0 in
-    let closed = closes_back b m f l n old disk at.result at_now since sound e.disk.tells _ (e.any_moment sound) new is c.self.invariant
-    e.cause.later (λ rests. subst (λ (h : Held (Opened D)). Rests b m l h.cells) e.ended (e.rests rests)) (λ image p. p) in
+    let closed = closes_back b t m f l n old disk at.result at_now since sound e.disk.tells _ (e.any_moment sound) new is c.self.invariant
+    e.cause.later (λ rests. subst (λ (h : Held (Opened D)). Rests b t m l h.cells) e.ended (e.rests rests)) (λ image p. p) in
     closed.is_ground
 
 pub returns-in-Err-DiskFault-clause-time : goal.returns-in-Err-DiskFault-clause-time
@@ -157,6 +160,7 @@ returns-in-Err-DiskFault-clause-inside g c =
     let D = g.row.D.Denot in
     let M = g.row.M.Denot in
     let b = g.D.Disk.bytes in
+    let t = g.D.Disk.tells_crashes in
     let at = c.moment_of-self-inside-in-Err-DiskFault in
     let e = c.in-Err-DiskFault.ensures in
     let old : Grounded D M = record {
@@ -177,14 +181,15 @@ returns-in-Err-DiskFault-clause-inside g c =
       moment = at.result;
       restored = c.self.inside.restored;
     } in
-    subst (λ (o : Grounded D M). StaysInside b o new) c.self.view_is
-    (inside_same b old new c.cancel.new.heap at.ensures.same (stays_frame _ _ _ e.stays) e.same)
+    subst (λ (o : Grounded D M). StaysInside b t o new) c.self.view_is
+    (inside_same b t old new c.cancel.new.heap at.ensures.same (stays_frame _ _ _ e.stays) e.same)
 
 pub returns-in-Err-Failed-clause-inside : goal.returns-in-Err-Failed-clause-inside
 returns-in-Err-Failed-clause-inside g c =
     let D = g.row.D.Denot in
     let M = g.row.M.Denot in
     let b = g.D.Disk.bytes in
+    let t = g.D.Disk.tells_crashes in
     let e = c.in-Err-Failed.ensures in
     let old : Grounded D M = record {
       heap = c.self.inside.heap;
@@ -204,5 +209,5 @@ returns-in-Err-Failed-clause-inside g c =
       moment = c.self.inside.moment;
       restored = c.self.inside.restored;
     } in
-    subst (λ (o : Grounded D M). StaysInside b o new) c.self.view_is
-    (inside_same b old new c.cancel.new.heap refl (stays_frame _ _ _ e.stays) e.same)
+    subst (λ (o : Grounded D M). StaysInside b t o new) c.self.view_is
+    (inside_same b t old new c.cancel.new.heap refl (stays_frame _ _ _ e.stays) e.same)

@@ -32,6 +32,7 @@ returns-in-Ok g c =
     let D = g.row.D.Denot in
     let M = g.row.M.Denot in
     let b = g.D.Disk.bytes in
+    let t = g.D.Disk.tells_crashes in
     let m = g.D.Disk.moment in
     let l = g.D.Disk.may_hold_after in
     let f = g.D.Disk.faults in
@@ -47,12 +48,12 @@ returns-in-Ok g c =
       moment = c.self.inside.moment;
       restored = c.self.inside.restored;
     } in
-    let came = came_answered b m f l n _ c.self.invariant going c.args.call.now c.in-Ok.ensures.fits
+    let came = came_answered b t m f l n _ c.self.invariant going c.args.call.now c.in-Ok.ensures.fits
     c.clear_moves.new.self
     c.clear_moves.ensures.none c.answer.new.o c.answer.new.media c.in-Ok.ensures.media c.answer.new.page reply c.in-Ok.ensures.comes c.in-Ok.ensures.works
     c.in-Ok.ensures.tells c.in-Ok.ensures.unread c.in-Ok.ensures.asks in
-    let at : CameTo b m f l n c.args.call.now reply c.args.self.now new =
-    subst (λ (o : Grounded D M). CameTo b m f l n c.args.call.now reply o new) c.self.view_is came in
+    let at : CameTo b t m f l n c.args.call.now reply c.args.self.now new =
+    subst (λ (o : Grounded D M). CameTo b t m f l n c.args.call.now reply o new) c.self.view_is came in
     record {
       memory = at.memory;
       answered = at.answered;
@@ -67,7 +68,7 @@ returns-in-Ok g c =
       asks = at.asks;
       time = at.time;
       keeps = at.keeps;
-      inside = inside_quiet b c.args.self.now new at.quiet;
+      inside = inside_quiet b t c.args.self.now new at.quiet;
       any_moment = at.any_moment;
     }
 
@@ -76,6 +77,7 @@ returns-in-Err-Refused g c =
     let D = g.row.D.Denot in
     let M = g.row.M.Denot in
     let b = g.D.Disk.bytes in
+    let t = g.D.Disk.tells_crashes in
     let m = g.D.Disk.moment in
     let l = g.D.Disk.may_hold_after in
     let f = g.D.Disk.faults in
@@ -92,12 +94,12 @@ returns-in-Err-Refused g c =
       moment = c.self.inside.moment;
       restored = c.self.inside.restored;
     } in
-    let came = came_refused b m f l n _ c.self.invariant going c.args.call.now e.ensures.fits c.clear_moves.new.self
+    let came = came_refused b t m f l n _ c.self.invariant going c.args.call.now e.ensures.fits c.clear_moves.new.self
     c.clear_moves.ensures.none c.answer.new.o c.answer.new.media e.ensures.media c.answer.new.page e.refusal e.field-0 e.field-0-is c.forget_moves.new.heap
     c.forget_moves.ensures c.is_reading.result c.is_reading.ensures e.ensures.comes e.ensures.works
     e.ensures.tells e.ensures.unread e.ensures.asks in
-    let at : CameTo b m f l n c.args.call.now reply c.args.self.now new =
-    subst (λ (o : Grounded D M). CameTo b m f l n c.args.call.now reply o new) c.self.view_is came in
+    let at : CameTo b t m f l n c.args.call.now reply c.args.self.now new =
+    subst (λ (o : Grounded D M). CameTo b t m f l n c.args.call.now reply o new) c.self.view_is came in
     record {
       memory = at.memory;
       answered = at.answered;
@@ -113,7 +115,7 @@ returns-in-Err-Refused g c =
       asks = at.asks;
       time = at.time;
       keeps = at.keeps;
-      inside = inside_quiet b c.args.self.now new at.quiet;
+      inside = inside_quiet b t c.args.self.now new at.quiet;
       any_moment = at.any_moment;
     }
 
@@ -122,6 +124,7 @@ returns-in-Err-MediaFault g c =
     let D = g.row.D.Denot in
     let M = g.row.M.Denot in
     let b = g.D.Disk.bytes in
+    let t = g.D.Disk.tells_crashes in
     let m = g.D.Disk.moment in
     let l = g.D.Disk.may_hold_after in
     let f = g.D.Disk.faults in
@@ -137,10 +140,10 @@ returns-in-Err-MediaFault g c =
       moment = c.self.inside.moment;
       restored = c.self.inside.restored;
     } in
-    let came = came_missed b m f l n _ c.self.invariant going c.args.call.now e.ensures.fits c.clear_moves.new.self c.clear_moves.ensures.none c.answer.new.o
+    let came = came_missed b t m f l n _ c.self.invariant going c.args.call.now e.ensures.fits c.clear_moves.new.self c.clear_moves.ensures.none c.answer.new.o
     c.answer.new.media e.ensures.media c.answer.new.page e.field-0 e.field-0-is e.ensures.works e.ensures.tells e.ensures.unread e.ensures.asks in
-    let at : CameTo b m f l n c.args.call.now replies.MediaFault c.args.self.now new =
-    subst (λ (o : Grounded D M). CameTo b m f l n c.args.call.now replies.MediaFault o new) c.self.view_is came in
+    let at : CameTo b t m f l n c.args.call.now replies.MediaFault c.args.self.now new =
+    subst (λ (o : Grounded D M). CameTo b t m f l n c.args.call.now replies.MediaFault o new) c.self.view_is came in
     record {
       memory = at.memory;
       answered = at.answered;
@@ -155,7 +158,7 @@ returns-in-Err-MediaFault g c =
       asks = at.asks;
       time = at.time;
       keeps = at.keeps;
-      inside = inside_quiet b c.args.self.now new at.quiet;
+      inside = inside_quiet b t c.args.self.now new at.quiet;
       any_moment = at.any_moment;
     }
 
@@ -164,12 +167,13 @@ invariant_of-self g c =
     let D = g.row.D.Denot in
     let M = g.row.M.Denot in
     let b = g.D.Disk.bytes in
+    let t = g.D.Disk.tells_crashes in
     let m = g.D.Disk.moment in
     let l = g.D.Disk.may_hold_after in
     let f = g.D.Disk.faults in
     let n = g.M.Media in
     let going = ap (λ (o : Grounded D M). o.stopped) c.self.view_is ∙ c.requires.going in
-    let came = came_answered b m f l n _ c.self.invariant going c.args.call.now c.in-Ok.ensures.fits
+    let came = came_answered b t m f l n _ c.self.invariant going c.args.call.now c.in-Ok.ensures.fits
     c.clear_moves.new.self
     c.clear_moves.ensures.none c.answer.new.o c.answer.new.media c.in-Ok.ensures.media c.answer.new.page c.in-Ok.reply c.in-Ok.ensures.comes
     c.in-Ok.ensures.works c.in-Ok.ensures.tells c.in-Ok.ensures.unread c.in-Ok.ensures.asks in
@@ -180,13 +184,14 @@ invariant_of-self-in-Err-Refused g c =
     let D = g.row.D.Denot in
     let M = g.row.M.Denot in
     let b = g.D.Disk.bytes in
+    let t = g.D.Disk.tells_crashes in
     let m = g.D.Disk.moment in
     let l = g.D.Disk.may_hold_after in
     let f = g.D.Disk.faults in
     let n = g.M.Media in
     let going = ap (λ (o : Grounded D M). o.stopped) c.self.view_is ∙ c.requires.going in
     let e = c.in-Err-Refused in
-    let came = came_refused b m f l n _ c.self.invariant going c.args.call.now e.ensures.fits c.clear_moves.new.self
+    let came = came_refused b t m f l n _ c.self.invariant going c.args.call.now e.ensures.fits c.clear_moves.new.self
     c.clear_moves.ensures.none c.answer.new.o c.answer.new.media e.ensures.media c.answer.new.page e.refusal e.field-0 e.field-0-is c.forget_moves.new.heap
     c.forget_moves.ensures c.is_reading.result c.is_reading.ensures e.ensures.comes e.ensures.works
     e.ensures.tells e.ensures.unread e.ensures.asks in
@@ -196,7 +201,7 @@ pub invariant_of-self-in-Err-MediaFault : goal.invariant_of-self-in-Err-MediaFau
 invariant_of-self-in-Err-MediaFault g c =
     let going = ap (λ (o : Grounded g.row.D.Denot g.row.M.Denot). o.stopped) c.self.view_is ∙ c.requires.going in
     let e = c.in-Err-MediaFault in
-    let came = came_missed g.D.Disk.bytes g.D.Disk.moment g.D.Disk.faults g.D.Disk.may_hold_after g.M.Media _ c.self.invariant going c.args.call.now
+    let came = came_missed g.D.Disk.bytes g.D.Disk.tells_crashes g.D.Disk.moment g.D.Disk.faults g.D.Disk.may_hold_after g.M.Media _ c.self.invariant going c.args.call.now
     e.ensures.fits c.clear_moves.new.self c.clear_moves.ensures.none c.answer.new.o c.answer.new.media e.ensures.media c.answer.new.page e.field-0 e.field-0-is
     e.ensures.works e.ensures.tells e.ensures.unread e.ensures.asks in
     came.is_ground

@@ -10,7 +10,7 @@ pub returns-in-Ok : goal.returns-in-Ok
 returns-in-Ok g c =
     let D = g.row.D.Denot in
     let M = g.row.M.Denot in
-    let h = heap_ground g.D.Disk.bytes g.D.Disk.moment g.D.Disk.faults g.D.Disk.may_hold_after g.M.Media in
+    let h = heap_ground g.D.Disk.bytes g.D.Disk.tells_crashes g.D.Disk.moment g.D.Disk.faults g.D.Disk.may_hold_after g.M.Media in
     let old : Stationed D M = record { ground = c.self.inside.ground; nesting = c.self.inside.nesting; failed = c.self.inside.failed } in
     let new : Stationed D M = record { ground = c.save.new.self; nesting = c.none-self-inside.result; failed = c.self.inside.failed } in
     subst (λ (o : Stationed D M). Closes h closes.Ended o new (Ok closed.Ended)) c.self.view_is (record {
@@ -31,7 +31,7 @@ pub returns-in-Err : goal.returns-in-Err
 returns-in-Err g c =
     let D = g.row.D.Denot in
     let M = g.row.M.Denot in
-    let h = heap_ground g.D.Disk.bytes g.D.Disk.moment g.D.Disk.faults g.D.Disk.may_hold_after g.M.Media in
+    let h = heap_ground g.D.Disk.bytes g.D.Disk.tells_crashes g.D.Disk.moment g.D.Disk.faults g.D.Disk.may_hold_after g.M.Media in
     let old : Stationed D M = record { ground = c.self.inside.ground; nesting = c.self.inside.nesting; failed = c.self.inside.failed } in
     let new : Stationed D M = record { ground = c.save.new.self; nesting = c.none-self-inside-in-Err.result; failed = Some c.moment.result } in
     subst (λ (o : Stationed D M). Closes h closes.Ended o new (Err stops.DiskFault)) c.self.view_is (record {

@@ -17,7 +17,7 @@ pub returns-clause-says : goal.returns-clause-says
 returns-clause-says g c =
     let D = g.row.D.Denot in
     let M = g.row.M.Denot in
-    let h = heap_ground g.D.Disk.bytes g.D.Disk.moment g.D.Disk.faults g.D.Disk.may_hold_after g.M.Media in
+    let h = heap_ground g.D.Disk.bytes g.D.Disk.tells_crashes g.D.Disk.moment g.D.Disk.faults g.D.Disk.may_hold_after g.M.Media in
     let old : Stationed D M = record { ground = c.self.inside.ground; nesting = c.self.inside.nesting; failed = c.self.inside.failed } in
     let new : Stationed D M = record { ground = c.serve-reply.new.self; nesting = c.note.new.self; failed = c.self.inside.failed } in
     subst (λ (s : Stationed D M). SaysOr h c.args.call.now c.serve-reply.result s new) c.self.view_is
@@ -53,17 +53,17 @@ invariant_of-self g c =
 
 pub returns-in-Some-clause-any_moment : goal.returns-in-Some-clause-any_moment
 returns-in-Some-clause-any_moment g c =
-    let h = heap_ground g.D.Disk.bytes g.D.Disk.moment g.D.Disk.faults g.D.Disk.may_hold_after g.M.Media in
+    let h = heap_ground g.D.Disk.bytes g.D.Disk.tells_crashes g.D.Disk.moment g.D.Disk.faults g.D.Disk.may_hold_after g.M.Media in
     leaves_same h c.args.self.now.ground
 
 pub returns-in-Some-doom-clause-any_moment : goal.returns-in-Some-doom-clause-any_moment
 returns-in-Some-doom-clause-any_moment g c =
-    let h = heap_ground g.D.Disk.bytes g.D.Disk.moment g.D.Disk.faults g.D.Disk.may_hold_after g.M.Media in
+    let h = heap_ground g.D.Disk.bytes g.D.Disk.tells_crashes g.D.Disk.moment g.D.Disk.faults g.D.Disk.may_hold_after g.M.Media in
     leaves_same h c.args.self.now.ground
 
 pub returns-clause-any_moment : goal.returns-clause-any_moment
 returns-clause-any_moment g c =
-    let h = heap_ground g.D.Disk.bytes g.D.Disk.moment g.D.Disk.faults g.D.Disk.may_hold_after g.M.Media in
+    let h = heap_ground g.D.Disk.bytes g.D.Disk.tells_crashes g.D.Disk.moment g.D.Disk.faults g.D.Disk.may_hold_after g.M.Media in
     subst (λ (s : Stationed g.row.D.Denot g.row.M.Denot). LeavesBefore h s.ground c.serve-reply.new.self) c.self.view_is c.serve-reply.ensures.any_moment
 
 pub returns-in-Some-clause-quiet : goal.returns-in-Some-clause-quiet
