@@ -453,6 +453,4 @@ impl<D: Disk> Cells for Image<D> {
       restored = g.restored ∙ f.restored;
       still_open = λ e. g.still_open (f.still_open e);
     } };
-
-    ghost quiet_begun = { λ a b f. f.begun };
 }

@@ -2,6 +2,7 @@
 ghost use Rattle.std.specs.Prelude.{◌≡◌, ◌+◌, ◌*◌, ◌≤◌, IfOk, IfErr, OnOk};
 ghost use Rattle.sdr_base.specs.Moves.{KeepsSome};
 ghost use Rattle.sdr_base.specs.Objects.{Misses, OnlyFault, OnlyUnmoved};
+ghost use Rattle.sdr_base.specs.Wanting.{OnlyWanting};
 ghost use Rattle.sdr_base.specs.Works.{Looks, Spends};
 ghost use Rattle.sdr_base.specs.declared.kind.Kind.TheVariants as kinds;
 ghost use Rattle.zco_ref.specs.Counting.{Attaches, CountsUses, Detaches, DetachStops, TellsUses, count_field};
@@ -53,12 +54,14 @@ pub fn attach<O: Objects>(o: &mut O, source: Addr, acct: Acct) -> Result<(), Sto
 
 /// Counts an extent less of an account that names a source, and answers whether the source went with
 /// it: it was the last one, and the source is flagged or has taken over a raw object, which went too.
+#[tactic(auto, using(sdr_base::proofs::LeavingLemmas::wanting))]
 pub fn detach<O: Objects>(o: &mut O, source: Addr, acct: Acct) -> Result<bool, Stop>
     requires kept { KeepsSome (O.keeps o.old) }
     requires spare { going ((O.heap o.old).blocks source) ≤ (O.heap o.old).spare }
     requires source { SomeAttached acct (O.heap o.old).blocks source }
     ensures detached { IfOk result (Detaches source acct (O.heap o.old) (O.heap o.new)) }
     ensures refused { IfErr result (DetachStops source (O.heap o.old) (O.heap o.new)) }
+    ensures wants { IfErr result OnlyWanting }
     ensures works { Spends O.HasHeap
         (4 + 24 * going ((O.heap o.old).blocks source)) o.old o.new result }
 {
