@@ -12,6 +12,7 @@ use Rattle.sdr_base.proofs.PartsLemmas.{length-overwrite}
 use Rattle.sdr_disk.proofs.RangesLemmas.{Agrees-more, Agrees-one_more, Agrees-overwrite, Agrees-refl, Agrees-sym}
 use Rattle.sdr_disk.proofs.RangesLemmas.{Agrees-trans}
 use Rattle.sdr_base.proofs.PartsLemmas.{length-part}
+use Rattle.sdr_log.specs.Batch.{log_end}
 use Rattle.sdr_log.specs.Calls.{AreBelow, AreNamed, MayPut, Puts, with_records}
 use Rattle.sdr_log.specs.Frame.{disk_bytes, heap_place}
 use Rattle.sdr_log.specs.Log.{AreLines, first_gate, heap_of, names_line, put_records, read_log}
@@ -20,7 +21,7 @@ use Rattle.sdr_log.specs.declared.frame.Frame.{Frame}
 use Rattle.sdr_log.specs.declared.record.Record.{Record}
 use Rattle.sdr_log.proofs.GoodLemmas.{names_line-below}
 use Rattle.sdr_log.proofs.LoggedLemmas.{HasRegions-limits, logged_same, pending_gate, pending_log, pending_logs}
-use Rattle.sdr_log.proofs.LoggedLemmas.{pending_same}
+use Rattle.sdr_log.proofs.LoggedLemmas.{pending_end, pending_same}
 use Rattle.sdr_log.proofs.PendingLemmas.{written_left}
 
 -- a line written to the disk, as a line of the heap
@@ -86,6 +87,9 @@ module _ (f : Frame) (x : List ℕ) (left : List ℕ → Type 0) (l : IsLogged f
   pub put_log : read_log f put ≡ read_log f x
   put_log = pending_log f x put l.records l.logs put_agrees
 
+  pub put_end : log_end f put ≡ log_end f x
+  put_end = pending_end f x put l.records l.logs put_agrees
+
   pub put_gate : first_gate put ≡ first_gate x
   put_gate = let w = HasRegions-limits f x l.logs.regions in
       pending_gate f x put l.records l.logs put_agrees (omega (arith, w.least_log))
@@ -126,6 +130,7 @@ pub record PutSoFar {D : Type 0} (moment : D → ℕ) (may_hold_after : D → �
   pub may : MayPut f rest y (may_hold_after now (moment now))
   pub heap : put_records rest (heap_of f y) ≡ put_records lines (heap_of f x)
   pub log : read_log f y ≡ read_log f x
+  pub ends : log_end f y ≡ log_end f x
   pub gate : first_gate y ≡ first_gate x
   pub back : GivesSame x y
   pub each : AtEach moment may_hold_after old now (GivesSame x)
@@ -146,6 +151,7 @@ module _ {D : Type 0} (moment : D → ℕ) (may_hold_after : D → ℕ → List 
       may = m;
       heap = refl;
       log = refl;
+      ends = refl;
       gate = refl;
       back = refl;
       each = at_first moment may_hold_after old (GivesSame (bytes old))
@@ -202,6 +208,7 @@ module _ {D : Type 0} (moment : D → ℕ) (may_hold_after : D → ℕ → List 
                 ∙ subst (λ (l : List Record). put_records l (heap_of f x) ≡ put_records lines (heap_of f (bytes old)))
                 split s.heap;
             log = put_log f x _ l r named.0 long ∙ s.log;
+            ends = put_end f x _ l r named.0 long ∙ s.ends;
             gate = put_gate f x _ l r named.0 long ∙ s.gate;
             back = put_same f x _ l r named.0 long ∙ s.back;
             each = putting_each m;
@@ -220,6 +227,7 @@ module _ {D : Type 0} (moment : D → ℕ) (may_hold_after : D → ℕ → List 
         heap = subst (λ (l : List Record). put_records l (heap_of f (bytes now))
             ≡ put_records lines (heap_of f (bytes old))) none s.heap;
         log = s.log;
+        ends = s.ends;
         gate = s.gate;
         back = s.back;
       }

@@ -180,7 +180,7 @@ back_same f x image left (inr logged) l = logged_same f x image left logged l
 module _ {D : Type 0} {bytes : D → List ℕ} {tells : D → Bool} {moment : D → ℕ}
     {may_hold_after : D → ℕ → List ℕ → Type 0} {old now : D} (r : Reads bytes tells moment may_hold_after old now) where
   -- what a crash leaves now it left before
-  left_before : (image : List ℕ) → may_hold_after now (moment now) image → may_hold_after old (moment old) image
+  pub left_before : (image : List ℕ) → may_hold_after now (moment now) image → may_hold_after old (moment old) image
   left_before image l =
       r.past.now_then (moment old) image (omega arith) (subst (λ (k : ℕ). may_hold_after now k image) r.time l)
 

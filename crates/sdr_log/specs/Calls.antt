@@ -66,6 +66,7 @@ pub record Puts (f : Frame) (lines : List Record) (x y : List ℕ) (left : List 
   pub logged : IsLogged f y left
   pub heap : heap_of f y ≡ put_records lines (heap_of f x)
   pub log : read_log f y ≡ read_log f x
+  pub ends : log_end f y ≡ log_end f x
   pub gate : first_gate y ≡ first_gate x
   pub back : GivesSame x y
 

@@ -13,8 +13,8 @@ use crate::{Frame, Record};
 use sdr_base::LINE;
 use sdr_disk::{Disk, DiskFault};
 
-// Writes a line to its place.
-fn put_line<D: Disk>(disk: &mut D, frame: Frame, line: &Record) -> Result<(), DiskFault>
+/// Writes a line to its place. It makes one write.
+pub fn put_line<D: Disk>(disk: &mut D, frame: Frame, line: &Record) -> Result<(), DiskFault>
     requires regions { LieInside frame (length (D.bytes disk.old)) }
     requires below { line.now.line < frame.heap_lines }
 
