@@ -1,5 +1,5 @@
 -- Open batches that are put back one after another.
-use Rattle.std.proofs.Common.{◌≡◌, ◌≤◌, ◌<◌, ◌∙◌, ℕ, ◌+◌, ◌-◌, ◌*◌, true, List, [], ◌∷◌, ◌++◌, length, take, drop}
+use Rattle.std.proofs.Common.{◌≡◌, ◌≤◌, ◌<◌, ◌∙◌, ℕ, ◌+◌, ◌-◌, ◌*◌, Bool, List, [], ◌∷◌, ◌++◌, length, take, drop}
 use Rattle.std.proofs.Common.{refl, sym, ap, subst, arith, Some, append_assoc, length-append}
 use Rattle.std.proofs.lemmas.Option.{same_Some}
 use Rattle.std.proofs.lemmas.List.{drop-drop}
@@ -184,7 +184,7 @@ module _ {D : Type 0} (moment : D → ℕ) (may_hold_after : D → ℕ → List 
         ∙ sym next.is
 
     -- With them put back.
-    module _ (mid new : D) (tells : D → _) (r : Reads bytes tells moment may_hold_after now mid) (count : ℕ)
+    module _ (mid new : D) (tells : D → Bool) (r : Reads bytes tells moment may_hold_after now mid) (count : ℕ)
         (is : count ≡ next.count) where
       abbrev pub put : List Record
       put = records_at (64 + (place + 5)) count (bytes mid)
@@ -218,6 +218,7 @@ module _ {D : Type 0} (moment : D → ℕ) (may_hold_after : D → ℕ → List 
           Puts f put (bytes mid) (bytes new) (may_hold_after new (moment new))
           × AtEach moment may_hold_after mid new (GivesSame (bytes mid))) →
           Undone moment may_hold_after bytes f end (place + (5 + 68 * count)) old new
+      unfolding log_of
       undone_more written long soon puts = record {
         all = u.all;
         was = u.was;
@@ -245,7 +246,6 @@ module _ {D : Type 0} (moment : D → ℕ) (may_hold_after : D → ℕ → List 
       }
         where
           put_log : log_of f (bytes new) ≡ log_of f (bytes mid)
-          unfolding log_of
           put_log =
               ap (part 64 (64 * f.log_lines)) written
               ∙ part-with_records f put (bytes mid) 64 (64 * f.log_lines) (omega arith) (omega (arith, long, wide))
