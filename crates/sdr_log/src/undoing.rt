@@ -61,17 +61,16 @@ fn restore_records<D: Disk>(
     ensures disk { KeepsDisk D.bytes D.tells_crashes disk.old disk.new }
     ensures inside { KeepsOutside frame (D.bytes disk.old) (D.bytes disk.new) }
 
-    ensures puts { OnOk result (IfTells (D.tells_crashes disk.old)
+    ensures puts { OnOk result
         (MayPut frame (records_at (LINE + place) count (D.bytes disk.old)) (D.bytes disk.old)
         (D.may_hold_after disk.old (D.moment disk.old))
         → Puts frame (records_at (LINE + place) count (D.bytes disk.old)) (D.bytes disk.old)
-        (D.bytes disk.new) (D.may_hold_after disk.new (D.moment disk.new)))) }
+        (D.bytes disk.new) (D.may_hold_after disk.new (D.moment disk.new))) }
     ensures forward { D.moment disk.old ≤ D.moment disk.new }
     ensures calls { D.moment disk.new ≤ D.moment disk.old + 2 * count }
-    ensures any_moment { IfTells (D.tells_crashes disk.old)
-        (MayPut frame (records_at (LINE + place) count (D.bytes disk.old)) (D.bytes disk.old)
-        (D.may_hold_after disk.old (D.moment disk.old))
-        → AtEach D.moment D.may_hold_after disk.old disk.new (GivesSame (D.bytes disk.old))) }
+    ensures any_moment { MayPut frame (records_at (LINE + place) count (D.bytes disk.old))
+        (D.bytes disk.old) (D.may_hold_after disk.old (D.moment disk.old))
+        → AtEach D.moment D.may_hold_after disk.old disk.new (GivesSame (D.bytes disk.old)) }
 {
     for done in 0..count {
         let old = read_record(disk, LINE + place + 68 * done)?;

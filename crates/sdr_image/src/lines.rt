@@ -1,0 +1,73 @@
+// The lines of an opened disk: those that a transaction has touched, and a cache of clean ones.
+ghost use Rattle.std.specs.Prelude.{◌≡◌, ◌≤◌, ◌<◌, ◌+◌, ◌*◌, ◌⊎◌, ◌∷◌, [], ℕ, true, length, Contains};
+ghost use Rattle.std.specs.Prelude.{IfOk, List, OnOk, IsPermutation, replicate};
+ghost use Rattle.sdr_base.specs.Causes.{HasCause};
+ghost use Rattle.sdr_base.specs.Cells.{with_lines};
+ghost use Rattle.sdr_base.specs.Parts.{overwrite, part};
+ghost use Rattle.sdr_disk.specs.Moments.{Reads};
+ghost use Rattle.sdr_log.specs.Frame.{LieInside, room_of};
+ghost use Rattle.sdr_log.specs.Log.{heap_of};
+ghost use Rattle.sdr_image.specs.Lines.{AreClean, IsLineOf, IsLines, Leaves, Stands, Steps, begun_of, now_of};
+ghost use Rattle.sdr_image.specs.Marks.{is_clean, is_logged, stand_at, touched_in};
+ghost use Rattle.sdr_image.specs.declared.marks.Stand.TheVariants.{Clean, Logged};
+
+use crate::buffer::{Buffer, MOST_BUFFERED};
+use crate::cache::Cache;
+use crate::marks::{Marks, Stand};
+use sdr_base::{LINE, put_at};
+use sdr_disk::{Disk, DiskFault};
+use sdr_log::{Frame, Record, put_through};
+
+/// Where the lines of an opened disk stand.
+#[derive(Drop)]
+pub struct Lines {
+    /// Where the next batch goes in the log region.
+    pub place: u64,
+    /// How many lines open batches name.
+    pub logged: u64,
+    pub buffer: Buffer,
+    pub marks: Marks,
+    /// Memory for a batch.
+    pub batch: Vec<u8>,
+    pub cache: Cache,
+}
+
+// The bytes of a line of the heap region.
+fn read_line<D: Disk>(disk: &mut D, frame: Frame, line: u64) -> Result<[u8; 64], DiskFault>
+    requires regions { LieInside frame (length (D.bytes disk.old)) }
+    requires below { line < frame.heap_lines }
+    ensures given { IfOk result (λ bytes. bytes
+        ≡ part (LINE * line) LINE (heap_of frame (D.bytes disk.old))) }
+    ensures cause { HasCause (D.faults disk.old) (D.faults disk.new) result }
+    ensures reads { Reads D.bytes D.tells_crashes D.moment D.may_hold_after disk.old disk.new }
+{
+    let mut bytes = [0; 64];
+    disk.read_at(frame.heap_place() + LINE * line, &mut bytes)?;
+    Ok(bytes)
+}
+
+// The bytes of a clean line. Where it is cached, the disk isn't reached; else it is cached then.
+fn clean_line<D: Disk>(
+    disk: &mut D,
+    frame: Frame,
+    cache: &mut Cache,
+    line: u64,
+) -> Result<[u8; 64], DiskFault>
+    requires regions { LieInside frame (length (D.bytes disk.old)) }
+    requires below { line < frame.heap_lines }
+    requires clean { (e : ℕ × List ℕ) → Contains cache.old e
+        → IsLineOf frame (D.bytes disk.old) e }
+    ensures given { IfOk result (λ bytes. bytes
+        ≡ part (LINE * line) LINE (heap_of frame (D.bytes disk.old))) }
+    ensures kept { (e : ℕ × List ℕ) → Contains cache.new e
+        → Contains cache.old e ⊎ ((e.0 ≡ line) × IsLineOf frame (D.bytes disk.old) e) }
+    ensures cause { HasCause (D.faults disk.old) (D.faults disk.new) result }
+    ensures reads { Reads D.bytes D.tells_crashes D.moment D.may_hold_after disk.old disk.new }
+{
+    if let Some(bytes) = cache.find(line as u32) {
+        return Ok(bytes);
+    }
+    let bytes = read_line(disk, frame, line)?;
+    cache.keep(line as u32, bytes);
+    Ok(bytes)
+}
