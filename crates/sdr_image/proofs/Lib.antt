@@ -1,3 +1,5 @@
+pub mod BufferLemmas
+pub mod CacheLemmas
 pub mod ChangedLemmas
 pub mod ChangingLemmas
 pub mod FaultedLemmas
@@ -5,6 +7,7 @@ pub mod FormatLemmas
 pub mod FormattedLemmas
 pub mod ImageLemmas
 pub mod LinesLemmas
+pub mod MarksLemmas
 pub mod OpenedLemmas
 pub mod OpeningLemmas
 pub mod RegionLemmas

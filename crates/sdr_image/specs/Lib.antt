@@ -1,5 +1,8 @@
+pub mod Buffer
 pub mod Changed
 pub mod Format
+pub mod Lines
+pub mod Marks
 pub mod Opened
 pub mod Opening
 pub mod Saved

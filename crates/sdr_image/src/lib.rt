@@ -33,12 +33,16 @@
 //! of `format` on a real file (once).
 #![tactic(auto)]
 
+mod buffer;
+mod cache;
 mod changing;
 mod empty;
 mod error;
 mod fresh;
 mod image;
 mod laws;
+mod lines;
+mod marks;
 mod opening;
 mod peeking;
 mod region;
