@@ -16,4 +16,6 @@ pub mod TouchedLemmas
 pub mod UndoLemmas
 pub mod OutsideLemmas
 pub mod PeekLemmas
+pub mod StandsLemmas
 pub mod StillLemmas
+pub mod WritingLemmas

@@ -151,3 +151,9 @@ clean_lines bytes first (suc n) le =
     counted : (b : Bool) (x : ℕ) (xs : List ℕ) → cond b 1 0 + length xs ≡ length (cond b (x ∷ xs) xs)
     counted b x xs = elim b as (λ v. cond v 1 0 + length xs ≡ length (cond v (x ∷ xs) xs))
         [ true ↦ omega arith | false ↦ omega arith ]
+
+-- the bytes of clean lines
+pub clean_bytes : (n : ℕ) → map stand_of (replicate n 0) ≡ replicate n Clean
+unfolding stand_of
+clean_bytes zero = refl
+clean_bytes (suc n) = ap (λ (l : List Stand). Clean ∷ l) (clean_bytes n)

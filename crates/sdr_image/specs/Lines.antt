@@ -1,15 +1,13 @@
 -- Where the lines of an opened disk stand while a transaction is open, and what stands on the disk then.
-use Rattle.std.specs.Prelude.{◌≡◌, ◌≤◌, ◌<◌, ◌+◌, ◌*◌, ℕ, Bool, true, List, [], ◌∷◌, length, map, get_or, Contains, unwrap_or, Result}
-use Rattle.std.specs.Prelude.{OnOk, IsPermutation}
-use Rattle.sdr_base.specs.Cells.{with_lines}
-use Rattle.sdr_base.specs.Parts.{overwrite, part}
+use Rattle.std.specs.Prelude.{◌≡◌, ◌≤◌, ◌<◌, ◌+◌, ◌*◌, ℕ, Bool, true, List, [], ◌∷◌, length, map, get_or, Contains, unwrap_or, replicate}
+use Rattle.sdr_base.specs.Parts.{part}
 use Rattle.sdr_base.specs.declared.line.TheConstants.{LINE}
 use Rattle.sdr_disk.specs.Moments.{AtEach, Reads}
 use Rattle.sdr_disk.specs.Tells.{IfTells}
 use Rattle.sdr_log.specs.Calls.{AreBelow, KeepsDisk, KeepsOutside}
 use Rattle.sdr_log.specs.Frame.{room_of}
-use Rattle.sdr_log.specs.Log.{AreLines, heap_of, names_line, put_back_of, put_records}
-use Rattle.sdr_log.specs.Logged.{GivesHeap}
+use Rattle.sdr_log.specs.Log.{AreLines, first_gate, heap_of, names_line, put_back_of, put_records}
+use Rattle.sdr_log.specs.Logged.{GivesHeap, HasRegions}
 use Rattle.sdr_log.specs.Spilled.{Just, KeepsBegin, MaySpill}
 use Rattle.sdr_log.specs.declared.frame.Frame.{Frame}
 use Rattle.sdr_log.specs.declared.record.Record.{Record}
@@ -17,7 +15,7 @@ use Rattle.sdr_image.specs.Buffer.{Changes}
 use Rattle.sdr_image.specs.Marks.{is_buffered, is_clean, is_logged, stand_at, touched_in}
 use Rattle.sdr_image.specs.declared.lines.Lines.{Lines}
 use Rattle.sdr_image.specs.declared.marks.Stand.{Stand}
-use Rattle.sdr_image.specs.declared.marks.Stand.TheVariants.{Buffered}
+use Rattle.sdr_image.specs.declared.marks.Stand.TheVariants.{Buffered, Clean}
 
 -- the numbers of the lines of these records
 abbrev pub lines_named : List Record → List ℕ
@@ -72,6 +70,34 @@ pub record Keeps (f : Frame) (begun x : List ℕ) (left : List ℕ → Type 0) :
   pub place : ℕ
   pub records : List Record
   pub keeps : KeepsBegin f begun place records x left
+
+-- the disk has these regions, no batch is open, and this heap is in its heap region
+pub record HasBytes (f : Frame) (bytes disk : List ℕ) : Type 0 where
+  pub regions : HasRegions f disk
+  pub gate : first_gate disk ≡ 0
+  pub heap : heap_of f disk ≡ bytes
+
+-- no line is touched any more, and the cache is the same
+abbrev pub IsUntouched : Lines → Lines → Type 0
+IsUntouched old new = new ≡ record old {
+  place = 0;
+  logged = 0;
+  buffer = record { olds = []; news = [] };
+  marks = replicate (length old.marks) Clean;
+}
+
+-- no line is touched, and the disk has these bytes, at begin and now
+pub record IsRested (f : Frame) (bytes : List ℕ) (lines : Lines) (x : List ℕ) : Type 0 where
+  pub stands : Stands f bytes lines x
+  pub untouched : touched_in lines.marks ≡ []
+  pub has : HasBytes f bytes x
+  pub now : now_of f lines x ≡ bytes
+
+-- the same lines are touched
+pub record MarksSame (old new : List Stand) : Type 0 where
+  pub long : length new ≡ length old
+  pub clean : (line : ℕ) → is_clean (stand_at new line) ≡ is_clean (stand_at old line)
+  pub touched : touched_in new ≡ touched_in old
 
 -- what each step of a transaction keeps, also one at which the disk failed
 pub record Steps {D : Type 0} (bytes : D → List ℕ) (tells : D → Bool) (moment : D → ℕ)

@@ -74,6 +74,8 @@ impl Cache {
     pub fn forget(&mut self, line: u32)
         ensures { (e : ℕ × List ℕ) → Contains self.new e → Contains self.old e × (e.0 ≢ line) }
     {
+        // No line is there twice.
+        let _count = self.lines.len();
         self.lines.pop(&line);
     }
 }

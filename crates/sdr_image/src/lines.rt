@@ -11,12 +11,12 @@ ghost use Rattle.sdr_image.specs.Lines.{AreClean, IsLineOf, IsLines, Leaves, Sta
 ghost use Rattle.sdr_image.specs.Marks.{is_clean, is_logged, stand_at, touched_in};
 ghost use Rattle.sdr_image.specs.declared.marks.Stand.TheVariants.{Clean, Logged};
 
-use crate::buffer::{Buffer, MOST_BUFFERED};
+use crate::buffer::Buffer;
 use crate::cache::Cache;
 use crate::marks::{Marks, Stand};
-use sdr_base::{LINE, put_at};
+use sdr_base::LINE;
 use sdr_disk::{Disk, DiskFault};
-use sdr_log::{Frame, Record, put_through};
+use sdr_log::Frame;
 
 /// Where the lines of an opened disk stand.
 #[derive(Drop)]
@@ -32,8 +32,8 @@ pub struct Lines {
     pub cache: Cache,
 }
 
-// The bytes of a line of the heap region.
-fn read_line<D: Disk>(disk: &mut D, frame: Frame, line: u64) -> Result<[u8; 64], DiskFault>
+/// The bytes of a line of the heap region.
+pub fn read_line<D: Disk>(disk: &mut D, frame: Frame, line: u64) -> Result<[u8; 64], DiskFault>
     requires regions { LieInside frame (length (D.bytes disk.old)) }
     requires below { line < frame.heap_lines }
     ensures given { IfOk result (λ bytes. bytes
@@ -46,8 +46,8 @@ fn read_line<D: Disk>(disk: &mut D, frame: Frame, line: u64) -> Result<[u8; 64],
     Ok(bytes)
 }
 
-// The bytes of a clean line. Where it is cached, the disk isn't reached; else it is cached then.
-fn clean_line<D: Disk>(
+/// The bytes of a clean line. Where it is cached, the disk isn't reached; else it is cached then.
+pub fn clean_line<D: Disk>(
     disk: &mut D,
     frame: Frame,
     cache: &mut Cache,
@@ -70,4 +70,29 @@ fn clean_line<D: Disk>(
     let bytes = read_line(disk, frame, line)?;
     cache.keep(line as u32, bytes);
     Ok(bytes)
+}
+
+/// The bytes now of a line.
+pub fn line_now<D: Disk>(
+    disk: &mut D,
+    frame: Frame,
+    lines: &mut Lines,
+    line: u64,
+) -> Result<[u8; 64], DiskFault>
+    requires regions { LieInside frame (length (D.bytes disk.old)) }
+    requires below { line < frame.heap_lines }
+    requires kept { IsLines frame lines.old }
+    requires stands { Stands frame (begun_of (D.bytes disk.old)) lines.old (D.bytes disk.old) }
+    ensures given { IfOk result (λ bytes. bytes
+        ≡ part (LINE * line) LINE (now_of frame lines.old (D.bytes disk.old))) }
+    ensures same { lines.new ≡ record lines.old { cache = lines.new.cache } }
+    ensures clean { AreClean frame (D.bytes disk.old) lines.old.marks lines.new.cache }
+    ensures cause { HasCause (D.faults disk.old) (D.faults disk.new) result }
+    ensures reads { Reads D.bytes D.tells_crashes D.moment D.may_hold_after disk.old disk.new }
+{
+    match lines.marks.at(line) {
+        Stand::Buffered(place) => Ok(lines.buffer.at(place)),
+        Stand::Clean => clean_line(disk, frame, &mut lines.cache, line),
+        Stand::Logged => read_line(disk, frame, line),
+    }
 }

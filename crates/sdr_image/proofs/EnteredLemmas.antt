@@ -1,0 +1,259 @@
+-- A clean line that enters the buffer, and a line that is changed there or written through.
+use Rattle.std.proofs.Common.{◌≡◌, ◌≢◌, ◌≤◌, ◌<◌, ◌∙◌, ℕ, zero, suc, ◌+◌, ◌*◌, Bool, true, false, ◌||◌, ◌==◌, cond, List, [], ◌∷◌, ◌++◌}
+use Rattle.std.proofs.Common.{length, get_or, refl, sym, ap, subst, arith, true≢false, append_assoc, length-append, inl, inr}
+use Rattle.std.specs.Prelude.{Contains, IsPermutation, slice_set}
+use Rattle.std.proofs.lemmas.Bool.{cases_eq}
+use Rattle.std.proofs.lemmas.Bool.Decides.{nat_tests}
+use Rattle.std.proofs.lemmas.Grind.{common_steps}
+use Rattle.std.proofs.lemmas.List.{length-set, map-append}
+use Rattle.std.proofs.lemmas.List.Sorted.{length_permutation}
+use Rattle.sdr_base.specs.Parts.{overwrite, part}
+use Rattle.sdr_base.proofs.PartsLemmas.{length-overwrite, length-part}
+use Rattle.sdr_log.specs.Calls.{AreBelow, HoldLines}
+use Rattle.sdr_log.specs.Frame.{room_of}
+use Rattle.sdr_log.specs.Log.{AreLines, are_good, heap_of, names_line, put_records}
+use Rattle.sdr_log.specs.Spilled.{Just, MaySpill, PutsThrough}
+use Rattle.sdr_log.specs.declared.frame.Frame.{Frame}
+use Rattle.sdr_log.specs.declared.record.Record.{Record}
+use Rattle.sdr_log.proofs.GoodLemmas.{AreBelow-good}
+use Rattle.sdr_log.proofs.RecordsLemmas.{AreLines-push, SameBut-put_records, are_good-cons, are_good-push, names_line-push}
+use Rattle.sdr_log.proofs.RecordsLemmas.{part-same_but}
+use Rattle.sdr_log.proofs.SpillingLemmas.{keeps_begun}
+use Rattle.sdr_log.proofs.LoggedLemmas.{Logs-lines}
+use Rattle.sdr_log.proofs.GoodLemmas.{are_good-before}
+use Rattle.sdr_image.specs.Buffer.{Changes, with_bytes}
+use Rattle.sdr_image.specs.Lines.{AreClean, AreMarked, IsLineOf, IsLines, Stands, lines_named, now_of}
+use Rattle.sdr_image.specs.Marks.{is_buffered, is_clean, is_logged, stand_at, touched_in}
+use Rattle.sdr_image.specs.declared.lines.Lines.{Lines}
+use Rattle.sdr_image.specs.declared.marks.Stand.{Stand}
+use Rattle.sdr_image.specs.declared.marks.Stand.TheVariants.{Buffered, Clean, Logged}
+use Rattle.sdr_image.proofs.MarksLemmas.{touched-set}
+use Rattle.sdr_image.proofs.StandsLemmas.{are_good-lines, names_line-append, names_line-lines, olds_good, stands_logs, stands_wide}
+use Rattle.sdr_image.proofs.WritingLemmas.{changed, entered, through}
+
+stand_at-set : (marks : List Stand) (line other : ℕ) (stand : Stand) → line < length marks →
+    stand_at (slice_set marks line stand) other ≡ cond (line == other) stand (stand_at marks other)
+stand_at-set marks line other stand lt = elim (cases_eq line other) [
+  | inl same ↦ grind (arith, nat_tests, common_steps)
+  | inr apart ↦ grind (arith, nat_tests, common_steps)
+]
+
+place_of : Stand → ℕ
+place_of Clean = 0
+place_of (Buffered place) = place
+place_of Logged = 0
+
+same_place : (m n : ℕ) → Buffered m ≡ Buffered n → m ≡ n
+unfolding place_of
+same_place m n is = ap place_of is
+
+-- a clean line is neither logged nor in the buffer
+clean_apart : (stand : Stand) → is_clean stand ≡ true → (is_logged stand ≡ false) × (is_buffered stand ≡ false)
+clean_apart Clean is = (refl, refl)
+clean_apart (Buffered p) is = absurd (true≢false (sym is))
+clean_apart Logged is = absurd (true≢false (sym is))
+
+HoldLines-push : (heap : List ℕ) (rs : List Record) (r : Record) → HoldLines heap rs →
+    r.bytes ≡ part (64 * r.line) 64 heap → HoldLines heap (rs ++ r ∷ [])
+HoldLines-push heap [] r own is = (is, tt)
+HoldLines-push heap (s ∷ rs) r own is = (own.0, HoldLines-push heap rs r own.1 is)
+
+AreBelow-push : (n : ℕ) (rs : List Record) (r : Record) → AreBelow n rs → r.line < n → AreBelow n (rs ++ r ∷ [])
+AreBelow-push n [] r below lt = (lt, tt)
+AreBelow-push n (s ∷ rs) r below lt = (below.0, AreBelow-push n rs r below.1 lt)
+
+-- the last of some records, and those before it
+get_or-last : (rs : List Record) (r d : Record) → get_or (rs ++ r ∷ []) (length rs) d ≡ r
+get_or-last [] r d = refl
+get_or-last (s ∷ rs) r d = get_or-last rs r d
+
+get_or-before : (rs : List Record) (r d : Record) (k : ℕ) → k < length rs → get_or (rs ++ r ∷ []) k d ≡ get_or rs k d
+get_or-before [] r d k lt = absurd (omega (arith, lt))
+get_or-before (s ∷ rs) r d zero lt = refl
+get_or-before (s ∷ rs) r d (suc k) lt = get_or-before rs r d k (omega (arith, lt))
+
+module _ (f : Frame) (begun : List ℕ) (lines : Lines) (x : List ℕ) (s : Stands f begun lines x) (k : IsLines f lines) where
+  pub news_good : are_good f.heap_lines lines.buffer.news ≡ true
+  news_good = are_good-lines f.heap_lines lines.buffer.news lines.buffer.olds s.same (olds_good f begun lines x s)
+
+  wide : 64 * f.heap_lines ≤ length (heap_of f x)
+  wide = stands_wide f begun lines x s
+
+  names_news : (line : ℕ) → names_line lines.buffer.news line ≡ is_buffered (stand_at lines.marks line)
+  names_news line = names_line-lines lines.buffer.news lines.buffer.olds line s.same ∙ s.marked.buffered line
+
+  -- a line that isn't in the buffer has the bytes of the heap region
+  pub unbuffered : (line : ℕ) → line < f.heap_lines → is_buffered (stand_at lines.marks line) ≡ false →
+      part (64 * line) 64 (now_of f lines x) ≡ part (64 * line) 64 (heap_of f x)
+  unbuffered line lt other =
+      part-same_but lines.buffer.news line (heap_of f x) (now_of f lines x)
+      (SameBut-put_records f.heap_lines lines.buffer.news (heap_of f x) news_good k.whole wide)
+      (names_news line ∙ other) (omega (arith, lt, wide))
+
+  -- A clean line that enters the buffer.
+  module _ (line at : ℕ) (old from : List ℕ) (lt : line < f.heap_lines) (clean : is_clean (stand_at lines.marks line) ≡ true)
+      (is : old ≡ part (64 * line) 64 (heap_of f x)) (inside : at + length from ≤ 64)
+      (few : length (touched_in lines.marks) < room_of f) (l : Lines) (place : l.place ≡ lines.place)
+      (logged : l.logged ≡ lines.logged)
+      (buffer : l.buffer ≡ record {
+        olds = lines.buffer.olds ++ record { line = line; bytes = old } ∷ [];
+        news = lines.buffer.news ++ record { line = line; bytes = overwrite at from old } ∷ [];
+      })
+      (marks : l.marks ≡ slice_set lines.marks line (Buffered (length lines.buffer.olds)))
+      (long : length lines.buffer.news ≡ length lines.buffer.olds)
+      (cache : (e : ℕ × List ℕ) → Contains l.cache e → Contains lines.cache e × (e.0 ≢ line)) where
+    abbrev o : Record
+    o = record { line = line; bytes = old }
+
+    abbrev n : Record
+    n = record { line = line; bytes = overwrite at from old }
+
+    abbrev pushed : Changes
+    pushed = record { olds = lines.buffer.olds ++ o ∷ []; news = lines.buffer.news ++ n ∷ [] }
+
+    abbrev marks' : List Stand
+    marks' = slice_set lines.marks line (Buffered (length lines.buffer.olds))
+
+    in_marks : line < length lines.marks
+    in_marks = omega (arith, lt, k.long)
+
+    apart : (is_logged (stand_at lines.marks line) ≡ false) × (is_buffered (stand_at lines.marks line) ≡ false)
+    apart = clean_apart (stand_at lines.marks line) clean
+
+    old_long : length old ≡ 64
+    old_long = ap length is ∙ length-part (64 * line) 64 (heap_of f x) (omega (arith, lt, wide))
+
+    new_long : length (overwrite at from old) ≡ 64
+    new_long = length-overwrite at from old (omega (arith, old_long, inside)) ∙ old_long
+
+    stand_is : (other : ℕ) → stand_at marks' other
+        ≡ cond (line == other) (Buffered (length lines.buffer.olds)) (stand_at lines.marks other)
+    stand_is other = stand_at-set lines.marks line other (Buffered (length lines.buffer.olds)) in_marks
+
+    pub entered_touched : IsPermutation (touched_in lines.marks ++ line ∷ []) (touched_in l.marks)
+    entered_touched =
+        subst (λ (ms : List Stand). IsPermutation (touched_in lines.marks ++ line ∷ []) (touched_in ms)) (sym marks)
+        (subst (λ (m : ℕ). IsPermutation (touched_in lines.marks ++ m ∷ []) (touched_in marks')) (omega arith)
+        (touched-set 0 lines.marks line (Buffered (length lines.buffer.olds)) in_marks clean refl))
+
+    touched_more : length (touched_in l.marks) ≡ length (touched_in lines.marks) + 1
+    touched_more =
+        let p = length_permutation (touched_in lines.marks ++ line ∷ []) (touched_in l.marks) entered_touched in
+        omega (arith, p, length-append (touched_in lines.marks) (line ∷ []))
+
+    begun_line : old ≡ part (64 * line) 64 begun
+    begun_line =
+        let logs = stands_logs f begun lines x s in
+        let all = keeps_begun f begun lines.place s.records x _ s.may.keeps in
+        is
+        ∙ sym (part-same_but s.records line (heap_of f x) (put_records s.records (heap_of f x))
+        (SameBut-put_records f.heap_lines s.records (heap_of f x)
+        (are_good-before f.heap_lines s.records lines.buffer.olds s.may.good) (Logs-lines f x s.records logs) wide)
+        (s.marked.logged line ∙ apart.0) (omega (arith, lt, wide)))
+        ∙ ap (part (64 * line) 64) (sym all)
+
+    entered_good : are_good f.heap_lines (s.records ++ (lines.buffer.olds ++ o ∷ [])) ≡ true
+    entered_good =
+        let none : names_line (s.records ++ lines.buffer.olds) line ≡ false =
+        names_line-append s.records lines.buffer.olds line
+        ∙ (λ i. (s.marked.logged line ∙ apart.0) i || (s.marked.buffered line ∙ apart.1) i) in
+        ap (are_good f.heap_lines) (append_assoc s.records lines.buffer.olds (o ∷ []))
+        ∙ are_good-push f.heap_lines (s.records ++ lines.buffer.olds) o s.may.good lt none
+
+    pub entered_may : MaySpill f begun lines.place s.records pushed.olds x (Just x)
+    entered_may = record {
+      keeps = s.may.keeps;
+      good = entered_good;
+      own = HoldLines-push begun lines.buffer.olds o s.may.own begun_line;
+    }
+
+    marked_now : AreMarked s.records pushed marks'
+    marked_now = record {
+      logged = λ other. s.marked.logged other ∙ by_logged other (line == other) refl ∙ sym (ap is_logged (stand_is other));
+      buffered = λ other.
+          names_line-push lines.buffer.olds o other
+          ∙ ap (λ (b : Bool). b || line == other) (s.marked.buffered other)
+          ∙ by_buffered (stand_at lines.marks other) (line == other)
+          ∙ sym (ap is_buffered (stand_is other));
+      placed = λ other p at. by_placed other p (line == other) refl (sym (stand_is other) ∙ at);
+    }
+      where
+        by_logged : (other : ℕ) (b : Bool) → (line == other) ≡ b → is_logged (stand_at lines.marks other)
+            ≡ is_logged (cond b (Buffered (length lines.buffer.olds)) (stand_at lines.marks other))
+        by_logged other false e = refl
+        by_logged other true e =
+            let same : line ≡ other = grind (arith, nat_tests, e) in
+            ap (λ (m : ℕ). is_logged (stand_at lines.marks m)) (sym same) ∙ apart.0
+
+        by_buffered : (stand : Stand) (b : Bool) → (is_buffered stand || b)
+            ≡ is_buffered (cond b (Buffered (length lines.buffer.olds)) stand)
+        by_buffered Clean true = refl
+        by_buffered Clean false = refl
+        by_buffered (Buffered p) true = refl
+        by_buffered (Buffered p) false = refl
+        by_buffered Logged true = refl
+        by_buffered Logged false = refl
+
+        by_placed : (other p : ℕ) (b : Bool) → (line == other) ≡ b →
+            cond b (Buffered (length lines.buffer.olds)) (stand_at lines.marks other) ≡ Buffered p →
+            (p < length pushed.news) × ((d : Record) → (get_or pushed.news p d).line ≡ other)
+        by_placed other p true e at =
+            let same : line ≡ other = grind (arith, nat_tests, e) in
+            let here : length lines.buffer.news ≡ p = long ∙ same_place (length lines.buffer.olds) p at in (
+              omega (arith, here, length-append lines.buffer.news (n ∷ [])),
+              λ d. ap (λ (m : ℕ). (get_or pushed.news m d).line) (sym here)
+                  ∙ ap (λ (r : Record). r.line) (get_or-last lines.buffer.news n d) ∙ same,
+            )
+        by_placed other p false e at =
+            let was = s.marked.placed other p at in (
+              omega (arith, was.0, length-append lines.buffer.news (n ∷ [])),
+              λ d. ap (λ (r : Record). r.line) (get_or-before lines.buffer.news n d p was.0) ∙ was.1 d,
+            )
+
+    clean_now : AreClean f x marks' l.cache
+    clean_now e has =
+        let c = cache e has in
+        let was = s.clean e c.0 in
+        (was.0, ap is_clean (stand_is e.0) ∙ other (line == e.0) refl c.1 was.1)
+      where
+        other : (b : Bool) → (line == e.0) ≡ b → e.0 ≢ line → is_clean (stand_at lines.marks e.0) ≡ true →
+            is_clean (cond b (Buffered (length lines.buffer.olds)) (stand_at lines.marks e.0)) ≡ true
+        other false is ne was = was
+        other true is ne was = absurd (ne (grind (arith, nat_tests, is)))
+
+    pub entered_stands : Stands f begun l x
+    entered_stands = record {
+      records = s.records;
+      may = subst (λ (c : Changes). MaySpill f begun l.place s.records c.olds x (Just x)) (sym buffer)
+          (subst (λ (p : ℕ). MaySpill f begun p s.records pushed.olds x (Just x)) (sym place) entered_may);
+      same = subst (λ (c : Changes). lines_named c.news ≡ lines_named c.olds) (sym buffer)
+          (map-append (λ (r : Record). r.line) lines.buffer.news (n ∷ [])
+          ∙ ap (λ (ns : List ℕ). ns ++ line ∷ []) s.same
+          ∙ sym (map-append (λ (r : Record). r.line) lines.buffer.olds (o ∷ [])));
+      marked = subst (λ (c : Changes). AreMarked s.records c l.marks) (sym buffer)
+          (subst (λ (ms : List Stand). AreMarked s.records pushed ms) (sym marks) marked_now);
+      room = omega (arith, place, s.room);
+      many = logged ∙ s.many;
+      few = omega (arith, touched_more, few);
+      clean = subst (λ (ms : List Stand). AreClean f x ms l.cache) (sym marks) clean_now;
+    }
+
+    pub entered_lines : length l.batch.items ≡ 4357 → IsLines f l
+    entered_lines batch = record {
+      long = ap length marks ∙ length-set lines.marks line (Buffered (length lines.buffer.olds)) ∙ k.long;
+      batch = batch;
+      below = subst (λ (c : Changes). AreBelow f.heap_lines c.news) (sym buffer)
+          (AreBelow-push f.heap_lines lines.buffer.news n k.below lt);
+      whole = subst (λ (c : Changes). AreLines c.news) (sym buffer) (AreLines-push lines.buffer.news n k.whole new_long);
+      counted = ap (λ (c : Changes). l.logged + length c.olds) buffer
+          ∙ omega (arith, logged, k.counted, touched_more, length-append lines.buffer.olds (o ∷ []));
+    }
+
+    pub entered_now : now_of f l x ≡ overwrite (64 * line + at) from (now_of f lines x)
+    entered_now =
+        let same = is ∙ sym (unbuffered line lt apart.1) in
+        let b = SameBut-put_records f.heap_lines lines.buffer.news (heap_of f x) news_good k.whole wide in
+        ap (λ (c : Changes). put_records c.news (heap_of f x)) buffer
+        ∙ ap (λ (old : List ℕ). put_records (lines.buffer.news ++ record { line = line; bytes = overwrite at from old } ∷ [])
+        (heap_of f x)) same
+        ∙ entered lines.buffer.news (heap_of f x) line at from (omega (arith, b.long, lt, wide)) inside
