@@ -5,7 +5,7 @@ use Rattle.std.proofs.lemmas.Bool.{le-leb}
 use Rattle.std.proofs.lemmas.List.{drop-take}
 use Rattle.sdr_base.proofs.PartsLemmas.{length-part}
 use Rattle.sdr_base.specs.Parts.{part}
-use Rattle.sdr_image.proofs.RegionLemmas.{items_anew}
+use Rattle.sdr_image.proofs.VecLemmas.{items_anew}
 use Rattle.sdr_image.specs.Opening.{OnNotFormatted}
 use Rattle.sdr_image.specs.declared.error.ImageError.{ImageError}
 use Rattle.sdr_image.specs.declared.error.ImageError.TheVariants as errors

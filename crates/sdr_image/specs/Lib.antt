@@ -1,11 +1,9 @@
 pub mod Buffer
-pub mod Changed
 pub mod Format
 pub mod Lines
 pub mod Marks
 pub mod Opened
 pub mod Opening
-pub mod Saved
-pub mod Undo
 pub mod Peeking
+pub mod Saved
 pub mod Still

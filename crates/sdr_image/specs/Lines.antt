@@ -1,5 +1,7 @@
 -- Where the lines of an opened disk stand while a transaction is open, and what stands on the disk then.
-use Rattle.std.specs.Prelude.{◌≡◌, ◌≤◌, ◌<◌, ◌+◌, ◌*◌, ℕ, Bool, true, List, [], ◌∷◌, length, map, get_or, Contains, unwrap_or, replicate}
+use Rattle.std.specs.Prelude.{◌≡◌, ◌≤◌, ◌<◌, ◌+◌, ◌-◌, ◌*◌, ℕ, Bool, true, List, [], ◌∷◌, length, map, get_or, Contains, unwrap_or, replicate}
+use Rattle.std.specs.List.{range_with_len}
+use Rattle.sdr_base.specs.Cells.{lines_of}
 use Rattle.sdr_base.specs.Parts.{part}
 use Rattle.sdr_base.specs.declared.line.TheConstants.{LINE}
 use Rattle.sdr_disk.specs.Moments.{AtEach, Reads}
@@ -77,6 +79,15 @@ pub record HasBytes (f : Frame) (bytes disk : List ℕ) : Type 0 where
   pub gate : first_gate disk ≡ 0
   pub heap : heap_of f disk ≡ bytes
 
+-- the lines of a disk with these regions that was just opened, with all their memory
+pub record IsFresh (f : Frame) (lines : Lines) : Type 0 where
+  pub place : lines.place ≡ 0
+  pub logged : lines.logged ≡ 0
+  pub buffer : lines.buffer ≡ record { olds = []; news = [] }
+  pub marks : lines.marks ≡ replicate f.heap_lines Clean
+  pub batch : length lines.batch.items ≡ 4357
+  pub cache : lines.cache ≡ []
+
 -- no line is touched any more, and the cache is the same
 abbrev pub IsUntouched : Lines → Lines → Type 0
 IsUntouched old new = new ≡ record old {
@@ -120,3 +131,9 @@ pub record Leaves {D : Type 0} (bytes : D → List ℕ) (tells : D → Bool) (mo
   pub rests : IfTells (tells disk)
       (Keeps f (begun_of (bytes disk)) (bytes disk) (may_hold_after disk (moment disk)) →
       Keeps f (begun_of (bytes disk)) (bytes disk') (may_hold_after disk' (moment disk')))
+
+-- from the first to the one before the end, these are the lines that hold a byte of so many from a place on
+pub record IsSpan (place count first end : ℕ) : Type 0 where
+  pub lines : range_with_len first (end - first) ≡ lines_of place count
+  pub order : first ≤ end
+  pub last : LINE * end < place + count + LINE

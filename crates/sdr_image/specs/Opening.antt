@@ -1,5 +1,5 @@
 -- When a disk is opened.
-use Rattle.std.specs.Prelude.{◌≡◌, ◌≤◌, ◌*◌, ◌⊎◌, ℕ, Bool, false, List, [], ⊤, Some, Result, Ok, Err, IfErr}
+use Rattle.std.specs.Prelude.{◌≡◌, ◌≤◌, ◌⊎◌, ℕ, Bool, false, List, [], ⊤, Some, Result, Ok, Err, IfErr}
 use Rattle.sdr_base.specs.Causes.{Rose}
 use Rattle.sdr_base.specs.Parts.{part}
 use Rattle.sdr_base.specs.declared.line.TheConstants.{LINE}
@@ -7,7 +7,7 @@ use Rattle.sdr_disk.specs.Moments.{Only}
 use Rattle.sdr_disk.specs.Tells.{IfTells}
 use Rattle.sdr_log.specs.Calls.{KeepsDisk, PutsBack}
 use Rattle.sdr_log.specs.Faulted.{FailsAtGate}
-use Rattle.sdr_log.specs.Frame.{IsInLimits, frame_of, room_of}
+use Rattle.sdr_log.specs.Frame.{IsInLimits, frame_of}
 use Rattle.sdr_log.specs.Log.{put_back_of}
 use Rattle.sdr_log.specs.Logged.{IsLogged}
 use Rattle.sdr_log.specs.declared.frame.Frame.{Frame}
@@ -15,7 +15,6 @@ use Rattle.sdr_image.specs.declared.error.ImageError.{ImageError}
 use Rattle.sdr_image.specs.declared.error.ImageError.TheVariants as errors
 use Rattle.sdr_image.specs.declared.error.ImageShut.{ImageShut}
 use Rattle.sdr_image.specs.Opened.{Opened, Rests}
-use Rattle.sdr_image.specs.Undo.{Olds}
 
 -- what holds where the disk isn't formatted
 abbrev pub OnNotFormatted : ImageError → Type 0 → Type 0
@@ -36,12 +35,6 @@ ExplainsFault before now error = ⊤
 pub record HasImageCause {T : Type 0} (before now : ℕ) (result : Result T ImageError) : Type 0 where
   pub later : before ≤ now
   pub explained : IfErr result (ExplainsFault before now)
-
--- the memory of an image with these regions: a heap region, old lines, and a commit
-pub record IsReserved (f : Frame) (bytes : ℕ) (undo : Olds) (memory : ℕ) : Type 0 where
-  pub long : bytes ≡ LINE * f.heap_lines
-  pub undo_is : undo ≡ record { lines = f.heap_lines; room = room_of f; olds = [] }
-  pub memory_is : memory ≡ room_of f
 
 -- open batches name all lines on which bytes are pending, as where a recovery was stopped
 pub record IsStopped (x : List ℕ) (left : List ℕ → Type 0) : Type 0 where

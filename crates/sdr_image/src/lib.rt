@@ -35,7 +35,7 @@
 
 mod buffer;
 mod cache;
-mod changing;
+mod closing;
 mod empty;
 mod error;
 mod fresh;
@@ -45,10 +45,10 @@ mod lines;
 mod marks;
 mod opening;
 mod peeking;
-mod region;
-mod saving;
+mod span;
+mod spilling;
 mod still;
-mod undo;
+mod writing;
 mod zeros;
 
 pub use empty::format;

@@ -109,15 +109,15 @@ no_batch (suc fuel) (gate ∷ log) rest b e = shut (gate == 0) refl b e
     shut false is b e =
         absurd (inside (first_number (take 4 log) == 0 || nat_le (length log) (4 + 68 * first_number (take 4 log))) e)
 
--- a part of the log region is a part of the disk
-pub part-within : (q m n : ℕ) (x : List ℕ) → q + m ≤ n → part q m (part 64 n x) ≡ part (64 + q) m x
-part-within q m n x inside =
+-- a part of a region is a part of the disk
+pub part-within : (p q m n : ℕ) (x : List ℕ) → q + m ≤ n → part q m (part p n x) ≡ part (p + q) m x
+part-within p q m n x inside =
     let e : n ≡ q + (n - q) = omega (arith, inside) in
     let le : m ≤ n - q = omega (arith, inside) in
-    ap (λ (k : ℕ). take m (drop q (take k (drop 64 x)))) e
-    ∙ ap (take m) (drop-take q (n - q) (drop 64 x))
-    ∙ take-take m (n - q) (drop q (drop 64 x)) le
-    ∙ ap (take m) (drop-drop q 64 x)
+    ap (λ (k : ℕ). take m (drop q (take k (drop p x)))) e
+    ∙ ap (take m) (drop-take q (n - q) (drop p x))
+    ∙ take-take m (n - q) (drop q (drop p x)) le
+    ∙ ap (take m) (drop-drop q p x)
 
 -- records of the log region are those at their place of the disk
 pub records_of-at : (count q n : ℕ) (x : List ℕ) → q + 68 * count ≤ n →
@@ -129,7 +129,7 @@ records_of-at (suc count) q n x le =
     let at : 64 + (q + 68) ≡ 64 + q + 68 = omega arith in
     let first : q + 68 ≤ n = omega (arith, le) in
     let after : q + 68 + 68 * count ≤ n = omega (arith, le) in
-    let here : part q 68 log ≡ part (64 + q) 68 x = part-within q 68 n x first in
+    let here : part q 68 log ≡ part (64 + q) 68 x = part-within 64 q 68 n x first in
     let line = ap first_number (sym (take-take 4 68 (drop q log) (omega arith)) ∙ ap (take 4) here) in
     let old = sym (short (drop q log)) ∙ ap (part 4 64) here in
     let rest = ap (records_of count) (drop-drop 68 q log) ∙ records_of-at count (q + 68) n x after

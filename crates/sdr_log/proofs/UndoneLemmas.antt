@@ -178,7 +178,7 @@ module _ {D : Type 0} (moment : D → ℕ) (may_hold_after : D → ℕ → List 
         let inside : place + 1 + 4 ≤ 64 * f.log_lines = omega (arith, next_inside) in
         is
         ∙ ap (λ (k : ℕ). first_number (part k 4 y)) (sym e)
-        ∙ ap first_number (sym (part-within (place + 1) 4 (64 * f.log_lines) y inside))
+        ∙ ap first_number (sym (part-within 64 (place + 1) 4 (64 * f.log_lines) y inside))
         ∙ ap (λ (l : List ℕ). first_number (part (place + 1) 4 l)) same
         ∙ ap (λ (l : List ℕ). first_number (take 4 l)) (sym (drop-drop 1 place (log_of f (bytes old))))
         ∙ sym next.is

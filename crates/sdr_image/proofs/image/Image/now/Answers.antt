@@ -1,8 +1,0 @@
-use Rattle.sdr_image.proofs.OpenedLemmas.{quiet_keeps, rests_leaves}
-use Rattle.sdr_image.proofs.image.Image.now.Goals as goal
-
-pub returns-clause-leaves : goal.returns-clause-leaves
-returns-clause-leaves g c sound rests = rests_leaves g.D.Disk.bytes g.D.Disk.tells_crashes g.D.Disk.moment g.D.Disk.may_hold_after c.args.self.now sound rests
-
-pub returns-clause-any_moment : goal.returns-clause-any_moment
-returns-clause-any_moment g c before q = quiet_keeps _ _ _ _ before _ q
