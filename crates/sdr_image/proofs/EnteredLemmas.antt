@@ -15,7 +15,7 @@ use Rattle.sdr_log.specs.Log.{AreLines, are_good, heap_of, names_line, put_recor
 use Rattle.sdr_log.specs.Spilled.{Just, MaySpill, PutsThrough}
 use Rattle.sdr_log.specs.declared.frame.Frame.{Frame}
 use Rattle.sdr_log.specs.declared.record.Record.{Record}
-use Rattle.sdr_log.proofs.GoodLemmas.{AreBelow-good}
+use Rattle.sdr_log.proofs.GoodLemmas.{AreBelow-good, HoldLines-put_records}
 use Rattle.sdr_log.proofs.RecordsLemmas.{AreLines-push, SameBut-put_records, are_good-cons, are_good-push, names_line-push}
 use Rattle.sdr_log.proofs.RecordsLemmas.{part-same_but}
 use Rattle.sdr_log.proofs.SpillingLemmas.{keeps_begun}
@@ -48,7 +48,7 @@ unfolding place_of
 same_place m n is = ap place_of is
 
 -- a clean line is neither logged nor in the buffer
-clean_apart : (stand : Stand) → is_clean stand ≡ true → (is_logged stand ≡ false) × (is_buffered stand ≡ false)
+pub clean_apart : (stand : Stand) → is_clean stand ≡ true → (is_logged stand ≡ false) × (is_buffered stand ≡ false)
 clean_apart Clean is = (refl, refl)
 clean_apart (Buffered p) is = absurd (true≢false (sym is))
 clean_apart Logged is = absurd (true≢false (sym is))
@@ -257,3 +257,181 @@ module _ (f : Frame) (begun : List ℕ) (lines : Lines) (x : List ℕ) (s : Stan
         ∙ ap (λ (old : List ℕ). put_records (lines.buffer.news ++ record { line = line; bytes = overwrite at from old } ∷ [])
         (heap_of f x)) same
         ∙ entered lines.buffer.news (heap_of f x) line at from (omega (arith, b.long, lt, wide)) inside
+
+-- a line at its place among those that are put, with other bytes
+changed_at : (n : ℕ) (news : List Record) (place at : ℕ) (from heap : List ℕ) (d : Record) → are_good n news ≡ true →
+    AreLines news → 64 * n ≤ length heap → place < length news → at + length from ≤ 64 →
+    put_records (slice_set news place (with_bytes at from (get_or news place d))) heap
+    ≡ overwrite (64 * (get_or news place d).line + at) from (put_records news heap)
+changed_at n [] place at from heap d good long wide lt inside = absurd (omega (arith, lt))
+changed_at n (r ∷ news) zero at from heap d good long wide lt inside =
+    let g = are_good-cons n r news good in
+    changed n r news heap at from (AreBelow-good n (r ∷ news) good) long wide g.1 inside
+changed_at n (r ∷ news) (suc place) at from heap d good long wide lt inside =
+    let g = are_good-cons n r news good in
+    let p = 64 * r.line in
+    let within : p + length r.bytes ≤ length heap = omega (arith, g.0, long.0, wide) in
+    changed_at n news place at from (overwrite p r.bytes heap) d g.2 long.1
+    (omega (arith, length-overwrite p r.bytes heap within, wide)) (omega (arith, lt)) inside
+
+-- which names the same lines
+lines_named-set : (news : List Record) (place : ℕ) (r d : Record) → r.line ≡ (get_or news place d).line →
+    place < length news → lines_named (slice_set news place r) ≡ lines_named news
+lines_named-set [] place r d is lt = refl
+lines_named-set (s ∷ news) zero r d is lt = ap (λ (k : ℕ). k ∷ lines_named news) is
+lines_named-set (s ∷ news) (suc place) r d is lt =
+    ap (λ (ns : List ℕ). s.line ∷ ns) (lines_named-set news place r d is (omega (arith, lt)))
+
+AreBelow-set : (n : ℕ) (news : List Record) (place : ℕ) (r : Record) → AreBelow n news → r.line < n →
+    AreBelow n (slice_set news place r)
+AreBelow-set n [] place r below lt = tt
+AreBelow-set n (s ∷ news) zero r below lt = (lt, below.1)
+AreBelow-set n (s ∷ news) (suc place) r below lt = (below.0, AreBelow-set n news place r below.1 lt)
+
+AreLines-set : (news : List Record) (place : ℕ) (r : Record) → AreLines news → length r.bytes ≡ 64 →
+    AreLines (slice_set news place r)
+AreLines-set [] place r whole long = tt
+AreLines-set (s ∷ news) zero r whole long = (long, whole.1)
+AreLines-set (s ∷ news) (suc place) r whole long = (whole.0, AreLines-set news place r whole.1 long)
+
+whole_at : (news : List Record) (place : ℕ) (d : Record) → AreLines news → place < length news →
+    length (get_or news place d).bytes ≡ 64
+whole_at [] place d whole lt = absurd (omega (arith, lt))
+whole_at (s ∷ news) zero d whole lt = whole.0
+whole_at (s ∷ news) (suc place) d whole lt = whole_at news place d whole.1 (omega (arith, lt))
+
+get_or-set_line : (news : List Record) (place k : ℕ) (r d d' : Record) → r.line ≡ (get_or news place d').line →
+    (get_or (slice_set news place r) k d).line ≡ (get_or news k d).line
+get_or-set_line [] place k r d d' is = refl
+get_or-set_line (s ∷ news) zero zero r d d' is = is
+get_or-set_line (s ∷ news) zero (suc k) r d d' is = refl
+get_or-set_line (s ∷ news) (suc place) zero r d d' is = refl
+get_or-set_line (s ∷ news) (suc place) (suc k) r d d' is = get_or-set_line news place k r d d' is
+
+-- the bytes now of a line in the buffer
+pub buffered_line : (f : Frame) (begun : List ℕ) (lines : Lines) (x : List ℕ) (s : Stands f begun lines x)
+    (k : IsLines f lines) (place : ℕ) (d : Record) → place < length lines.buffer.news →
+    (get_or lines.buffer.news place d).bytes
+    ≡ part (64 * (get_or lines.buffer.news place d).line) 64 (now_of f lines x)
+buffered_line f begun lines x s k place d lt =
+    at lines.buffer.news place (HoldLines-put_records f.heap_lines lines.buffer.news (heap_of f x)
+    (news_good f begun lines x s k) k.whole (stands_wide f begun lines x s)) lt
+  where
+    at : (rs : List Record) (place : ℕ) → HoldLines (now_of f lines x) rs → place < length rs →
+        (get_or rs place d).bytes ≡ part (64 * (get_or rs place d).line) 64 (now_of f lines x)
+    at [] place own lt = absurd (omega (arith, lt))
+    at (r ∷ rs) zero own lt = own.0
+    at (r ∷ rs) (suc place) own lt = at rs place own.1 (omega (arith, lt))
+
+-- A line of the buffer that is changed.
+module _ (f : Frame) (begun : List ℕ) (lines : Lines) (x : List ℕ) (s : Stands f begun lines x) (k : IsLines f lines)
+    (line place at : ℕ) (from : List ℕ) (stands : stand_at lines.marks line ≡ Buffered place)
+    (below : line < f.heap_lines) (inside : at + length from ≤ 64) (d : Record) (l : Lines)
+    (is : l ≡ record lines {
+      buffer = record lines.buffer {
+        news = slice_set lines.buffer.news place (with_bytes at from (get_or lines.buffer.news place d));
+      };
+    }) where
+  abbrev r : Record
+  r = with_bytes at from (get_or lines.buffer.news place d)
+
+  abbrev l' : Lines
+  l' = record lines { buffer = record lines.buffer { news = slice_set lines.buffer.news place r } }
+
+  lt : place < length lines.buffer.news
+  lt = (s.marked.placed line place stands).0
+
+  line_is : (get_or lines.buffer.news place d).line ≡ line
+  line_is = (s.marked.placed line place stands).1 d
+
+  new_long : length r.bytes ≡ 64
+  new_long =
+      let old = whole_at lines.buffer.news place d k.whole lt in
+      length-overwrite at from (get_or lines.buffer.news place d).bytes (omega (arith, old, inside)) ∙ old
+
+  pub changed_stands : Stands f begun l x
+  changed_stands = subst (λ (m : Lines). Stands f begun m x) (sym is) record {
+    records = s.records;
+    may = s.may;
+    same = lines_named-set lines.buffer.news place r d refl lt ∙ s.same;
+    marked = record {
+      logged = s.marked.logged;
+      buffered = s.marked.buffered;
+      placed = λ other p at'.
+          let was = s.marked.placed other p at' in (
+            omega (arith, was.0, length-set lines.buffer.news place r),
+            λ e. get_or-set_line lines.buffer.news place p r e d refl ∙ was.1 e,
+          );
+    };
+    room = s.room;
+    many = s.many;
+    few = s.few;
+    clean = s.clean;
+  }
+
+  pub changed_lines : IsLines f l
+  changed_lines = subst (IsLines f) (sym is) record {
+    long = k.long;
+    batch = k.batch;
+    below = AreBelow-set f.heap_lines lines.buffer.news place r k.below (omega (arith, line_is, below));
+    whole = AreLines-set lines.buffer.news place r k.whole new_long;
+    counted = k.counted;
+  }
+
+  pub changed_now : now_of f l x ≡ overwrite (64 * line + at) from (now_of f lines x)
+  changed_now =
+      ap (λ (m : Lines). now_of f m x) is
+      ∙ changed_at f.heap_lines lines.buffer.news place at from (heap_of f x) d (news_good f begun lines x s k) k.whole
+      (stands_wide f begun lines x s) lt inside
+      ∙ ap (λ (n : ℕ). overwrite (64 * n + at) from (now_of f lines x)) line_is
+
+-- A logged line that is written through.
+module _ (f : Frame) (begun : List ℕ) (lines : Lines) (x : List ℕ) (s : Stands f begun lines x) (k : IsLines f lines)
+    (line at : ℕ) (bytes from : List ℕ) (stands : stand_at lines.marks line ≡ Logged) (lt : line < f.heap_lines)
+    (is : bytes ≡ overwrite at from (part (64 * line) 64 (heap_of f x))) (inside : at + length from ≤ 64) where
+  pub through_named : names_line s.records line ≡ true
+  through_named = s.marked.logged line ∙ ap is_logged stands
+
+  pub through_long : length bytes ≡ 64
+  through_long =
+      let old = length-part (64 * line) 64 (heap_of f x) (omega (arith, lt, stands_wide f begun lines x s)) in
+      ap length is
+      ∙ length-overwrite at from (part (64 * line) 64 (heap_of f x)) (omega (arith, old, inside)) ∙ old
+
+  module _ (y : List ℕ) (p : PutsThrough f begun lines.place s.records (record { line = line; bytes = bytes }) x y (Just y)) where
+    through_cached : AreClean f y lines.marks lines.cache
+    through_cached e has =
+        let was = s.clean e has in
+        let one : are_good f.heap_lines (record { line = line; bytes = bytes } ∷ []) ≡ true = grind (arith, nat_tests, lt) in
+        let b = SameBut-put_records f.heap_lines (record { line = line; bytes = bytes } ∷ []) (heap_of f x) one
+        (through_long, tt) (stands_wide f begun lines x s) in
+        let other : names_line (record { line = line; bytes = bytes } ∷ []) e.0 ≡ false =
+        by (line == e.0) refl in
+        let kept = part-same_but (record { line = line; bytes = bytes } ∷ []) e.0 (heap_of f x) _ b other
+        (omega (arith, was.0.0, stands_wide f begun lines x s)) in
+        ((was.0.0, was.0.1 ∙ sym kept ∙ ap (part (64 * e.0) 64) (sym p.heap)), was.1)
+      where
+        by : (b : Bool) → (line == e.0) ≡ b → (line == e.0 || false) ≡ false
+        by false is = grind (arith, is)
+        by true is =
+            let same : line ≡ e.0 = grind (arith, nat_tests, is) in
+            absurd (true≢false (sym (s.clean e has).1 ∙ ap is_clean (ap (stand_at lines.marks) (sym same) ∙ stands)))
+
+    pub through_stands : Stands f begun lines y
+    through_stands = record {
+      records = s.records;
+      may = record { keeps = p.keeps; good = s.may.good; own = s.may.own };
+      same = s.same;
+      marked = s.marked;
+      room = s.room;
+      many = s.many;
+      few = s.few;
+      clean = through_cached;
+    }
+
+    pub through_now : now_of f lines y ≡ overwrite (64 * line + at) from (now_of f lines x)
+    through_now =
+        ap (put_records lines.buffer.news) (p.heap
+        ∙ ap (λ (b : List ℕ). overwrite (64 * line) b (heap_of f x)) is)
+        ∙ through f.heap_lines lines.buffer.news (heap_of f x) line at from k.below k.whole (stands_wide f begun lines x s) lt
+        (names_news f begun lines x s k line ∙ ap is_buffered stands) inside

@@ -10,7 +10,7 @@ pub mod OpenedLemmas
 pub mod OpeningLemmas
 pub mod OutsideLemmas
 pub mod PeekLemmas
-pub mod QuietLemmas
+pub mod RestedLemmas
 pub mod StandsLemmas
 pub mod StillLemmas
 pub mod TouchedLemmas

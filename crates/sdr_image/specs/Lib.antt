@@ -5,5 +5,6 @@ pub mod Marks
 pub mod Opened
 pub mod Opening
 pub mod Peeking
+pub mod QuietLaws
 pub mod Saved
 pub mod Still

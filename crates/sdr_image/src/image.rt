@@ -60,7 +60,7 @@ impl<D: Disk> Model for Image<D> {
 // How many bytes of a line a call covers that goes from a place on over so many bytes: from which of
 // them, counted from the line's first, and up to which, counted from the call's first.
 fn piece(place: u64, count: usize, line: u64) -> (usize, usize, usize)
-    requires { place + count < 2 ^ 60 }
+    requires small { place + count < 2 ^ 60 }
     requires first { place < LINE * line + LINE }
     requires last { LINE * line < place + count }
     ensures at { result.0 ≡ place + result.1 - LINE * line }
@@ -417,7 +417,7 @@ impl<D: Disk> Image<D> {
 }
 
 impl<D: Disk> Cells for Image<D> {
-    ghost use Rattle.sdr_image.proofs.QuietLemmas.{quiet_same, quiet_both};
+    ghost use Rattle.sdr_image.specs.QuietLaws.{quiet_same, quiet_both};
 
     ghost bytes = { λ i. i.bytes };
 
