@@ -435,3 +435,7 @@ module _ (f : Frame) (begun : List ℕ) (lines : Lines) (x : List ℕ) (s : Stan
         ∙ ap (λ (b : List ℕ). overwrite (64 * line) b (heap_of f x)) is)
         ∙ through f.heap_lines lines.buffer.news (heap_of f x) line at from k.below k.whole (stands_wide f begun lines x s) lt
         (names_news f begun lines x s k line ∙ ap is_buffered stands) inside
+
+-- a record that stands where there is none
+abbrev pub any_record : Record
+any_record = record { line = 0; bytes = [] }

@@ -1,7 +1,7 @@
 -- What stands of a transaction whose lines may be spilled.
 use Rattle.std.proofs.Common.{◌≡◌, ◌≢◌, ◌≤◌, ◌<◌, ◌∙◌, ℕ, zero, suc, ◌+◌, ◌*◌, ◌/◌, Bool, true, false, ◌||◌, ◌==◌, cond, List, [], ◌∷◌, ◌++◌}
 use Rattle.std.proofs.Common.{drop, length, get_or, refl, sym, ap, subst, arith, Some, true≢false, append-nil, length-append, inl, inr}
-use Rattle.std.specs.Prelude.{unwrap_or, IsPermutation, Contains, replicate}
+use Rattle.std.specs.Prelude.{IfOk, Result, Ok, Err, unwrap_or, IsPermutation, Contains, replicate}
 use Rattle.std.specs.List.{All}
 use Rattle.std.proofs.lemmas.Bool.Decides.{nat_tests}
 use Rattle.std.proofs.lemmas.List.{length-map}
@@ -10,13 +10,14 @@ use Rattle.sdr_base.specs.Parts.{part}
 use Rattle.sdr_disk.specs.Moments.{Reads}
 use Rattle.sdr_log.specs.Batch.{batch_size, with_batch}
 use Rattle.sdr_log.specs.Calls.{AreBelow, AreNamed, HasPlace, HoldLines, with_records}
-use Rattle.sdr_log.specs.Frame.{IsInLimits, room_of}
+use Rattle.sdr_log.specs.Frame.{IsInLimits, heap_place, room_of}
 use Rattle.sdr_log.specs.Log.{AreLines, are_good, heap_of, names_line, put_records}
 use Rattle.sdr_log.specs.Logged.{Logs}
 use Rattle.sdr_log.specs.Spilled.{Just, KeepsBegin, MaySpill, Spills}
 use Rattle.sdr_log.specs.declared.frame.Frame.{Frame}
 use Rattle.sdr_log.specs.declared.record.Record.{Record}
-use Rattle.sdr_log.proofs.GoodLemmas.{AreBelow-good, HoldLines-put_records, are_good-before, put_records-all_own}
+use Rattle.sdr_log.proofs.BatchesLemmas.{part-within}
+use Rattle.sdr_log.proofs.GoodLemmas.{HoldLines-put_records, names_line-below, put_records-all_own}
 use Rattle.sdr_log.proofs.LoggedLemmas.{HasRegions-limits, length-heap_of}
 use Rattle.sdr_log.proofs.RecordsLemmas.{SameBut, SameBut-put_records, are_good-cons, part-same_but, put_records-same_but}
 use Rattle.sdr_log.proofs.SpilledLemmas.{spills_bytes}
@@ -126,6 +127,18 @@ put_records-permutation n a b heap p good long long' wide =
     }))
     ∙ put_records-all_own n [] b now good' tt long' (omega (arith, s.long, wide)) own
 
+-- a line of the heap region
+pub line_in_heap : (f : Frame) (line : ℕ) (x : List ℕ) → line < f.heap_lines →
+    part (heap_place f + 64 * line) 64 x ≡ part (64 * line) 64 (heap_of f x)
+unfolding heap_of
+line_in_heap f line x lt =
+    sym (part-within (heap_place f) (64 * line) 64 (64 * f.heap_lines) x (omega (arith, lt)))
+
+-- what follows from what holds of a result
+pub if_ok : {T E : Type 0} {P Q : T → Type 0} (result : Result T E) → ((t : T) → P t → Q t) → IfOk result P → IfOk result Q
+if_ok (Ok t) more p = more t p
+if_ok (Err e) more p = tt
+
 -- What stands.
 module _ (f : Frame) (begun : List ℕ) (lines : Lines) (x : List ℕ) (s : Stands f begun lines x) where
   pub stands_logs : Logs f x s.records
@@ -189,6 +202,17 @@ module _ (f : Frame) (begun : List ℕ) (lines : Lines) (x : List ℕ) (s : Stan
 
     news_good : are_good f.heap_lines lines.buffer.news ≡ true
     news_good = are_good-lines f.heap_lines lines.buffer.news lines.buffer.olds s.same olds_good
+
+    pub risen_marks : (line : ℕ) → names_line risen.olds line ≡ true → line < length lines.marks
+    risen_marks line named =
+        let good = good_behind f.heap_lines s.records risen.olds (risen_may (Just x) s.may.keeps).good in
+        omega (arith, names_line-below f.heap_lines risen.olds line good named, k.long)
+
+    pub risen_counted : lines.logged + length risen.olds ≡ length (touched_in lines.marks)
+    risen_counted = omega (arith, k.counted, risen_long)
+
+    pub risen_touched : touched_in lines.marks ≡ [] → ⊥
+    risen_touched none = absurd (omega (arith, some, k.counted, ap length none))
 
     -- the bytes now are the same
     pub risen_now : (heap : List ℕ) → AreLines risen.news → 64 * f.heap_lines ≤ length heap →

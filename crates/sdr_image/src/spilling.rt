@@ -29,6 +29,7 @@ fn spill<D: Disk>(disk: &mut D, frame: Frame, lines: &mut Lines) -> Result<(), D
     ensures calls { D.moment disk.new ≤ D.moment disk.old + 2 * 68 }
 {
     lines.buffer.rise();
+    let count = lines.buffer.len();
     let next = sdr_log::spill(
         disk,
         frame,
@@ -38,7 +39,7 @@ fn spill<D: Disk>(disk: &mut D, frame: Frame, lines: &mut Lines) -> Result<(), D
         &mut lines.batch,
     )?;
     lines.place = next;
-    lines.logged += lines.buffer.len() as u64;
+    lines.logged += count as u64;
     lines.marks.set_all(lines.buffer.olds(), Stand::Logged);
     lines.buffer.clear();
     Ok(())

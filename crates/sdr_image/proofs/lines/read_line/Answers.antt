@@ -1,0 +1,7 @@
+use Rattle.std.proofs.Common.{◌∙◌, ◌*◌, sym, ap, ◌+◌, arith}
+use Rattle.sdr_image.proofs.StandsLemmas.{line_in_heap}
+use Rattle.sdr_image.proofs.lines.read_line.Goals as goal
+
+pub returns-clause-given : goal.returns-clause-given
+returns-clause-given g c =
+    c.in_ok-read_at.ensures.given ∙ line_in_heap c.args.frame c.args.line (g.D.Disk.bytes c.args.disk.now) c.requires.below
