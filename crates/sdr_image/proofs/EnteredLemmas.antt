@@ -5,7 +5,7 @@ use Rattle.std.specs.Prelude.{Contains, IsPermutation, slice_set}
 use Rattle.std.proofs.lemmas.Bool.{cases_eq}
 use Rattle.std.proofs.lemmas.Bool.Decides.{nat_tests}
 use Rattle.std.proofs.lemmas.Grind.{common_steps}
-use Rattle.std.proofs.lemmas.List.{length-set, map-append}
+use Rattle.std.proofs.lemmas.List.{length-map, length-set, map-append}
 use Rattle.std.proofs.lemmas.List.Sorted.{length_permutation}
 use Rattle.sdr_base.specs.Parts.{overwrite, part}
 use Rattle.sdr_base.proofs.PartsLemmas.{length-overwrite, length-part}
@@ -100,7 +100,6 @@ module _ (f : Frame) (begun : List ℕ) (lines : Lines) (x : List ℕ) (s : Stan
         news = lines.buffer.news ++ record { line = line; bytes = overwrite at from old } ∷ [];
       })
       (marks : l.marks ≡ slice_set lines.marks line (Buffered (length lines.buffer.olds)))
-      (long : length lines.buffer.news ≡ length lines.buffer.olds)
       (cache : (e : ℕ × List ℕ) → Contains l.cache e → Contains lines.cache e × (e.0 ≢ line)) where
     abbrev o : Record
     o = record { line = line; bytes = old }
@@ -113,6 +112,10 @@ module _ (f : Frame) (begun : List ℕ) (lines : Lines) (x : List ℕ) (s : Stan
 
     abbrev marks' : List Stand
     marks' = slice_set lines.marks line (Buffered (length lines.buffer.olds))
+
+    long : length lines.buffer.news ≡ length lines.buffer.olds
+    long = omega (arith, ap length s.same, length-map lines.buffer.news (λ (r : Record). r.line),
+        length-map lines.buffer.olds (λ (r : Record). r.line))
 
     in_marks : line < length lines.marks
     in_marks = omega (arith, lt, k.long)

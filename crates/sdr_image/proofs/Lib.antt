@@ -12,6 +12,7 @@ pub mod OutsideLemmas
 pub mod PeekLemmas
 pub mod RestedLemmas
 pub mod StandsLemmas
+pub mod StepsLemmas
 pub mod StillLemmas
 pub mod TouchedLemmas
 pub mod VecLemmas

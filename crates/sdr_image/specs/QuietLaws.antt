@@ -12,6 +12,27 @@ use Rattle.sdr_log.proofs.SpillingLemmas.{keeps_gives}
 use Rattle.sdr_image.specs.Lines.{Keeps}
 use Rattle.sdr_image.specs.Opened.{IsQuiet, KeepsBegun, LeavesHeap, Opened, Rests}
 
+-- a disk that was only read keeps what it kept
+pub keeps_read : {D : Type 0} {bytes : D → List ℕ} {tells : D → Bool} {moment : D → ℕ}
+    {may_hold_after : D → ℕ → List ℕ → Type 0} {old now : D} (r : Reads bytes tells moment may_hold_after old now)
+    (f : Frame) (begun : List ℕ) → Keeps f begun (bytes old) (may_hold_after old (moment old)) →
+    Keeps f begun (bytes now) (may_hold_after now (moment now))
+keeps_read {D} {bytes} {tells} {moment} {may_hold_after} {old} {now} r f begun k =
+    subst (λ (x : List ℕ). Keeps f begun x (may_hold_after now (moment now))) (sym r.same) record {
+      place = k.place;
+      records = k.records;
+      keeps = record {
+        logged = record {
+          records = k.keeps.logged.records;
+          logs = k.keeps.logged.logs;
+          pending = λ image l. k.keeps.logged.pending image (left_before r image l);
+        };
+        log = k.keeps.log;
+        ends = k.keeps.ends;
+        gives = k.keeps.gives;
+      };
+    }
+
 module _ {D : Type 0} (bytes : D → List ℕ) (tells : D → Bool) (moment : D → ℕ) (may_hold_after : D → ℕ → List ℕ → Type 0) where
   -- a crash now leaves the bytes at begin
   pub rests_leaves : (i : Opened D) → i.failed ≡ false → Rests bytes tells moment may_hold_after i →
@@ -76,25 +97,6 @@ module _ {D : Type 0} (bytes : D → List ℕ) (tells : D → Bool) (moment : D 
 
   -- A call that only reads, and may find the disk failed.
   module _ (a b : Opened D) (r : Reads bytes tells moment may_hold_after a.disk b.disk) where
-    pub keeps_read : (f : Frame) (begun : List ℕ) →
-        Keeps f begun (bytes a.disk) (may_hold_after a.disk (moment a.disk)) →
-        Keeps f begun (bytes b.disk) (may_hold_after b.disk (moment b.disk))
-    keeps_read f begun k =
-        subst (λ (x : List ℕ). Keeps f begun x (may_hold_after b.disk (moment b.disk))) (sym r.same) record {
-          place = k.place;
-          records = k.records;
-          keeps = record {
-            logged = record {
-              records = k.keeps.logged.records;
-              logs = k.keeps.logged.logs;
-              pending = λ image l. k.keeps.logged.pending image (left_before r image l);
-            };
-            log = k.keeps.log;
-            ends = k.keeps.ends;
-            gives = k.keeps.gives;
-          };
-        }
-
     -- the image is the same but for that
     pub quiet_read : a.failed ≡ false → b.frame ≡ a.frame → b.restored ≡ a.restored → b.is_open ≡ a.is_open →
         b.begun ≡ a.begun → b.touched ≡ a.touched → IsQuiet bytes tells moment may_hold_after a b
@@ -112,7 +114,7 @@ module _ {D : Type 0} (bytes : D → List ℕ) (tells : D → Bool) (moment : D 
       rests = λ rests s told.
           subst (λ (k : Frame). Keeps k b.begun (bytes b.disk) (may_hold_after b.disk (moment b.disk))) (sym frame)
           (subst (λ (heap : List ℕ). Keeps a.frame heap (bytes b.disk) (may_hold_after b.disk (moment b.disk))) (sym begun)
-          (keeps_read a.frame a.begun (rests sound (sym r.tells ∙ told))));
+          (keeps_read r a.frame a.begun (rests sound (sym r.tells ∙ told))));
       any_moment = λ s rests told.
           at_read moment may_hold_after a.disk a.disk b.disk (GivesHeap a.begun)
           (at_first moment may_hold_after a.disk (GivesHeap a.begun) (rests_leaves a s rests told)) r.time r.past;
