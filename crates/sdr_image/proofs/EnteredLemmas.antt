@@ -1,5 +1,5 @@
 -- A clean line that enters the buffer, and a line that is changed there or written through.
-use Rattle.std.proofs.Common.{◌≡◌, ◌≢◌, ◌≤◌, ◌<◌, ◌∙◌, ℕ, zero, suc, ◌+◌, ◌*◌, Bool, true, false, ◌||◌, ◌==◌, cond, List, [], ◌∷◌, ◌++◌}
+use Rattle.std.proofs.Common.{◌≡◌, ◌≢◌, ◌≤◌, ◌<◌, ◌∙◌, ℕ, zero, suc, ◌+◌, ◌*◌, Bool, true, false, not, ◌||◌, ◌==◌, cond, List, [], ◌∷◌, ◌++◌}
 use Rattle.std.proofs.Common.{length, get_or, refl, sym, ap, subst, arith, true≢false, append_assoc, length-append, inl, inr}
 use Rattle.std.specs.Prelude.{Contains, IsPermutation, slice_set}
 use Rattle.std.proofs.lemmas.Bool.{cases_eq}
@@ -7,6 +7,7 @@ use Rattle.std.proofs.lemmas.Bool.Decides.{nat_tests}
 use Rattle.std.proofs.lemmas.Grind.{common_steps}
 use Rattle.std.proofs.lemmas.List.{length-map, length-set, map-append}
 use Rattle.std.proofs.lemmas.List.Sorted.{length_permutation}
+use Rattle.sdr_base.specs.Cells.{is_among}
 use Rattle.sdr_base.specs.Parts.{overwrite, part}
 use Rattle.sdr_base.proofs.PartsLemmas.{length-overwrite, length-part}
 use Rattle.sdr_log.specs.Calls.{AreBelow, HoldLines}
@@ -27,7 +28,7 @@ use Rattle.sdr_image.specs.Marks.{is_buffered, is_clean, is_logged, stand_at, to
 use Rattle.sdr_image.specs.declared.lines.Lines.{Lines}
 use Rattle.sdr_image.specs.declared.marks.Stand.{Stand}
 use Rattle.sdr_image.specs.declared.marks.Stand.TheVariants.{Buffered, Clean, Logged}
-use Rattle.sdr_image.proofs.MarksLemmas.{touched-set}
+use Rattle.sdr_image.proofs.MarksLemmas.{is_among-touched, touched-set}
 use Rattle.sdr_image.proofs.StandsLemmas.{are_good-lines, names_line-append, names_line-lines, olds_good, stands_logs, stands_wide}
 use Rattle.sdr_image.proofs.WritingLemmas.{changed, entered, through}
 
@@ -71,6 +72,23 @@ get_or-before : (rs : List Record) (r d : Record) (k : ℕ) → k < length rs �
 get_or-before [] r d k lt = absurd (omega (arith, lt))
 get_or-before (s ∷ rs) r d zero lt = refl
 get_or-before (s ∷ rs) r d (suc k) lt = get_or-before rs r d k (omega (arith, lt))
+
+-- with a line more, of these bytes at begin and now
+abbrev pub changes : Changes → ℕ → List ℕ → List ℕ → Changes
+changes c line old new = record {
+  olds = c.olds ++ record { line = line; bytes = old } ∷ [];
+  news = c.news ++ record { line = line; bytes = new } ∷ [];
+}
+
+-- where a line is logged, one is touched
+pub logged_touched : (f : Frame) (lines : Lines) (line : ℕ) → IsLines f lines → line < f.heap_lines →
+    stand_at lines.marks line ≡ Logged → 0 < length (touched_in lines.marks)
+logged_touched f lines line k lt at =
+    some (touched_in lines.marks) (is_among-touched 0 lines.marks line ∙ ap (λ (st : Stand). not (is_clean st)) at)
+  where
+    some : (ns : List ℕ) → is_among ns (0 + line) ≡ true → 0 < length ns
+    some [] is = absurd (true≢false (sym is))
+    some (n ∷ ns) is = omega arith
 
 module _ (f : Frame) (begun : List ℕ) (lines : Lines) (x : List ℕ) (s : Stands f begun lines x) (k : IsLines f lines) where
   pub news_good : are_good f.heap_lines lines.buffer.news ≡ true
@@ -139,7 +157,7 @@ module _ (f : Frame) (begun : List ℕ) (lines : Lines) (x : List ℕ) (s : Stan
         (subst (λ (m : ℕ). IsPermutation (touched_in lines.marks ++ m ∷ []) (touched_in marks')) (omega arith)
         (touched-set 0 lines.marks line (Buffered (length lines.buffer.olds)) in_marks clean refl))
 
-    touched_more : length (touched_in l.marks) ≡ length (touched_in lines.marks) + 1
+    pub touched_more : length (touched_in l.marks) ≡ length (touched_in lines.marks) + 1
     touched_more =
         let p = length_permutation (touched_in lines.marks ++ line ∷ []) (touched_in l.marks) entered_touched in
         omega (arith, p, length-append (touched_in lines.marks) (line ∷ []))

@@ -4,6 +4,7 @@ pub mod EnteredLemmas
 pub mod FaultedLemmas
 pub mod FormatLemmas
 pub mod FormattedLemmas
+pub mod ImageLemmas
 pub mod LinesLemmas
 pub mod MarksLemmas
 pub mod OpenedLemmas

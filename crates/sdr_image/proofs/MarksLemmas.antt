@@ -157,3 +157,7 @@ pub clean_bytes : (n : ℕ) → map stand_of (replicate n 0) ≡ replicate n Cle
 unfolding stand_of
 clean_bytes zero = refl
 clean_bytes (suc n) = ap (λ (l : List Stand). Clean ∷ l) (clean_bytes n)
+
+pub is_among-line : (marks : List Stand) (line : ℕ) →
+    is_among (touched_in marks) line ≡ not (is_clean (stand_at marks line))
+is_among-line marks line = ap (is_among (touched_in marks)) (omega arith) ∙ is_among-touched 0 marks line

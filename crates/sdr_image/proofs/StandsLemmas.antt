@@ -1,7 +1,7 @@
 -- What stands of a transaction whose lines may be spilled.
 use Rattle.std.proofs.Common.{◌≡◌, ◌≢◌, ◌≤◌, ◌<◌, ◌∙◌, ℕ, zero, suc, ◌+◌, ◌*◌, ◌/◌, Bool, true, false, ◌||◌, ◌==◌, cond, List, [], ◌∷◌, ◌++◌}
 use Rattle.std.proofs.Common.{drop, length, get_or, refl, sym, ap, subst, arith, Some, true≢false, append-nil, length-append, inl, inr}
-use Rattle.std.specs.Prelude.{IfOk, Result, Ok, Err, unwrap_or, IsPermutation, Contains, replicate}
+use Rattle.std.specs.Prelude.{IfOk, OnOk, Result, Ok, Err, unwrap_or, IsPermutation, Contains, replicate}
 use Rattle.std.specs.List.{All}
 use Rattle.std.proofs.lemmas.Bool.Decides.{nat_tests}
 use Rattle.std.proofs.lemmas.List.{length-map}
@@ -138,6 +138,10 @@ line_in_heap f line x lt =
 pub if_ok : {T E : Type 0} {P Q : T → Type 0} (result : Result T E) → ((t : T) → P t → Q t) → IfOk result P → IfOk result Q
 if_ok (Ok t) more p = more t p
 if_ok (Err e) more p = tt
+
+pub on_ok : {T E P Q : Type 0} (result : Result T E) → (P → Q) → OnOk result P → OnOk result Q
+on_ok (Ok t) more p = more p
+on_ok (Err e) more p = tt
 
 -- What stands.
 module _ (f : Frame) (begun : List ℕ) (lines : Lines) (x : List ℕ) (s : Stands f begun lines x) where
