@@ -3,7 +3,10 @@ use Rattle.std.proofs.Common.{◌≡◌, ◌≤◌, ◌<◌, ◌∙◌, ℕ, ◌
 use Rattle.std.proofs.Common.{true≢false, append-nil, Some}
 use Rattle.std.specs.Prelude.{Contains, replicate}
 use Rattle.std.proofs.lemmas.Option.{same_Some}
-use Rattle.std.proofs.lemmas.List.{length-replicate}
+use Rattle.std.proofs.lemmas.List.{length-map, length-replicate}
+use Rattle.std.proofs.lemmas.List.Sorted.{length_permutation}
+use Rattle.std.specs.Prelude.{Vec}
+use Rattle.std.specs.declared.alloc.Global.{Global}
 use Rattle.sdr_base.specs.Parts.{part}
 use Rattle.sdr_disk.specs.Moments.{AtEach, Only}
 use Rattle.sdr_disk.proofs.MomentsLemmas.{at_first, at_then}
@@ -21,7 +24,7 @@ use Rattle.sdr_log.proofs.RecordsLemmas.{SameBut-put_records, part-same_but}
 use Rattle.sdr_log.proofs.RestoringLemmas.{none_closed}
 use Rattle.sdr_log.proofs.SpilledLemmas.{undone_bytes}
 use Rattle.sdr_log.proofs.SpillingLemmas.{keeps_begun, keeps_gives, rest_keeps}
-use Rattle.sdr_image.specs.Buffer.{Changes}
+use Rattle.sdr_image.specs.Buffer.{Changes, Rises}
 use Rattle.sdr_image.specs.Lines.{AreMarked, lines_named}
 use Rattle.sdr_image.specs.Lines.{HasBytes, IsFresh, IsLineOf, IsLines, IsRested, IsUntouched, Keeps, Stands, begun_of, now_of}
 use Rattle.sdr_image.specs.Marks.{is_buffered, is_clean, is_logged, stand_at, touched_in}
@@ -30,7 +33,7 @@ use Rattle.sdr_image.specs.declared.marks.Stand.{Stand}
 use Rattle.sdr_image.specs.declared.marks.Stand.TheVariants.{Buffered, Clean, Logged}
 use Rattle.sdr_image.proofs.EnteredLemmas.{clean_apart, unbuffered}
 use Rattle.sdr_image.proofs.MarksLemmas.{clean-replicate, touched-clean}
-use Rattle.sdr_image.proofs.StandsLemmas.{stands_limits, stands_logs, stands_wide}
+use Rattle.sdr_image.proofs.StandsLemmas.{AreBelow-permutation, stands_logs, stands_wide}
 
 -- a disk at rest keeps its heap region
 pub ends_keeps : (f : Frame) (bytes y : List ℕ) (left : List ℕ → Type 0) → Ends f bytes y left →
@@ -180,3 +183,30 @@ module _ (f : Frame) (begun : List ℕ) (lines : Lines) (x : List ℕ) (s : Stan
   unmoved_begun moment may_hold_after old keeps =
       at_first moment may_hold_after old (GivesHeap begun)
       (keeps_gives f begun keeps.place keeps.records x _ keeps.keeps)
+
+pub nil_records : (rs : List Record) → length rs ≡ 0 → rs ≡ []
+nil_records [] is = refl
+nil_records (r ∷ rs) is = absurd (omega (arith, is))
+
+pub positive : (n : ℕ) → (n ≡ 0 → ⊥) → 0 < n
+positive n some = grind (arith, some)
+
+-- with no line in the buffer, the bytes now are those of the heap region
+pub now_none : (f : Frame) (begun : List ℕ) (lines : Lines) (x : List ℕ) → Stands f begun lines x →
+    length lines.buffer.olds ≡ 0 → now_of f lines x ≡ heap_of f x
+now_none f begun lines x s none =
+    let many : length lines.buffer.news ≡ 0 = omega (arith, none, ap length s.same,
+    length-map lines.buffer.news (λ (r : Record). r.line), length-map lines.buffer.olds (λ (r : Record). r.line)) in
+    ap (λ (rs : List Record). put_records rs (heap_of f x)) (nil_records lines.buffer.news many)
+
+-- with the buffer's lines by rising number, and the batch written anew
+pub risen_lines : (f : Frame) (lines : Lines) (risen : Changes) → IsLines f lines → Rises lines.buffer risen →
+    (batch : Vec ℕ Global) → length batch.items ≡ 4357 → AreLines risen.news →
+    IsLines f (record lines { buffer = risen; batch = batch })
+risen_lines f lines risen k r batch long whole = record {
+  long = k.long;
+  batch = long;
+  below = AreBelow-permutation f.heap_lines lines.buffer.news risen.news r.news k.below;
+  whole = whole;
+  counted = omega (arith, k.counted, length_permutation lines.buffer.olds risen.olds r.olds);
+}

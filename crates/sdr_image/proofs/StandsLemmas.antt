@@ -91,7 +91,7 @@ are_good-lines n (r ∷ a) (s ∷ b) is good =
     let below : r.line < n = omega (arith, h.0, g.0) in
     grind (arith, nat_tests, below, rest, other)
 
-AreBelow-permutation : (n : ℕ) (a b : List Record) → IsPermutation a b → AreBelow n a → AreBelow n b
+pub AreBelow-permutation : (n : ℕ) (a b : List Record) → IsPermutation a b → AreBelow n a → AreBelow n b
 AreBelow-permutation n a b p below = back b (All-permutation (λ (r : Record). r.line < n) a b p (forth a below))
   where
     forth : (rs : List Record) → AreBelow n rs → All (λ (r : Record). r.line < n) rs

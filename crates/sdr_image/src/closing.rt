@@ -52,11 +52,12 @@ fn close_all<D: Disk>(disk: &mut D, frame: Frame, lines: &mut Lines) -> Result<(
         → AtEach D.moment D.may_hold_after disk.old disk.new (GivesEither
         (begun_of (D.bytes disk.old)) (now_of frame lines.old (D.bytes disk.old)))) }
 {
-    if lines.buffer.len() == 0 {
+    lines.buffer.rise();
+    let count = lines.buffer.len();
+    if count == 0 {
         end_spilled(disk, frame)?;
         return Ok(());
     }
-    lines.buffer.rise();
     end_with(
         disk,
         frame,
