@@ -28,6 +28,7 @@ use Rattle.sdr_image.specs.Marks.{is_buffered, is_clean, is_logged, stand_at, to
 use Rattle.sdr_image.specs.declared.lines.Lines.{Lines}
 use Rattle.sdr_image.specs.declared.marks.Stand.{Stand}
 use Rattle.sdr_image.specs.declared.marks.Stand.TheVariants.{Buffered, Clean, Logged}
+use Rattle.sdr_image.proofs.BufferLemmas.{AreLines-set, whole_at}
 use Rattle.sdr_image.proofs.MarksLemmas.{is_among-touched, touched-set}
 use Rattle.sdr_image.proofs.StandsLemmas.{are_good-lines, names_line-append, names_line-lines, olds_good, stands_logs, stands_wide}
 use Rattle.sdr_image.proofs.WritingLemmas.{changed, entered, through}
@@ -132,8 +133,12 @@ module _ (f : Frame) (begun : List ℕ) (lines : Lines) (x : List ℕ) (s : Stan
     marks' = slice_set lines.marks line (Buffered (length lines.buffer.olds))
 
     long : length lines.buffer.news ≡ length lines.buffer.olds
-    long = omega (arith, ap length s.same, length-map lines.buffer.news (λ (r : Record). r.line),
-        length-map lines.buffer.olds (λ (r : Record). r.line))
+    long = omega (
+      arith,
+      ap length s.same,
+      length-map lines.buffer.news (λ (r : Record). r.line),
+      length-map lines.buffer.olds (λ (r : Record). r.line),
+    )
 
     in_marks : line < length lines.marks
     in_marks = omega (arith, lt, k.long)
@@ -178,7 +183,7 @@ module _ (f : Frame) (begun : List ℕ) (lines : Lines) (x : List ℕ) (s : Stan
         let none : names_line (s.records ++ lines.buffer.olds) line ≡ false =
         names_line-append s.records lines.buffer.olds line
         ∙ (λ i. (s.marked.logged line ∙ apart.0) i || (s.marked.buffered line ∙ apart.1) i) in
-        ap (are_good f.heap_lines) (append_assoc s.records lines.buffer.olds (o ∷ []))
+        ap (are_good f.heap_lines) (sym (append_assoc s.records lines.buffer.olds (o ∷ [])))
         ∙ are_good-push f.heap_lines (s.records ++ lines.buffer.olds) o s.may.good lt none
 
     pub entered_may : MaySpill f begun lines.place s.records pushed.olds x (Just x)
@@ -308,18 +313,6 @@ AreBelow-set : (n : ℕ) (news : List Record) (place : ℕ) (r : Record) → Are
 AreBelow-set n [] place r below lt = tt
 AreBelow-set n (s ∷ news) zero r below lt = (lt, below.1)
 AreBelow-set n (s ∷ news) (suc place) r below lt = (below.0, AreBelow-set n news place r below.1 lt)
-
-AreLines-set : (news : List Record) (place : ℕ) (r : Record) → AreLines news → length r.bytes ≡ 64 →
-    AreLines (slice_set news place r)
-AreLines-set [] place r whole long = tt
-AreLines-set (s ∷ news) zero r whole long = (long, whole.1)
-AreLines-set (s ∷ news) (suc place) r whole long = (whole.0, AreLines-set news place r whole.1 long)
-
-whole_at : (news : List Record) (place : ℕ) (d : Record) → AreLines news → place < length news →
-    length (get_or news place d).bytes ≡ 64
-whole_at [] place d whole lt = absurd (omega (arith, lt))
-whole_at (s ∷ news) zero d whole lt = whole.0
-whole_at (s ∷ news) (suc place) d whole lt = whole_at news place d whole.1 (omega (arith, lt))
 
 get_or-set_line : (news : List Record) (place k : ℕ) (r d d' : Record) → r.line ≡ (get_or news place d').line →
     (get_or (slice_set news place r) k d).line ≡ (get_or news k d).line

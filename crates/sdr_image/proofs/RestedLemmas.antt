@@ -195,8 +195,13 @@ positive n some = grind (arith, some)
 pub now_none : (f : Frame) (begun : List ℕ) (lines : Lines) (x : List ℕ) → Stands f begun lines x →
     length lines.buffer.olds ≡ 0 → now_of f lines x ≡ heap_of f x
 now_none f begun lines x s none =
-    let many : length lines.buffer.news ≡ 0 = omega (arith, none, ap length s.same,
-    length-map lines.buffer.news (λ (r : Record). r.line), length-map lines.buffer.olds (λ (r : Record). r.line)) in
+    let many : length lines.buffer.news ≡ 0 = omega (
+      arith,
+      none,
+      ap length s.same,
+      length-map lines.buffer.news (λ (r : Record). r.line),
+      length-map lines.buffer.olds (λ (r : Record). r.line),
+    ) in
     ap (λ (rs : List Record). put_records rs (heap_of f x)) (nil_records lines.buffer.news many)
 
 -- with the buffer's lines by rising number, and the batch written anew

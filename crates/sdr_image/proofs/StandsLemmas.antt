@@ -47,27 +47,6 @@ pub good_behind : (n : ℕ) (a b : List Record) → are_good n (a ++ b) ≡ true
 good_behind n [] b good = good
 good_behind n (r ∷ a) b good = good_behind n a b (are_good-cons n r (a ++ b) good).2
 
--- of records that are good together, a line that the later ones name isn't named by the earlier ones
-pub apart_named : (n : ℕ) (a b : List Record) (line : ℕ) → are_good n (a ++ b) ≡ true → names_line b line ≡ true →
-    names_line a line ≡ false
-apart_named n [] b line good named = refl
-apart_named n (r ∷ a) b line good named =
-    let g = are_good-cons n r (a ++ b) good in
-    let rest = apart_named n a b line g.2 named in
-    by (r.line == line) refl rest
-  where
-    or_true : (b : Bool) {c : Bool} → c ≡ true → (b || c) ≡ true
-    or_true b e = grind arith
-
-    by : (v : Bool) → (r.line == line) ≡ v → names_line a line ≡ false → (r.line == line || names_line a line) ≡ false
-    by false is rest = grind (arith, is, rest)
-    by true is rest =
-        let same : r.line ≡ line = grind (arith, nat_tests, is) in
-        let g = are_good-cons n r (a ++ b) good in
-        let here : names_line (a ++ b) r.line ≡ true =
-        names_line-append a b r.line ∙ or_true (names_line a r.line) (ap (names_line b) same ∙ named) in
-        absurd (true≢false (sym here ∙ g.1))
-
 head_same : (m n : ℕ) (xs ys : List ℕ) → m ∷ xs ≡ n ∷ ys → (m ≡ n) × (xs ≡ ys)
 head_same m n xs ys is = (ap (λ (l : List ℕ). get_or l 0 0) is, ap (λ (l : List ℕ). drop 1 l) is)
 

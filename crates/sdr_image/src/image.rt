@@ -69,7 +69,11 @@ fn piece(place: u64, count: usize, line: u64) -> (usize, usize, usize)
 {
     let from = (LINE * line).saturating_sub(place);
     let to = (LINE * line + LINE - place).min(count as u64);
-    ((place + from - LINE * line) as usize, from as usize, to as usize)
+    (
+        (place + from - LINE * line) as usize,
+        from as usize,
+        to as usize,
+    )
 }
 
 impl<D: Disk> Image<D> {
@@ -353,14 +357,7 @@ impl<D: Disk> Image<D> {
             self.new }
         ensures calls { D.moment self.new.disk ≤ D.moment self.old.disk + 2 * 68 }
     {
-        let Ok(()) = write_line(
-            &mut self.disk,
-            self.frame,
-            &mut self.lines,
-            line,
-            at,
-            from,
-        ) else {
+        let Ok(()) = write_line(&mut self.disk, self.frame, &mut self.lines, line, at, from) else {
             self.failed = true;
             return Err(Stop::DiskFault);
         };

@@ -1,10 +1,10 @@
 -- How open batches are closed, and logged lines put.
-use Rattle.std.proofs.Common.{◌≡◌, ◌<◌, ◌⊎◌, inl, inr, ⊎_elim, ℕ, ◌+◌, ◌*◌, true, List, [], ◌∷◌, ◌++◌, length}
-use Rattle.std.proofs.Common.{sym, ap, ◌∙◌, subst, arith, Some, length-append}
+use Rattle.std.proofs.Common.{◌≡◌, ◌<◌, ◌⊎◌, inl, inr, ⊎_elim, ℕ, ◌+◌, true, List, [], ◌∷◌, ◌++◌, length}
+use Rattle.std.proofs.Common.{sym, ap, ◌∙◌, arith, Some, length-append}
 use Rattle.std.proofs.lemmas.Option.{same_Some}
 use Rattle.sdr_disk.specs.Moments.{AtEach}
 use Rattle.sdr_disk.proofs.MomentsLemmas.{at_both, at_then}
-use Rattle.sdr_log.specs.Calls.{AreNamed, Closes, MayPut, Puts}
+use Rattle.sdr_log.specs.Calls.{Closes, MayPut, Puts}
 use Rattle.sdr_log.specs.Log.{heap_of, names_line, put_records}
 use Rattle.sdr_log.specs.Logged.{GivesHeap, GivesSame, IsOpen}
 use Rattle.sdr_log.specs.declared.frame.Frame.{Frame}

@@ -1,13 +1,12 @@
 -- What stands of an open transaction on the bytes of a disk, without a crash.
-use Rattle.std.proofs.Common.{◌≡◌, ◌≤◌, ◌<◌, ◌∙◌, ℕ, ◌+◌, ◌*◌, true, List, [], ◌∷◌, ◌++◌, length, refl, sym, ap, subst}
-use Rattle.std.proofs.Common.{arith, Some}
+use Rattle.std.proofs.Common.{◌≡◌, ◌≤◌, ◌<◌, ◌∙◌, ℕ, ◌+◌, ◌*◌, true, List, [], ◌∷◌, length, refl, sym, ap, subst}
+use Rattle.std.proofs.Common.{arith}
 use Rattle.std.proofs.lemmas.Option.{same_Some}
 use Rattle.sdr_base.specs.Parts.{overwrite}
 use Rattle.sdr_log.specs.Batch.{batch_of, batch_size, with_batch}
 use Rattle.sdr_log.specs.Calls.{AreNamed, MayPut, Puts, PutsBack, with_records}
 use Rattle.sdr_log.specs.Frame.{heap_place}
 use Rattle.sdr_log.specs.Log.{AreLines, heap_of, names_line, put_records}
-use Rattle.sdr_log.specs.Logged.{IsLogged}
 use Rattle.sdr_log.specs.Spilled.{Ends, Just, KeepsBegin, MaySpill, PutsThrough, Spills}
 use Rattle.sdr_log.specs.declared.frame.Frame.{Frame}
 use Rattle.sdr_log.specs.declared.record.Record.{Record}

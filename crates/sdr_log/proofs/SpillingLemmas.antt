@@ -1,16 +1,14 @@
 -- Lines of an open transaction that are spilled, and what a crash leaves of them.
 use Rattle.std.proofs.Common.{◌≡◌, ◌≤◌, ◌<◌, ℕ, ◌+◌, ◌*◌, Bool, true, false, ◌||◌, ◌==◌, List, [], ◌∷◌, ◌++◌, length}
-use Rattle.std.proofs.Common.{refl, sym, ap, ◌∙◌, subst, arith, Some, true≢false}
+use Rattle.std.proofs.Common.{refl, sym, ap, ◌∙◌, subst, arith, true≢false}
 use Rattle.std.specs.Prelude.{option_map}
 use Rattle.std.proofs.lemmas.Option.{same_Some}
 use Rattle.std.proofs.lemmas.Bool.Decides.{nat_tests}
-use Rattle.sdr_base.specs.Parts.{part}
 use Rattle.sdr_disk.specs.Moments.{AtEach}
 use Rattle.sdr_disk.proofs.MomentsLemmas.{at_both, at_then}
-use Rattle.sdr_log.specs.Batch.{batch_size, log_end}
 use Rattle.sdr_log.specs.Calls.{AreNamed, HoldLines, MayOpen, MayPut, OpensBatch, Puts}
-use Rattle.sdr_log.specs.Log.{AreLines, are_good, heap_of, names_line, put_records, read_log}
-use Rattle.sdr_log.specs.Logged.{GivesHeap, GivesSame, IsAtRest, IsLogged, Logs}
+use Rattle.sdr_log.specs.Log.{AreLines, are_good, heap_of, names_line, put_records}
+use Rattle.sdr_log.specs.Logged.{GivesHeap, GivesSame, IsAtRest, Logs}
 use Rattle.sdr_log.specs.declared.frame.Frame.{Frame}
 use Rattle.sdr_log.specs.declared.record.Record.{Record}
 use Rattle.sdr_log.proofs.GoodLemmas.{are_good-before}

@@ -11,7 +11,7 @@ use Rattle.sdr_log.specs.Batch.{end_of, log_end}
 use Rattle.sdr_log.specs.Calls.{AreBelow, AreNamed, MayPut, Puts, PutsBack, with_records}
 use Rattle.sdr_log.specs.Frame.{disk_bytes, first_number}
 use Rattle.sdr_log.specs.Log.{AreLines, batches_of, heap_of, log_of, put_records, read_log, records_of}
-use Rattle.sdr_log.specs.Logged.{GivesSame, IsLogged, Logs}
+use Rattle.sdr_log.specs.Logged.{GivesSame, Logs}
 use Rattle.sdr_log.specs.Undoing.{AreOpen, records_at}
 use Rattle.sdr_log.specs.declared.frame.Frame.{Frame}
 use Rattle.sdr_log.specs.declared.record.Record.{Record}

@@ -108,4 +108,3 @@ returns-in_err-restored-clause-faulted g c =
     on_error c.from_residual-in_err-restored.result
     (reads_then_failed g.D.Disk.bytes g.D.Disk.tells_crashes g.D.Disk.moment g.D.Disk.may_hold_after _ _ _ c.read_frame.ensures.reads
     c.in_err-restored.ensures.faulted)
-

@@ -1,4 +1,4 @@
-use Rattle.std.proofs.Common.{◌≡◌, ◌≤◌, ◌∙◌, ◌+◌, ◌-◌, ◌*◌, refl, sym, subst, arith, List, length, ℕ}
+use Rattle.std.proofs.Common.{◌≡◌, ◌≤◌, ◌∙◌, ◌+◌, ◌-◌, refl, subst, arith, List, length, ℕ}
 use Rattle.sdr_disk.proofs.RangesLemmas.{Agrees-refl, Agrees-trans}
 use Rattle.sdr_log.specs.Calls.{AreBelow, KeepsOutside}
 use Rattle.sdr_log.specs.Frame.{disk_bytes}

@@ -1,10 +1,9 @@
-use Rattle.std.proofs.Common.{◌≡◌, ◌≤◌, ◌<◌, ◌∙◌, ◌+◌, ◌*◌, refl, sym, ap, subst, arith, List, ℕ, length}
+use Rattle.std.proofs.Common.{◌≤◌, ◌∙◌, ◌+◌, refl, sym, ap, subst, arith, List, ℕ, length}
 use Rattle.sdr_disk.proofs.RangesLemmas.{Agrees-refl, Agrees-trans}
 use Rattle.sdr_log.specs.Calls.{AreBelow, KeepsOutside}
 use Rattle.sdr_log.specs.Log.{log_of}
 use Rattle.sdr_log.specs.Logged.{IsOpen}
 use Rattle.sdr_log.specs.Undoing.{records_at}
-use Rattle.sdr_log.specs.declared.record.Record.{Record}
 use Rattle.sdr_log.proofs.LoggedLemmas.{logs_gate}
 use Rattle.sdr_log.proofs.PuttingLemmas.{putting_all}
 use Rattle.sdr_log.proofs.RestoringLemmas.{at_closed, may_put, puts_open}
