@@ -271,6 +271,8 @@ module _ (f : Frame) (begun : List ℕ) (lines : Lines) (x : List ℕ) (s : Stan
       below = subst (λ (c : Changes). AreBelow f.heap_lines c.news) (sym buffer)
           (AreBelow-push f.heap_lines lines.buffer.news n k.below lt);
       whole = subst (λ (c : Changes). AreLines c.news) (sym buffer) (AreLines-push lines.buffer.news n k.whole new_long);
+      paired = subst (λ (c : Changes). length c.news ≡ length c.olds) (sym buffer)
+          (omega (arith, k.paired, length-append lines.buffer.news (n ∷ []), length-append lines.buffer.olds (o ∷ [])));
       counted = ap (λ (c : Changes). l.logged + length c.olds) buffer
           ∙ omega (arith, logged, k.counted, touched_more, length-append lines.buffer.olds (o ∷ []));
     }
@@ -389,6 +391,7 @@ module _ (f : Frame) (begun : List ℕ) (lines : Lines) (x : List ℕ) (s : Stan
     batch = k.batch;
     below = AreBelow-set f.heap_lines lines.buffer.news place r k.below (omega (arith, line_is, below));
     whole = AreLines-set lines.buffer.news place r k.whole new_long;
+    paired = length-set lines.buffer.news place r ∙ k.paired;
     counted = k.counted;
   }
 

@@ -306,6 +306,7 @@ module _ (f : Frame) (begun : List ℕ) (lines : Lines) (x : List ℕ) (s : Stan
           batch = batch;
           below = subst (λ (c : Changes). AreBelow f.heap_lines c.news) (sym empty) tt;
           whole = subst (λ (c : Changes). AreLines c.news) (sym empty) tt;
+          paired = subst (λ (c : Changes). length c.news ≡ length c.olds) (sym empty) refl;
           counted = ap (λ (c : Changes). l.logged + length c.olds) empty
               ∙ omega (arith, logged, k.counted, risen_long, ap length spilled_touched);
         }

@@ -53,6 +53,7 @@ pub record IsLines (f : Frame) (lines : Lines) : Type 0 where
   pub batch : length lines.batch.items ≡ 4357
   pub below : AreBelow f.heap_lines lines.buffer.news
   pub whole : AreLines lines.buffer.news
+  pub paired : length lines.buffer.news ≡ length lines.buffer.olds
   pub counted : lines.logged + length lines.buffer.olds ≡ length (touched_in lines.marks)
 
 -- What stands on a disk of these bytes, with these bytes at begin: those lines that open batches name have their old bytes

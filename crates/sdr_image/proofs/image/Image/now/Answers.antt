@@ -1,0 +1,10 @@
+use Rattle.sdr_image.specs.QuietLaws.{quiet_keeps, rests_leaves}
+use Rattle.sdr_image.proofs.image.Image.now.Goals as goal
+
+pub returns-clause-leaves : goal.returns-clause-leaves
+returns-clause-leaves g c sound rests =
+    rests_leaves g.D.Disk.bytes g.D.Disk.tells_crashes g.D.Disk.moment g.D.Disk.may_hold_after _ sound rests
+
+pub returns-clause-any_moment : goal.returns-clause-any_moment
+returns-clause-any_moment g c before quiet =
+    quiet_keeps g.D.Disk.bytes g.D.Disk.tells_crashes g.D.Disk.moment g.D.Disk.may_hold_after before _ quiet
