@@ -133,12 +133,7 @@ module _ (f : Frame) (begun : List ℕ) (lines : Lines) (x : List ℕ) (s : Stan
     marks' = slice_set lines.marks line (Buffered (length lines.buffer.olds))
 
     long : length lines.buffer.news ≡ length lines.buffer.olds
-    long = omega (
-      arith,
-      ap length s.same,
-      length-map lines.buffer.news (λ (r : Record). r.line),
-      length-map lines.buffer.olds (λ (r : Record). r.line),
-    )
+    long = k.paired
 
     in_marks : line < length lines.marks
     in_marks = omega (arith, lt, k.long)

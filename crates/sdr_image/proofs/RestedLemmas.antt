@@ -95,6 +95,7 @@ rested_lines f l logged buffer marks batch = record {
   below = subst (λ (c : Changes). AreBelow f.heap_lines c.news)
       (sym buffer) tt;
   whole = subst (λ (c : Changes). AreLines c.news) (sym buffer) tt;
+  paired = subst (λ (c : Changes). length c.news ≡ length c.olds) (sym buffer) refl;
   counted = ap (λ (c : Changes). l.logged + length c.olds) buffer
       ∙ omega (arith, logged, ap length (ap touched_in marks ∙ touched-clean 0 f.heap_lines));
 }
@@ -213,5 +214,11 @@ risen_lines f lines risen k r batch long whole = record {
   batch = long;
   below = AreBelow-permutation f.heap_lines lines.buffer.news risen.news r.news k.below;
   whole = whole;
+  paired = omega (
+    arith,
+    k.paired,
+    length_permutation lines.buffer.olds risen.olds r.olds,
+    length_permutation lines.buffer.news risen.news r.news,
+  );
   counted = omega (arith, k.counted, length_permutation lines.buffer.olds risen.olds r.olds);
 }

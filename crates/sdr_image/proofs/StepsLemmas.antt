@@ -33,7 +33,7 @@ recached f begun lines x cache s clean = record {
 pub recached_lines : (f : Frame) (lines : Lines) (cache : List (ℕ × List ℕ)) → IsLines f lines →
     IsLines f (record lines { cache = cache })
 recached_lines f lines cache k =
-    record { long = k.long; batch = k.batch; below = k.below; whole = k.whole; counted = k.counted }
+    record { long = k.long; batch = k.batch; below = k.below; whole = k.whole; paired = k.paired; counted = k.counted }
 
 -- a clean line came into the cache
 pub cached_clean : (f : Frame) (lines : Lines) (x : List ℕ) (line : ℕ) (cache : List (ℕ × List ℕ)) →

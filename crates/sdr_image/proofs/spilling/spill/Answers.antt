@@ -102,6 +102,7 @@ returns-in_err-next-clause-steps g c =
         batch = batch;
         below = risen_below f begun o x s k risen r some few;
         whole = whole.1;
+        paired = c.len-count.ensures.long;
         counted = risen_counted f begun o x s k risen r some few;
       };
       kept = omega arith;
