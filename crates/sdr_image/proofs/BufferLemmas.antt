@@ -1,15 +1,12 @@
 -- Lines that are put into a buffer, or changed in it.
-use Rattle.std.proofs.Common.{◌≡◌, ◌≤◌, ◌<◌, ◌∙◌, ℕ, zero, suc, ◌+◌, List, [], ◌∷◌, ◌++◌, length, get_or, sym, ap, subst, arith, length-append}
+use Rattle.std.proofs.Common.{◌≡◌, ◌≤◌, ◌<◌, ℕ, zero, suc, ◌+◌, List, [], ◌∷◌, ◌++◌, length, get_or, arith, length-append}
 use Rattle.std.specs.Prelude.{slice_set, IsPermutation}
 use Rattle.std.specs.List.{All}
-use Rattle.std.proofs.lemmas.List.{length-set}
-use Rattle.std.proofs.lemmas.List.Sorted.{All-permutation, length_permutation}
-use Rattle.sdr_base.specs.Parts.{overwrite}
-use Rattle.sdr_base.proofs.PartsLemmas.{length-overwrite}
+use Rattle.std.proofs.lemmas.List.Sorted.{All-permutation}
 use Rattle.sdr_log.specs.Log.{AreLines}
 use Rattle.sdr_log.specs.declared.record.Record.{Record}
 use Rattle.sdr_log.proofs.RecordsLemmas.{AreLines-push}
-use Rattle.sdr_image.specs.Buffer.{IsBuffer, with_bytes}
+use Rattle.sdr_image.specs.Buffer.{IsBuffer}
 
 -- one line more
 pub push_keeps : (olds news : List Record) (r s : Record) (room room' more more' : ℕ) → IsBuffer olds news room room' →

@@ -5,7 +5,7 @@ use Rattle.std.specs.Prelude.{Contains, IsPermutation, slice_set}
 use Rattle.std.proofs.lemmas.Bool.{cases_eq}
 use Rattle.std.proofs.lemmas.Bool.Decides.{nat_tests}
 use Rattle.std.proofs.lemmas.Grind.{common_steps}
-use Rattle.std.proofs.lemmas.List.{length-map, length-set, map-append}
+use Rattle.std.proofs.lemmas.List.{length-set, map-append}
 use Rattle.std.proofs.lemmas.List.Sorted.{length_permutation}
 use Rattle.sdr_base.specs.Cells.{is_among}
 use Rattle.sdr_base.specs.Parts.{overwrite, part}
@@ -23,7 +23,7 @@ use Rattle.sdr_log.proofs.SpillingLemmas.{keeps_begun}
 use Rattle.sdr_log.proofs.LoggedLemmas.{Logs-lines}
 use Rattle.sdr_log.proofs.GoodLemmas.{are_good-before}
 use Rattle.sdr_image.specs.Buffer.{Changes, with_bytes}
-use Rattle.sdr_image.specs.Lines.{AreClean, AreMarked, IsLineOf, IsLines, Stands, lines_named, now_of}
+use Rattle.sdr_image.specs.Lines.{AreClean, AreMarked, IsLines, Stands, lines_named, now_of}
 use Rattle.sdr_image.specs.Marks.{is_buffered, is_clean, is_logged, stand_at, touched_in}
 use Rattle.sdr_image.specs.declared.lines.Lines.{Lines}
 use Rattle.sdr_image.specs.declared.marks.Stand.{Stand}
@@ -153,8 +153,9 @@ module _ (f : Frame) (begun : List ℕ) (lines : Lines) (x : List ℕ) (s : Stan
 
     pub entered_touched : IsPermutation (touched_in lines.marks ++ line ∷ []) (touched_in l.marks)
     entered_touched =
+        let at_line : 0 + line ≡ line = omega arith in
         subst (λ (ms : List Stand). IsPermutation (touched_in lines.marks ++ line ∷ []) (touched_in ms)) (sym marks)
-        (subst (λ (m : ℕ). IsPermutation (touched_in lines.marks ++ m ∷ []) (touched_in marks')) (omega arith)
+        (subst (λ (m : ℕ). IsPermutation (touched_in lines.marks ++ m ∷ []) (touched_in marks')) at_line
         (touched-set 0 lines.marks line (Buffered (length lines.buffer.olds)) in_marks clean refl))
 
     pub touched_more : length (touched_in l.marks) ≡ length (touched_in lines.marks) + 1

@@ -1,9 +1,9 @@
 -- Steps of a transaction, as an image's.
-use Rattle.std.proofs.Common.{◌≡◌, ◌≤◌, ◌<◌, ◌∙◌, ℕ, ◌+◌, ◌*◌, ◌==◌, ◌++◌, Bool, true, false, List, [], ◌∷◌, length, refl, sym, ap, subst, arith, true≢false}
+use Rattle.std.proofs.Common.{◌≡◌, ◌≤◌, ◌∙◌, ℕ, ◌+◌, ◌*◌, ◌==◌, ◌++◌, Bool, true, false, List, [], ◌∷◌, length, refl, sym, ap, subst, arith, true≢false}
 use Rattle.std.proofs.Common.{not, length-append}
 use Rattle.std.specs.Prelude.{IsPermutation, Option, filter, unwrap_or}
 use Rattle.std.proofs.lemmas.List.Elements.{filter_agree}
-use Rattle.std.proofs.lemmas.List.Sorted.{IsPermutation-append_left, length_permutation, list_any-IsPermutation}
+use Rattle.std.proofs.lemmas.List.Sorted.{IsPermutation-append_left, list_any-IsPermutation}
 use Rattle.sdr_base.specs.Cells.{is_among, with_lines}
 use Rattle.sdr_base.specs.Parts.{overwrite}
 use Rattle.sdr_base.proofs.PartsLemmas.{length-overwrite, length-part}

@@ -1,6 +1,6 @@
 -- Records of lines in another order.
-use Rattle.std.proofs.Common.{◌≡◌, ◌≤◌, ◌<◌, inl, inr, ℕ, zero, suc, ◌*◌, ◌/◌, Bool, true, false, ◌||◌, ◌==◌, cond}
-use Rattle.std.proofs.Common.{List, [], ◌∷◌, length, refl, sym, ap, ◌∙◌, arith}
+use Rattle.std.proofs.Common.{◌≡◌, ◌≤◌, ◌<◌, inl, inr, ℕ, zero, suc, ◌*◌, Bool, true, false, ◌||◌, ◌==◌, cond}
+use Rattle.std.proofs.Common.{List, [], ◌∷◌, refl, sym, ap, ◌∙◌, arith}
 use Rattle.std.specs.Prelude.{IsPermutation}
 use Rattle.std.specs.List.{All, sum_by}
 use Rattle.std.proofs.lemmas.Bool.{cases_eq}
@@ -8,14 +8,11 @@ use Rattle.std.proofs.lemmas.Bool.Decides.{nat_tests}
 use Rattle.std.proofs.lemmas.List.Sorted.{All-permutation, IsPermutation-map, list_any-IsPermutation}
 use Rattle.std.proofs.lemmas.List.Sorted.{sum_by-IsPermutation}
 use Rattle.std.proofs.lemmas.List.Sums.{sum_by-cons}
-use Rattle.sdr_base.proofs.PartsLemmas.{length-part}
 use Rattle.sdr_base.specs.Parts.{part}
-use Rattle.sdr_log.specs.Calls.{AreBelow, AreNamed, HoldLines}
-use Rattle.sdr_log.specs.Log.{AreLines, are_good, names_line, put_records}
+use Rattle.sdr_log.specs.Calls.{HoldLines}
+use Rattle.sdr_log.specs.Log.{are_good, names_line}
 use Rattle.sdr_log.specs.declared.record.Record.{Record}
-use Rattle.sdr_log.proofs.GoodLemmas.{AreBelow-good, put_records-all_own}
-use Rattle.sdr_log.proofs.RecordsLemmas.{SameBut, are_good-cons}
-use Rattle.sdr_log.proofs.RecordsLemmas.{put_records-same_but}
+use Rattle.sdr_log.proofs.RecordsLemmas.{are_good-cons}
 use Rattle.sdr_image.specs.Lines.{lines_named}
 use Rattle.sdr_image.proofs.TouchedLemmas.{is_among-lines_named}
 

@@ -1,13 +1,13 @@
 -- Marks of the lines of a heap region.
 use Rattle.std.proofs.Common.{◌≡◌, ◌≤◌, ◌<◌, ◌∙◌, inl, inr, ℕ, zero, suc, ◌+◌, ◌-◌, ◌==◌, Bool, true, false, not, cond, List, [], ◌∷◌, ◌++◌}
-use Rattle.std.proofs.Common.{length, take, drop, get_or, refl, sym, ap, subst, arith, append_assoc, append-nil}
+use Rattle.std.proofs.Common.{length, take, drop, get_or, refl, sym, ap, subst, arith}
 use Rattle.std.specs.Prelude.{filter, map, replicate, slice_set, IsPermutation}
 use Rattle.std.specs.List.{range_with_len}
 use Rattle.std.proofs.lemmas.Bool.{cases_eq}
 use Rattle.std.proofs.lemmas.Bool.Decides.{nat_tests}
 use Rattle.std.proofs.lemmas.Grind.{common_steps}
 use Rattle.std.proofs.lemmas.List.{drop_more, get_or-map}
-use Rattle.std.proofs.lemmas.List.Sorted.{IsPermutation-cons, IsPermutation-refl, IsPermutation-to_front}
+use Rattle.std.proofs.lemmas.List.Sorted.{IsPermutation-cons, IsPermutation-to_front}
 use Rattle.sdr_base.specs.Cells.{is_among}
 use Rattle.sdr_log.specs.Log.{names_line}
 use Rattle.sdr_log.specs.declared.record.Record.{Record}
@@ -77,9 +77,10 @@ unfolding touched_from
 is_among-touched first [] line = refl
 is_among-touched first (s ∷ marks) zero =
     let behind = none_before (suc first) marks first (omega arith) in
+    let here : first + 0 ≡ first = omega arith in
     elim (is_clean s) as (λ b. is_among (cond b (touched_from (suc first) marks) (first ∷ touched_from (suc first) marks))
     (first + 0) ≡ not b) [
-      | true ↦ ap (is_among (touched_from (suc first) marks)) (omega arith) ∙ behind
+      | true ↦ ap (is_among (touched_from (suc first) marks)) here ∙ behind
       | false ↦ let same : (first == first + 0) ≡ true = grind (arith, nat_tests) in grind (arith, nat_tests, same)
     ]
   where
@@ -160,4 +161,5 @@ clean_bytes (suc n) = ap (λ (l : List Stand). Clean ∷ l) (clean_bytes n)
 
 pub is_among-line : (marks : List Stand) (line : ℕ) →
     is_among (touched_in marks) line ≡ not (is_clean (stand_at marks line))
-is_among-line marks line = ap (is_among (touched_in marks)) (omega arith) ∙ is_among-touched 0 marks line
+is_among-line marks line =
+    let at : line ≡ 0 + line = omega arith in ap (is_among (touched_in marks)) at ∙ is_among-touched 0 marks line

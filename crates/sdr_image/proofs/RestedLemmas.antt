@@ -1,8 +1,7 @@
 -- How the lines of a transaction come to rest.
-use Rattle.std.proofs.Common.{◌≡◌, ◌≤◌, ◌<◌, ◌∙◌, ℕ, ◌+◌, ◌*◌, Bool, true, false, List, [], ◌∷◌, ◌++◌, length, refl, sym, ap, subst, arith}
-use Rattle.std.proofs.Common.{true≢false, append-nil, Some}
+use Rattle.std.proofs.Common.{◌≡◌, ◌<◌, ◌∙◌, ℕ, ◌+◌, ◌*◌, true, false, List, [], ◌∷◌, length, refl, sym, ap, subst, arith}
+use Rattle.std.proofs.Common.{true≢false}
 use Rattle.std.specs.Prelude.{Contains, replicate}
-use Rattle.std.proofs.lemmas.Option.{same_Some}
 use Rattle.std.proofs.lemmas.List.{length-map, length-replicate}
 use Rattle.std.proofs.lemmas.List.Sorted.{length_permutation}
 use Rattle.std.specs.Prelude.{Vec}
@@ -11,9 +10,8 @@ use Rattle.sdr_base.specs.Parts.{part}
 use Rattle.sdr_disk.specs.Moments.{AtEach, Only}
 use Rattle.sdr_disk.proofs.MomentsLemmas.{at_first, at_then}
 use Rattle.sdr_log.specs.Calls.{AreBelow, PutsBack}
-use Rattle.sdr_log.specs.Frame.{room_of}
-use Rattle.sdr_log.specs.Log.{AreLines, first_gate, heap_of, names_line, put_records}
-use Rattle.sdr_log.specs.Logged.{GivesHeap, GivesSame, IsAtRest, Logs}
+use Rattle.sdr_log.specs.Log.{AreLines, first_gate, heap_of, put_records}
+use Rattle.sdr_log.specs.Logged.{GivesHeap, GivesSame, Logs}
 use Rattle.sdr_log.specs.Spilled.{Ends, Just, KeepsBegin, MaySpill}
 use Rattle.sdr_log.specs.Undoing.{AreOpen}
 use Rattle.sdr_log.specs.declared.frame.Frame.{Frame}
@@ -26,11 +24,11 @@ use Rattle.sdr_log.proofs.SpilledLemmas.{undone_bytes}
 use Rattle.sdr_log.proofs.SpillingLemmas.{keeps_begun, keeps_gives, rest_keeps}
 use Rattle.sdr_image.specs.Buffer.{Changes, Rises}
 use Rattle.sdr_image.specs.Lines.{AreMarked, lines_named}
-use Rattle.sdr_image.specs.Lines.{HasBytes, IsFresh, IsLineOf, IsLines, IsRested, IsUntouched, Keeps, Stands, begun_of, now_of}
+use Rattle.sdr_image.specs.Lines.{IsLineOf, IsLines, IsRested, Keeps, Stands, now_of}
 use Rattle.sdr_image.specs.Marks.{is_buffered, is_clean, is_logged, stand_at, touched_in}
 use Rattle.sdr_image.specs.declared.lines.Lines.{Lines}
 use Rattle.sdr_image.specs.declared.marks.Stand.{Stand}
-use Rattle.sdr_image.specs.declared.marks.Stand.TheVariants.{Buffered, Clean, Logged}
+use Rattle.sdr_image.specs.declared.marks.Stand.TheVariants.{Clean}
 use Rattle.sdr_image.proofs.EnteredLemmas.{clean_apart, unbuffered}
 use Rattle.sdr_image.proofs.MarksLemmas.{clean-replicate, touched-clean}
 use Rattle.sdr_image.proofs.StandsLemmas.{AreBelow-permutation, stands_logs, stands_wide}

@@ -1,16 +1,14 @@
 -- What stands of a transaction whose lines may be spilled.
 use Rattle.std.proofs.Common.{◌≡◌, ◌≢◌, ◌≤◌, ◌<◌, ◌∙◌, ℕ, zero, suc, ◌+◌, ◌*◌, ◌/◌, Bool, true, false, ◌||◌, ◌==◌, cond, List, [], ◌∷◌, ◌++◌}
-use Rattle.std.proofs.Common.{drop, length, get_or, refl, sym, ap, subst, arith, Some, true≢false, append-nil, length-append, inl, inr}
-use Rattle.std.specs.Prelude.{IfOk, OnOk, Result, Ok, Err, unwrap_or, IsPermutation, Contains, replicate}
+use Rattle.std.proofs.Common.{drop, length, get_or, refl, sym, ap, subst, arith, true≢false, append-nil, length-append}
+use Rattle.std.specs.Prelude.{IfOk, OnOk, Result, Ok, Err, unwrap_or, IsPermutation, Contains}
 use Rattle.std.specs.List.{All}
 use Rattle.std.proofs.lemmas.Bool.Decides.{nat_tests}
-use Rattle.std.proofs.lemmas.List.{length-map}
 use Rattle.std.proofs.lemmas.List.Sorted.{All-permutation, IsPermutation-append_right, length_permutation}
 use Rattle.sdr_base.specs.Parts.{part}
-use Rattle.sdr_disk.specs.Moments.{Reads}
 use Rattle.sdr_log.specs.Batch.{batch_size, with_batch}
-use Rattle.sdr_log.specs.Calls.{AreBelow, AreNamed, HasPlace, HoldLines, with_records}
-use Rattle.sdr_log.specs.Frame.{IsInLimits, heap_place, room_of}
+use Rattle.sdr_log.specs.Calls.{AreBelow, AreNamed, HasPlace, with_records}
+use Rattle.sdr_log.specs.Frame.{IsInLimits, heap_place}
 use Rattle.sdr_log.specs.Log.{AreLines, are_good, heap_of, names_line, put_records}
 use Rattle.sdr_log.specs.Logged.{Logs}
 use Rattle.sdr_log.specs.Spilled.{Just, KeepsBegin, MaySpill, Spills}
@@ -19,7 +17,7 @@ use Rattle.sdr_log.specs.declared.record.Record.{Record}
 use Rattle.sdr_log.proofs.BatchesLemmas.{part-within}
 use Rattle.sdr_log.proofs.GoodLemmas.{HoldLines-put_records, names_line-below, put_records-all_own}
 use Rattle.sdr_log.proofs.LoggedLemmas.{HasRegions-limits, length-heap_of}
-use Rattle.sdr_log.proofs.RecordsLemmas.{SameBut, SameBut-put_records, are_good-cons, part-same_but, put_records-same_but}
+use Rattle.sdr_log.proofs.RecordsLemmas.{SameBut-put_records, are_good-cons, part-same_but, put_records-same_but}
 use Rattle.sdr_log.proofs.SpilledLemmas.{spills_bytes}
 use Rattle.sdr_log.proofs.SpillingLemmas.{keeps_logs}
 use Rattle.sdr_image.specs.Buffer.{Changes, Rises}

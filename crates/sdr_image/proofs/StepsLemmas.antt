@@ -1,17 +1,15 @@
 -- Steps of a transaction, one after another.
-use Rattle.std.proofs.Common.{◌≡◌, ◌≤◌, ◌<◌, ◌∙◌, ◌⊎◌, ⊎_elim, ℕ, ◌+◌, ◌*◌, Bool, true, List, [], length, refl, sym, ap, subst, arith}
+use Rattle.std.proofs.Common.{◌≡◌, ◌≤◌, ◌<◌, ◌∙◌, ◌⊎◌, ⊎_elim, ℕ, Bool, true, List, length, sym, ap, subst, arith}
 use Rattle.std.specs.Prelude.{Contains}
-use Rattle.sdr_base.specs.Parts.{overwrite, part}
-use Rattle.sdr_disk.specs.Moments.{AtEach, Reads}
-use Rattle.sdr_disk.proofs.MomentsLemmas.{Reads-refl, Reads-trans, at_first, at_then}
+use Rattle.sdr_disk.specs.Moments.{Reads}
+use Rattle.sdr_disk.proofs.MomentsLemmas.{Reads-trans, at_first}
 use Rattle.sdr_disk.proofs.RangesLemmas.{Agrees-refl}
-use Rattle.sdr_log.specs.Calls.{KeepsDisk, KeepsOutside}
-use Rattle.sdr_log.specs.Log.{heap_of}
+use Rattle.sdr_log.specs.Calls.{KeepsOutside}
 use Rattle.sdr_log.specs.Logged.{GivesHeap}
 use Rattle.sdr_log.specs.declared.frame.Frame.{Frame}
 use Rattle.sdr_log.proofs.RestoringLemmas.{at_restored}
 use Rattle.sdr_log.proofs.SpillingLemmas.{keeps_gives}
-use Rattle.sdr_image.specs.Lines.{AreClean, IsLineOf, IsLines, Keeps, Leaves, MarksSame, Stands, Steps, begun_of, now_of}
+use Rattle.sdr_image.specs.Lines.{AreClean, IsLineOf, IsLines, Keeps, Leaves, Stands, Steps, begun_of, now_of}
 use Rattle.sdr_image.specs.Marks.{is_clean, stand_at, touched_in}
 use Rattle.sdr_image.specs.QuietLaws.{keeps_read}
 use Rattle.sdr_image.specs.declared.lines.Lines.{Lines}

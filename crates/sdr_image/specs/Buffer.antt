@@ -1,5 +1,5 @@
 -- The touched lines that stand in memory.
-use Rattle.std.specs.Prelude.{◌≡◌, ◌≤◌, ◌<◌, ℕ, List, length, IsPermutation, slice_set, get_or}
+use Rattle.std.specs.Prelude.{◌≡◌, ◌≤◌, ℕ, List, length, IsPermutation}
 use Rattle.std.specs.List.Sorted.{IsNonDecreasingBy}
 use Rattle.sdr_base.specs.Parts.{overwrite}
 use Rattle.sdr_log.specs.Log.{AreLines}

@@ -1,5 +1,5 @@
 -- Where the lines of an opened disk stand while a transaction is open, and what stands on the disk then.
-use Rattle.std.specs.Prelude.{◌≡◌, ◌≤◌, ◌<◌, ◌+◌, ◌-◌, ◌*◌, ℕ, Bool, true, List, [], ◌∷◌, length, map, get_or, Contains, unwrap_or, replicate}
+use Rattle.std.specs.Prelude.{◌≡◌, ◌≤◌, ◌<◌, ◌+◌, ◌-◌, ◌*◌, ℕ, Bool, true, List, [], length, map, get_or, Contains, unwrap_or, replicate}
 use Rattle.std.specs.List.{range_with_len}
 use Rattle.sdr_base.specs.Cells.{lines_of}
 use Rattle.sdr_base.specs.Parts.{part}

@@ -1,7 +1,6 @@
 -- Calls within a transaction, one after another.
-use Rattle.std.proofs.Common.{◌≡◌, ◌≤◌, ℕ, Bool, true, false, List, [], length, refl, sym, ap, ◌∙◌, subst, arith, Some, true≢false}
+use Rattle.std.proofs.Common.{◌≡◌, ℕ, Bool, true, false, List, length, refl, sym, ap, ◌∙◌, subst, arith, Some, true≢false}
 use Rattle.sdr_disk.specs.Moments.{AtEach, Reads}
-use Rattle.sdr_disk.specs.Tells.{IfTells}
 use Rattle.sdr_disk.proofs.MomentsLemmas.{Reads-refl, Reads-trans, at_both, at_first, at_read}
 use Rattle.sdr_disk.proofs.RangesLemmas.{Agrees-refl, Agrees-trans}
 use Rattle.sdr_log.specs.Calls.{KeepsOutside}

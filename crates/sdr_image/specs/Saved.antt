@@ -1,5 +1,5 @@
 -- What a commit leaves on the disk.
-use Rattle.std.specs.Prelude.{◌≡◌, ◌≢◌, ◌+◌, ◌*◌, ℕ, zero, suc, Bool, List, [], Some}
+use Rattle.std.specs.Prelude.{◌≡◌, ◌≢◌, ◌+◌, ℕ, zero, suc, Bool, List, [], Some}
 use Rattle.sdr_log.specs.Log.{put_back_of}
 use Rattle.sdr_image.specs.Opened.{Opened, Rests}
 

@@ -1,8 +1,7 @@
-use Rattle.std.proofs.Common.{◌≡◌, ◌∙◌, ap, subst, List, ℕ, length}
+use Rattle.std.proofs.Common.{◌∙◌, ap, subst, List, ℕ, length}
 use Rattle.std.specs.Prelude.{Contains, replicate}
 use Rattle.sdr_image.specs.Lines.{begun_of, now_of}
 use Rattle.sdr_image.specs.declared.lines.Lines.{Lines}
-use Rattle.sdr_image.specs.declared.marks.Stand.{Stand}
 use Rattle.sdr_image.specs.declared.marks.Stand.TheVariants.{Clean}
 use Rattle.sdr_image.proofs.RestedLemmas.{cached_now, rested, rested_lines}
 use Rattle.sdr_image.proofs.closing.end.Goals as goal

@@ -1,4 +1,4 @@
-use Rattle.std.proofs.Common.{◌≡◌, ◌∙◌, ap, subst, List, ℕ, length}
+use Rattle.std.proofs.Common.{◌∙◌, ap, subst, List, ℕ, length}
 use Rattle.std.specs.Prelude.{Contains, replicate}
 use Rattle.sdr_image.specs.Lines.{begun_of}
 use Rattle.sdr_image.specs.declared.lines.Lines.{Lines}

@@ -1,4 +1,4 @@
-use Rattle.std.proofs.Common.{◌≡◌, ◌∙◌, ◌⊎◌, ⊎_elim, inl, inr, sym, ap, subst, List, ℕ, Contains}
+use Rattle.std.proofs.Common.{◌≡◌, ◌⊎◌, ⊎_elim, inl, inr, sym, subst, List, ℕ, Contains}
 use Rattle.sdr_image.specs.Lines.{IsLineOf}
 use Rattle.sdr_image.proofs.lines.clean_line.Goals as goal
 

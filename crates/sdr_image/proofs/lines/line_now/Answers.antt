@@ -1,11 +1,8 @@
-use Rattle.std.proofs.Common.{◌≡◌, ◌∙◌, ◌*◌, ◌⊎◌, ⊎_elim, inl, inr, sym, ap, subst, List, ℕ, Contains, IfOk, true, false, length, arith}
+use Rattle.std.proofs.Common.{◌∙◌, ◌*◌, ◌⊎◌, ⊎_elim, sym, ap, ℕ}
 use Rattle.sdr_base.specs.Parts.{part}
-use Rattle.sdr_log.specs.Log.{heap_of}
-use Rattle.sdr_log.specs.declared.record.Record.{Record}
-use Rattle.sdr_image.specs.Lines.{IsLineOf, begun_of, now_of}
+use Rattle.sdr_image.specs.Lines.{begun_of, now_of}
 use Rattle.sdr_image.specs.Marks.{is_buffered, is_clean, stand_at}
-use Rattle.sdr_image.specs.declared.marks.Stand.{Stand}
-use Rattle.sdr_image.proofs.EnteredLemmas.{any_record, buffered_line, clean_apart, unbuffered}
+use Rattle.sdr_image.proofs.EnteredLemmas.{any_record, buffered_line, unbuffered}
 use Rattle.sdr_image.proofs.StandsLemmas.{if_ok}
 use Rattle.sdr_image.proofs.lines.line_now.Goals as goal
 

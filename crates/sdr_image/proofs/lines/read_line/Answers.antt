@@ -1,4 +1,4 @@
-use Rattle.std.proofs.Common.{◌∙◌, ◌*◌, sym, ap, ◌+◌, arith}
+use Rattle.std.proofs.Common.{◌∙◌}
 use Rattle.sdr_image.proofs.StandsLemmas.{line_in_heap}
 use Rattle.sdr_image.proofs.lines.read_line.Goals as goal
 

@@ -1,4 +1,4 @@
-use Rattle.std.proofs.Common.{refl, arith, ap}
+use Rattle.std.proofs.Common.{refl, arith}
 use Rattle.sdr_disk.proofs.MomentsLemmas.{Reads-refl}
 use Rattle.sdr_disk.proofs.RangesLemmas.{Agrees-refl}
 use Rattle.sdr_image.specs.Lines.{begun_of}

@@ -1,4 +1,4 @@
-use Rattle.std.proofs.Common.{◌≡◌, ◌≤◌, ◌<◌, ◌∙◌, ◌+◌, ◌*◌, ℕ, true, cond, List, [], length, refl, sym, ap, subst, arith}
+use Rattle.std.proofs.Common.{◌≡◌, ◌≤◌, ◌∙◌, ◌+◌, ℕ, cond, List, length, refl, sym, ap, subst, arith}
 use Rattle.std.specs.Vec.{with_items}
 use Rattle.std.proofs.lemmas.List.Sorted.{length_permutation}
 use Rattle.sdr_log.specs.Batch.{batch_size, with_batch}
@@ -10,7 +10,7 @@ use Rattle.sdr_image.specs.Lines.{Keeps, begun_of}
 use Rattle.sdr_image.specs.Marks.{stand_at}
 use Rattle.sdr_image.specs.declared.lines.Lines.{Lines}
 use Rattle.sdr_image.specs.declared.marks.Stand.TheVariants.{Logged}
-use Rattle.sdr_image.proofs.StandsLemmas.{keeps_left, risen_below, risen_counted, risen_long, risen_marks, risen_may, risen_named}
+use Rattle.sdr_image.proofs.StandsLemmas.{keeps_left, risen_below, risen_counted, risen_marks, risen_may, risen_named}
 use Rattle.sdr_image.proofs.StandsLemmas.{risen_place, risen_touched, spilled_bytes_now, spilled_clean, spilled_lines}
 use Rattle.sdr_image.proofs.StandsLemmas.{spilled_stands, spilled_touched}
 use Rattle.sdr_image.proofs.VecLemmas.{items_anew}

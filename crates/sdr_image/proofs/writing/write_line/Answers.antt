@@ -1,11 +1,10 @@
-use Rattle.std.proofs.Common.{◌≡◌, ◌≤◌, ◌<◌, ◌∙◌, ◌+◌, ◌*◌, ◌∷◌, [], ℕ, true, false, not, List, length, refl, sym, ap, subst, arith}
+use Rattle.std.proofs.Common.{◌∙◌, ℕ, not, List, length, sym, ap, subst, arith}
 use Rattle.std.specs.Prelude.{IsPermutation}
 use Rattle.std.proofs.lemmas.List.Sorted.{IsPermutation-refl}
-use Rattle.sdr_base.specs.Cells.{is_among, with_lines}
 use Rattle.sdr_disk.proofs.MomentsLemmas.{Reads-refl}
 use Rattle.sdr_image.specs.Buffer.{Changes}
 use Rattle.sdr_image.specs.Lines.{begun_of}
-use Rattle.sdr_image.specs.Marks.{is_clean, stand_at, touched_in}
+use Rattle.sdr_image.specs.Marks.{is_clean, touched_in}
 use Rattle.sdr_image.specs.declared.lines.Lines.{Lines}
 use Rattle.sdr_image.specs.declared.marks.Stand.{Stand}
 use Rattle.sdr_image.proofs.EnteredLemmas.{any_record, changed_lines, changed_now, changed_stands}
