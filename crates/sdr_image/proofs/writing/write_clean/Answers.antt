@@ -1,13 +1,15 @@
 use Rattle.std.proofs.Common.{◌≡◌, ◌<◌, ◌∙◌, ◌+◌, ◌*◌, ◌∷◌, ◌++◌, ℕ, true, List, [], length, refl, sym, ap, subst, arith}
 use Rattle.std.specs.Prelude.{IsPermutation}
 use Rattle.sdr_base.specs.Parts.{overwrite, part}
-use Rattle.sdr_log.specs.Frame.{room_of}
+use Rattle.sdr_base.proofs.PartsLemmas.{length-overwrite, length-part}
+use Rattle.sdr_log.specs.Frame.{LieInside, room_of}
 use Rattle.sdr_log.specs.Log.{heap_of}
 use Rattle.sdr_image.specs.Lines.{IsLines, Stands, begun_of, now_of}
 use Rattle.sdr_image.specs.Marks.{is_clean, stand_at, touched_in}
 use Rattle.sdr_image.specs.declared.lines.Lines.{Lines}
 use Rattle.sdr_image.proofs.EnteredLemmas.{changes, clean_apart, entered_lines, entered_now, entered_stands, entered_touched}
 use Rattle.sdr_image.proofs.EnteredLemmas.{touched_more, unbuffered}
+use Rattle.sdr_image.proofs.StandsLemmas.{stands_wide}
 use Rattle.sdr_image.proofs.StepsLemmas.{cached_clean, leaves_entered, leaves_then, recached, recached_lines, steps_entered}
 use Rattle.sdr_image.proofs.StepsLemmas.{steps_read, steps_then}
 use Rattle.sdr_image.proofs.writing.write_clean.Goals as goal
@@ -291,3 +293,43 @@ returns-clause-steps g c =
     steps_then f a.disk.now c.clean_line.new.disk c.make_room.new.disk o o1 l read refl
     (steps_entered f c.clean_line.new.disk c.make_room.new.disk o1 m l steps (entered_lines f (begun_of x1) m x2 lv.stands steps.lines line a.at c.in_ok-old.old a.from.now below clean2 given2 c.requires.inside few2 l place_is logged_is buffer_is marks_is c.enter.ensures.cache batch) (omega (arith, more))
     (omega (arith, more)))
+
+pub make_room-requires-clause-regions : goal.make_room-requires-clause-regions
+make_room-requires-clause-regions g c =
+    subst (λ (y : List ℕ). LieInside c.args.frame (length y)) (sym c.clean_line.ensures.reads.same) c.requires.regions
+
+pub enter-requires-clause-below : goal.enter-requires-clause-below
+enter-requires-clause-below g c =
+    omega (arith, c.requires.below, c.make_room.ensures.steps.lines.long)
+
+pub enter-requires-clause-old : goal.enter-requires-clause-old
+enter-requires-clause-old g c =
+    let d = g.D.Disk in
+    let a = c.args in
+    let f = a.frame in
+    let o = a.lines.now in
+    let x = d.bytes a.disk.now in
+    let s = c.requires.stands in
+    let k = c.requires.kept in
+    let line = a.line in
+    let below = c.requires.below in
+    let old : length c.in_ok-old.old ≡ 64 = ap length c.in_ok-old.ensures.given
+    ∙ length-part (64 * line) 64 (heap_of f x) (omega (arith, below, stands_wide f (begun_of x) o x s)) in
+    old
+
+pub enter-requires-clause-new : goal.enter-requires-clause-new
+enter-requires-clause-new g c =
+    let d = g.D.Disk in
+    let a = c.args in
+    let f = a.frame in
+    let o = a.lines.now in
+    let x = d.bytes a.disk.now in
+    let s = c.requires.stands in
+    let k = c.requires.kept in
+    let line = a.line in
+    let below = c.requires.below in
+    let old : length c.in_ok-old.old ≡ 64 = ap length c.in_ok-old.ensures.given
+    ∙ length-part (64 * line) 64 (heap_of f x) (omega (arith, below, stands_wide f (begun_of x) o x s)) in
+    ap length c.put_at.ensures
+    ∙ length-overwrite c.args.at c.args.from.now c.in_ok-old.old (omega (arith, old, c.requires.inside)) ∙ old
+

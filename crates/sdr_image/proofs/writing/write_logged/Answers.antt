@@ -1,5 +1,6 @@
 use Rattle.std.proofs.Common.{◌<◌, ◌∙◌, ◌+◌, ◌*◌, ℕ, List, length, refl, sym, ap, subst, arith}
 use Rattle.sdr_base.specs.Parts.{overwrite, part}
+use Rattle.sdr_log.specs.Frame.{LieInside}
 use Rattle.sdr_log.specs.Log.{heap_of}
 use Rattle.sdr_log.specs.Spilled.{KeepsBegin}
 use Rattle.sdr_log.specs.declared.record.Record.{Record}
@@ -137,3 +138,8 @@ returns-clause-leaves g c =
     subst (λ (z : List ℕ). Leaves d.bytes d.tells_crashes d.moment d.may_hold_after f a.disk.now c.put_through.new.disk o
     (overwrite (64 * line + a.at) a.from.now (now_of f o z))) read.same
     (leaves_then f a.disk.now c.read_line.new.disk c.put_through.new.disk o o o read refl _ left)
+
+pub put_through-requires-clause-regions : goal.put_through-requires-clause-regions
+put_through-requires-clause-regions g c =
+    subst (λ (y : List ℕ). LieInside c.args.frame (length y)) (sym c.read_line.ensures.reads.same) c.requires.regions
+

@@ -1,6 +1,5 @@
-use Rattle.std.proofs.Common.{◌≡◌, ◌≤◌, ◌<◌, ◌∙◌, ◌*◌, ap, subst, sym, arith, List, ℕ, Bool, true, false}
+use Rattle.std.proofs.Common.{◌∙◌, ◌*◌, ap, subst, arith, Bool, true, false}
 use Rattle.sdr_base.specs.Parts.{part}
-use Rattle.sdr_image.specs.Lines.{AreClean}
 use Rattle.sdr_image.specs.Opened.{IsImage, Opened}
 use Rattle.sdr_image.proofs.ImageLemmas.{image_read, read_ended}
 use Rattle.sdr_image.proofs.image.Image.line.Goals as goal
@@ -18,3 +17,71 @@ line_now-requires-clause-kept g c = c.self.invariant.lines_kept
 pub line_now-requires-clause-stands : goal.line_now-requires-clause-stands
 line_now-requires-clause-stands g c =
     c.self.invariant.stands (ap (λ (v : Opened g.row.D.Denot). v.failed) c.self.view_is ∙ c.requires.sound)
+
+pub invariant_of-self : goal.invariant_of-self
+invariant_of-self g c =
+    let d = g.D.Disk in
+    let o = c.self.inside in
+    let sound = ap (λ (v : Opened g.row.D.Denot). v.failed) c.self.view_is ∙ c.requires.sound in
+    let x = d.bytes o.disk in
+    let y = d.bytes c.line_now.new.disk in
+    let l = c.line_now.new.lines in
+    let e = c.line_now.ensures in
+    let was : IsImage x o.frame o.lines o.is_open false =
+    subst (λ (b : Bool). IsImage x o.frame o.lines o.is_open b) sound c.self.invariant in
+    image_read o.frame x y o.lines l o.is_open true was e.reads.same e.same e.clean
+
+pub returns-in_default-clause-failed : goal.returns-in_default-clause-failed
+returns-in_default-clause-failed g c =
+    let d = g.D.Disk in
+    let o = c.self.inside in
+    let sound = ap (λ (v : Opened g.row.D.Denot). v.failed) c.self.view_is ∙ c.requires.sound in
+    let x = d.bytes o.disk in
+    let y = d.bytes c.line_now.new.disk in
+    let l = c.line_now.new.lines in
+    let e = c.line_now.ensures in
+    let was : IsImage x o.frame o.lines o.is_open false =
+    subst (λ (b : Bool). IsImage x o.frame o.lines o.is_open b) sound c.self.invariant in
+    read_ended d.bytes o.disk c.line_now.new.disk o.frame o.lines l o.is_open o.failed true o.restored e.reads.same e.same
+    ∙ ap (λ (v : Opened g.row.D.Denot). record v { disk = c.line_now.new.disk; failed = true }) c.self.view_is
+
+pub invariant_of-self-2 : goal.invariant_of-self-2
+invariant_of-self-2 g c =
+    let d = g.D.Disk in
+    let o = c.self.inside in
+    let sound = ap (λ (v : Opened g.row.D.Denot). v.failed) c.self.view_is ∙ c.requires.sound in
+    let x = d.bytes o.disk in
+    let y = d.bytes c.line_now.new.disk in
+    let l = c.line_now.new.lines in
+    let e = c.line_now.ensures in
+    let was : IsImage x o.frame o.lines o.is_open false =
+    subst (λ (b : Bool). IsImage x o.frame o.lines o.is_open b) sound c.self.invariant in
+    image_read o.frame x y o.lines l o.is_open o.failed was e.reads.same e.same e.clean
+
+pub returns-clause-given : goal.returns-clause-given
+returns-clause-given g c =
+    let d = g.D.Disk in
+    let o = c.self.inside in
+    let sound = ap (λ (v : Opened g.row.D.Denot). v.failed) c.self.view_is ∙ c.requires.sound in
+    let x = d.bytes o.disk in
+    let y = d.bytes c.line_now.new.disk in
+    let l = c.line_now.new.lines in
+    let e = c.line_now.ensures in
+    let was : IsImage x o.frame o.lines o.is_open false =
+    subst (λ (b : Bool). IsImage x o.frame o.lines o.is_open b) sound c.self.invariant in
+    c.in-Ok.ensures.given
+    ∙ ap (λ (v : Opened g.row.D.Denot). part (64 * c.args.line) 64 v.bytes) c.self.view_is
+
+pub returns-clause-same : goal.returns-clause-same
+returns-clause-same g c =
+    let d = g.D.Disk in
+    let o = c.self.inside in
+    let sound = ap (λ (v : Opened g.row.D.Denot). v.failed) c.self.view_is ∙ c.requires.sound in
+    let x = d.bytes o.disk in
+    let y = d.bytes c.line_now.new.disk in
+    let l = c.line_now.new.lines in
+    let e = c.line_now.ensures in
+    let was : IsImage x o.frame o.lines o.is_open false =
+    subst (λ (b : Bool). IsImage x o.frame o.lines o.is_open b) sound c.self.invariant in
+    read_ended d.bytes o.disk c.line_now.new.disk o.frame o.lines l o.is_open o.failed o.failed o.restored e.reads.same e.same
+    ∙ ap (λ (v : Opened g.row.D.Denot). record v { disk = c.line_now.new.disk }) c.self.view_is

@@ -1,4 +1,4 @@
-use Rattle.std.proofs.Common.{◌+◌, ap, arith, length, List}
+use Rattle.std.proofs.Common.{ap, arith, length}
 use Rattle.sdr_image.specs.Opened.{Opened}
 use Rattle.sdr_image.proofs.image.Image.touched.Goals as goal
 

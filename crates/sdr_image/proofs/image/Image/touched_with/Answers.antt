@@ -1,4 +1,4 @@
-use Rattle.std.proofs.Common.{◌+◌, ◌-◌, ◌∙◌, ap, arith, length, List, ℕ}
+use Rattle.std.proofs.Common.{◌-◌, ap, arith, length}
 use Rattle.std.specs.List.{range_with_len}
 use Rattle.sdr_base.specs.Cells.{with_lines}
 use Rattle.sdr_image.specs.Opened.{Opened}

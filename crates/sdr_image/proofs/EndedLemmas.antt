@@ -1,0 +1,78 @@
+-- An image whose transaction has ended.
+use Rattle.std.proofs.Common.{◌≡◌, ◌<◌, ℕ, Bool, true, false, List, [], length, refl, sym, ap, subst, arith}
+use Rattle.sdr_disk.specs.Pending.{IsSynced}
+use Rattle.sdr_log.specs.Spilled.{Ends}
+use Rattle.sdr_log.specs.declared.frame.Frame.{Frame}
+use Rattle.sdr_image.specs.Lines.{HasBytes, IsLines, IsRested, Keeps, Stands, begun_of}
+use Rattle.sdr_image.specs.Marks.{touched_in}
+use Rattle.sdr_image.specs.Opened.{HoldsBegun, IsImage, Rests, image_of}
+use Rattle.sdr_image.specs.declared.lines.Lines.{Lines}
+use Rattle.sdr_image.proofs.RestedLemmas.{ends_rest, unlogged}
+use Rattle.sdr_image.proofs.StandsLemmas.{stands_begun}
+
+-- where a line is touched, a transaction is open
+pub touched_open : (f : Frame) (x : List ℕ) (lines : Lines) (is_open failed : Bool) → IsImage x f lines is_open failed →
+    0 < length (touched_in lines.marks) → is_open ≡ true
+touched_open f x lines true failed i some = refl
+touched_open f x lines false failed i some = absurd (omega (arith, some, ap length (i.idle refl).0))
+
+-- what an image keeps that is at rest
+pub image_rested : (f : Frame) (x y heap : List ℕ) (old new : Lines) (was is_open failed was_failed : Bool) →
+    IsImage x f old was was_failed → length y ≡ length x → IsLines f new → IsRested f heap new y →
+    IsImage y f new is_open failed
+image_rested f x y heap old new was is_open failed was_failed i long lines r = record {
+  limits = i.limits;
+  fits = omega (arith, i.fits, long);
+  lines_kept = lines;
+  idle = λ closed. (r.untouched, subst (λ (h : List ℕ). HasBytes f h y) (sym r.has.heap) r.has);
+  stands = λ sound. subst (λ (b : List ℕ). Stands f b new y) (sym (stands_begun f heap new y r.stands)) r.stands;
+}
+
+-- and the image then
+pub rested_ended : {D : Type 0} (bytes : D → List ℕ) (disk disk' : D) (f : Frame) (heap : List ℕ) (old new : Lines)
+    (was failed : Bool) (restored : ℕ) → IsRested f heap new (bytes disk') →
+    image_of bytes disk' f new false failed restored ≡ record (image_of bytes disk f old was failed restored) {
+      disk = disk';
+      bytes = heap;
+      begun = heap;
+      touched = [];
+      is_open = false;
+    }
+rested_ended bytes disk disk' f heap old new was failed restored r =
+    let begun = stands_begun f heap new (bytes disk') r.stands in
+    (λ i. record {
+      disk = disk';
+      frame = f;
+      bytes = r.now i;
+      begun = begun i;
+      touched = r.untouched i;
+      is_open = false;
+      failed = failed;
+      restored = restored;
+    })
+
+-- whose disk rests, where nothing is pending on it
+pub rested_rests : {D : Type 0} (bytes : D → List ℕ) (tells : D → Bool) (moment : D → ℕ)
+    (may_hold_after : D → ℕ → List ℕ → Type 0) (disk' : D) (f : Frame) (heap : List ℕ) (new : Lines) (is_open failed : Bool)
+    (restored : ℕ) → IsRested f heap new (bytes disk') → IsSynced bytes tells moment may_hold_after disk' →
+    Rests bytes tells moment may_hold_after (image_of bytes disk' f new is_open failed restored)
+rested_rests bytes tells moment may_hold_after disk' f heap new is_open failed restored r synced sound told =
+    let y = bytes disk' in
+    let left = may_hold_after disk' (moment disk') in
+    let e : Ends f heap y left = record {
+      rest = record { regions = r.has.regions; gate = r.has.gate; only = synced told };
+      heap = r.has.heap;
+    } in
+    subst (λ (b : List ℕ). Keeps f b y left) (sym (stands_begun f heap new y r.stands)) (ends_rest f heap y left e)
+
+-- what an image's disk has, unless it has failed
+pub image_holds : (f : Frame) (x : List ℕ) (lines : Lines) (is_open failed : Bool) → IsImage x f lines is_open failed →
+    failed ≡ false → HoldsBegun f (begun_of x) (touched_in lines.marks) x
+image_holds f x lines is_open failed i sound =
+    let s = i.stands sound in
+    record {
+      gives = s.may.keeps.gives;
+      idle = λ none.
+          let e = unlogged f (begun_of x) lines x s i.lines_kept (omega (arith, i.lines_kept.counted, ap length none)) in
+          record { regions = e.rest.regions; gate = e.rest.gate; heap = e.heap };
+    }
