@@ -332,4 +332,3 @@ enter-requires-clause-new g c =
     ∙ length-part (64 * line) 64 (heap_of f x) (omega (arith, below, stands_wide f (begun_of x) o x s)) in
     ap length c.put_at.ensures
     ∙ length-overwrite c.args.at c.args.from.now c.in_ok-old.old (omega (arith, old, c.requires.inside)) ∙ old
-

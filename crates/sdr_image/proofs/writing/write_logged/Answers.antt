@@ -142,4 +142,3 @@ returns-clause-leaves g c =
 pub put_through-requires-clause-regions : goal.put_through-requires-clause-regions
 put_through-requires-clause-regions g c =
     subst (λ (y : List ℕ). LieInside c.args.frame (length y)) (sym c.read_line.ensures.reads.same) c.requires.regions
-
