@@ -14,3 +14,5 @@
 mod commit_tests;
 #[cfg(test)]
 mod image_tests;
+#[cfg(test)]
+mod spill_tests;
