@@ -1,9 +1,12 @@
 -- An image whose transaction has ended.
 use Rattle.std.proofs.Common.{◌≡◌, ◌<◌, ℕ, Bool, true, false, List, [], length, refl, sym, ap, subst, arith}
 use Rattle.sdr_disk.specs.Pending.{IsSynced}
-use Rattle.sdr_log.specs.Spilled.{Ends}
+use Rattle.sdr_log.specs.Calls.{IsFramed, PutsBack}
+use Rattle.sdr_log.specs.Spilled.{Ends, Just}
 use Rattle.sdr_log.specs.declared.frame.Frame.{Frame}
-use Rattle.sdr_image.specs.Lines.{HasBytes, IsLines, IsRested, Keeps, Stands, begun_of}
+use Rattle.std.specs.Prelude.{Contains}
+use Rattle.lru.proofs.Splits.{Contains-nil}
+use Rattle.sdr_image.specs.Lines.{HasBytes, IsFresh, IsLines, IsRested, Keeps, Stands, begun_of}
 use Rattle.sdr_image.specs.Marks.{touched_in}
 use Rattle.sdr_image.specs.Opened.{HoldsBegun, IsImage, Rests, image_of}
 use Rattle.sdr_image.specs.declared.lines.Lines.{Lines}
@@ -76,3 +79,31 @@ image_holds f x lines is_open failed i sound =
           let e = unlogged f (begun_of x) lines x s i.lines_kept (omega (arith, i.lines_kept.counted, ap length none)) in
           record { regions = e.rest.regions; gate = e.rest.gate; heap = e.heap };
     }
+
+-- A disk that was just opened.
+module _ (f : Frame) (count : ℕ) (x y : List ℕ) (l : Lines) (fresh : IsFresh f l) (back : PutsBack f count x y) where
+  pub opened_rested : IsRested f (heap_of f y) l y
+  opened_rested =
+      let e : Ends f (heap_of f y) y (Just y) = record {
+        rest = record { regions = back.regions; gate = back.gate; only = λ image is. is };
+        heap = refl;
+      } in
+      rested f (heap_of f y) y l e fresh.place fresh.logged fresh.buffer f.heap_lines fresh.marks
+      (λ e has. absurd (nothing e (subst (λ (es : List (ℕ × List ℕ)). Contains es e) fresh.cache has)))
+    where
+      nothing : (e : ℕ × List ℕ) → Contains {X = ℕ × List ℕ} [] e → ⊥
+      nothing e has = Contains-nil e has
+
+  pub opened_lines : IsLines f l
+  opened_lines = rested_lines f l fresh.logged fresh.buffer fresh.marks fresh.batch
+
+  pub opened_image : IsFramed x f → length y ≡ length x → IsImage y f l false false
+  opened_image framed long = record {
+    limits = framed.limits;
+    fits = omega (arith, framed.fits, long);
+    lines_kept = opened_lines;
+    idle = λ closed. (opened_rested.untouched, opened_rested.has);
+    stands = λ sound.
+        subst (λ (b : List ℕ). Stands f b l y) (sym (stands_begun f (heap_of f y) l y opened_rested.stands))
+        opened_rested.stands;
+  }
