@@ -2,6 +2,7 @@
 use Rattle.std.proofs.Common.{◌≡◌, ◌<◌, ℕ, Bool, true, false, List, [], length, refl, sym, ap, subst, arith}
 use Rattle.sdr_disk.specs.Pending.{IsSynced}
 use Rattle.sdr_log.specs.Calls.{IsFramed, PutsBack}
+use Rattle.sdr_log.specs.Log.{heap_of}
 use Rattle.sdr_log.specs.Spilled.{Ends, Just}
 use Rattle.sdr_log.specs.declared.frame.Frame.{Frame}
 use Rattle.std.specs.Prelude.{Contains}
@@ -10,7 +11,7 @@ use Rattle.sdr_image.specs.Lines.{HasBytes, IsFresh, IsLines, IsRested, Keeps, S
 use Rattle.sdr_image.specs.Marks.{touched_in}
 use Rattle.sdr_image.specs.Opened.{HoldsBegun, IsImage, Rests, image_of}
 use Rattle.sdr_image.specs.declared.lines.Lines.{Lines}
-use Rattle.sdr_image.proofs.RestedLemmas.{ends_rest, unlogged}
+use Rattle.sdr_image.proofs.RestedLemmas.{ends_rest, rested, rested_lines, unlogged}
 use Rattle.sdr_image.proofs.StandsLemmas.{stands_begun}
 
 -- where a line is touched, a transaction is open
