@@ -1,4 +1,4 @@
-use Rattle.std.proofs.Common.{◌∙◌, ap, refl, sym, Some}
+use Rattle.std.proofs.Common.{◌∙◌, ap, false, refl, sym, Some}
 use Rattle.sdr_log.specs.Log.{heap_of}
 use Rattle.sdr_image.proofs.EndedLemmas.{opened_rested, rested_rests}
 use Rattle.sdr_image.proofs.StandsLemmas.{stands_begun}
