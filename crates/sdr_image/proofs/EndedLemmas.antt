@@ -1,5 +1,5 @@
 -- An image whose transaction has ended.
-use Rattle.std.proofs.Common.{◌≡◌, ◌<◌, ℕ, Bool, true, false, List, [], length, refl, sym, ap, subst, arith}
+use Rattle.std.proofs.Common.{◌≡◌, ◌≤◌, ◌<◌, ℕ, zero, suc, ◌+◌, ◌*◌, Bool, true, false, List, [], length, refl, sym, ap, subst, arith}
 use Rattle.sdr_disk.specs.Pending.{IsSynced}
 use Rattle.sdr_log.specs.Calls.{IsFramed, PutsBack}
 use Rattle.sdr_log.specs.Log.{heap_of}
@@ -10,6 +10,7 @@ use Rattle.lru.proofs.Splits.{Contains-nil}
 use Rattle.sdr_image.specs.Lines.{HasBytes, IsFresh, IsLines, IsRested, Keeps, Stands, begun_of}
 use Rattle.sdr_image.specs.Marks.{touched_in}
 use Rattle.sdr_image.specs.Opened.{HoldsBegun, IsImage, Rests, image_of}
+use Rattle.sdr_image.specs.Saved.{calls_of}
 use Rattle.sdr_image.specs.declared.lines.Lines.{Lines}
 use Rattle.sdr_image.proofs.RestedLemmas.{ends_rest, rested, rested_lines, unlogged}
 use Rattle.sdr_image.proofs.StandsLemmas.{stands_begun}
@@ -108,3 +109,16 @@ module _ (f : Frame) (count : ℕ) (x y : List ℕ) (l : Lines) (fresh : IsFresh
         subst (λ (b : List ℕ). Stands f b l y) (sym (stands_begun f (heap_of f y) l y opened_rested.stands))
         opened_rested.stands;
   }
+
+-- how many calls an end makes that touched a line
+pub calls_of-some : (lines : ℕ) → 0 < lines → calls_of lines ≡ lines + 7
+calls_of-some zero some = absurd (omega (arith, some))
+calls_of-some (suc lines) some = refl
+
+-- a cancel makes no more than an end, and none where nothing is logged
+pub calls_of-lines : {D : Type 0} (moment : D → ℕ) (old new : D) (logged touched : ℕ) → logged ≤ touched →
+    (logged ≡ 0 → new ≡ old) → moment new ≤ moment old + 2 * (logged + 3) →
+    moment new ≤ moment old + 2 * calls_of touched
+calls_of-lines moment old new zero touched le same few = let e = ap moment (same refl) in omega (arith, e)
+calls_of-lines moment old new (suc logged) touched le same few =
+    omega (arith, few, le, calls_of-some touched (omega (arith, le)))

@@ -116,6 +116,7 @@ fn undo_all<D: Disk>(disk: &mut D, frame: Frame, lines: &Lines) -> Result<(), Di
     ensures cause { HasCause (D.faults disk.old) (D.faults disk.new) result }
 
     ensures same { lines.now.logged ≡ 0 → disk.new ≡ disk.old }
+    ensures some { OnErr result (0 < lines.now.logged) }
     ensures disk { KeepsDisk D.bytes D.tells_crashes disk.old disk.new }
     ensures inside { KeepsOutside frame (D.bytes disk.old) (D.bytes disk.new) }
     ensures forward { D.moment disk.old ≤ D.moment disk.new }
@@ -152,6 +153,7 @@ pub fn take_back<D: Disk>(disk: &mut D, frame: Frame, lines: &mut Lines) -> Resu
     ensures lines { IsLines frame lines.new }
     ensures failed { OnErr result (lines.new ≡ lines.old) }
     ensures same { lines.old.logged ≡ 0 → disk.new ≡ disk.old }
+    ensures some { OnErr result (0 < lines.old.logged) }
     ensures disk { KeepsDisk D.bytes D.tells_crashes disk.old disk.new }
     ensures inside { KeepsOutside frame (D.bytes disk.old) (D.bytes disk.new) }
     ensures forward { D.moment disk.old ≤ D.moment disk.new }
