@@ -1,5 +1,5 @@
 -- An image whose transaction has ended.
-use Rattle.std.proofs.Common.{◌≡◌, ◌≤◌, ◌<◌, ℕ, zero, suc, ◌+◌, ◌*◌, Bool, true, false, List, [], length, refl, sym, ap, subst, arith}
+use Rattle.std.proofs.Common.{◌≡◌, ◌≤◌, ◌<◌, ℕ, zero, suc, ◌+◌, ◌*◌, Bool, true, false, List, [], length, refl, sym, ap, ◌∙◌, subst, arith}
 use Rattle.sdr_disk.specs.Pending.{IsSynced}
 use Rattle.sdr_log.specs.Calls.{IsFramed, PutsBack}
 use Rattle.sdr_log.specs.Log.{heap_of}
@@ -7,12 +7,13 @@ use Rattle.sdr_log.specs.Spilled.{Ends, Just}
 use Rattle.sdr_log.specs.declared.frame.Frame.{Frame}
 use Rattle.std.specs.Prelude.{Contains}
 use Rattle.lru.proofs.Splits.{Contains-nil}
-use Rattle.sdr_image.specs.Lines.{HasBytes, IsFresh, IsLines, IsRested, Keeps, Stands, begun_of}
+use Rattle.sdr_image.specs.Lines.{HasBytes, IsFresh, IsLines, IsRested, Keeps, Stands, begun_of, now_of}
 use Rattle.sdr_image.specs.Marks.{touched_in}
 use Rattle.sdr_image.specs.Opened.{HoldsBegun, IsImage, Rests, image_of}
 use Rattle.sdr_image.specs.Saved.{calls_of}
 use Rattle.sdr_image.specs.declared.lines.Lines.{Lines}
-use Rattle.sdr_image.proofs.RestedLemmas.{ends_rest, rested, rested_lines, unlogged}
+use Rattle.sdr_image.proofs.RestedLemmas.{ends_rest, now_none, rested, rested_lines, unlogged}
+use Rattle.sdr_image.proofs.ImageLemmas.{nil_of}
 use Rattle.sdr_image.proofs.StandsLemmas.{stands_begun}
 
 -- where a line is touched, a transaction is open
@@ -122,3 +123,28 @@ pub calls_of-lines : {D : Type 0} (moment : D → ℕ) (old new : D) (logged tou
 calls_of-lines moment old new zero touched le same few = let e = ap moment (same refl) in omega (arith, e)
 calls_of-lines moment old new (suc logged) touched le same few =
     omega (arith, few, le, calls_of-some touched (omega (arith, le)))
+
+-- An image that hasn't failed, and has touched no line.
+module _ (f : Frame) (x : List ℕ) (lines : Lines) (is_open failed : Bool) (i : IsImage x f lines is_open failed)
+    (sound : failed ≡ false) (none : length (touched_in lines.marks) ≡ 0) where
+  unspilled : Ends f (begun_of x) x (Just x)
+  unspilled = unlogged f (begun_of x) lines x (i.stands sound) i.lines_kept (omega (arith, i.lines_kept.counted, none))
+
+  -- its bytes now are those at begin
+  pub untouched_now : now_of f lines x ≡ begun_of x
+  untouched_now =
+      now_none f (begun_of x) lines x (i.stands sound) (omega (arith, i.lines_kept.counted, none)) ∙ unspilled.heap
+
+  -- and no transaction need be open
+  pub untouched_image : IsImage x f lines false failed
+  untouched_image = record {
+    limits = i.limits;
+    fits = i.fits;
+    lines_kept = i.lines_kept;
+    idle = λ closed. (nil_of (touched_in lines.marks) none, record {
+      regions = unspilled.rest.regions;
+      gate = unspilled.rest.gate;
+      heap = refl;
+    });
+    stands = i.stands;
+  }
