@@ -16,6 +16,7 @@ use Rattle.sdr_log.specs.declared.frame.Frame.{Frame}
 use Rattle.sdr_image.specs.Lines.{AreClean, IsLines, Keeps, Leaves, Stands, Steps, begun_of, now_of}
 use Rattle.sdr_image.specs.Marks.{is_clean, stand_at, touched_in}
 use Rattle.sdr_image.specs.Opened.{IsImage, IsQuiet, Opened, image_of}
+use Rattle.sdr_image.specs.QuietLaws.{quiet_same}
 use Rattle.sdr_image.specs.declared.lines.Lines.{Lines}
 use Rattle.sdr_image.specs.declared.marks.Stand.{Stand}
 use Rattle.sdr_image.proofs.MarksLemmas.{is_among-line}
@@ -193,3 +194,25 @@ idle_begun f x lines is_open failed i closed =
     ap (λ (o : Option (List ℕ)). unwrap_or o [])
     (put_back_of-closed f x idle.1.regions.head (omega (arith, limits.least_log)) idle.1.regions.inside idle.1.gate)
     ∙ sym (ap (λ (rs : List Record). put_records rs (heap_of f x)) (nil_records lines.buffer.news none))
+
+-- an image in which a transaction is begun
+pub quiet_opened : {D : Type 0} (bytes : D → List ℕ) (tells : D → Bool) (moment : D → ℕ)
+    (may_hold_after : D → ℕ → List ℕ → Type 0) (disk : D) (f : Frame) (lines : Lines) (is_open failed : Bool) (restored : ℕ) →
+    IsQuiet bytes tells moment may_hold_after (image_of bytes disk f lines is_open failed restored)
+    (image_of bytes disk f lines true failed restored)
+quiet_opened bytes tells moment may_hold_after disk f lines is_open failed restored =
+    let q = quiet_same bytes tells moment may_hold_after (image_of bytes disk f lines is_open failed restored) in
+    record {
+      frame = refl;
+      restored = refl;
+      still_open = λ o. refl;
+      disk = q.disk;
+      inside = q.inside;
+      forward = q.forward;
+      still = q.still;
+      begun = q.begun;
+      grows = q.grows;
+      reads = q.reads;
+      rests = q.rests;
+      any_moment = q.any_moment;
+    }

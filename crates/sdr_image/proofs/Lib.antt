@@ -7,6 +7,7 @@ pub mod FormatLemmas
 pub mod FormattedLemmas
 pub mod ImageLemmas
 pub mod LinesLemmas
+pub mod LoopsLemmas
 pub mod MarksLemmas
 pub mod OpenedLemmas
 pub mod OpeningLemmas

@@ -137,4 +137,7 @@ pub record Leaves {D : Type 0} (bytes : D → List ℕ) (tells : D → Bool) (mo
 pub record IsSpan (place count first end : ℕ) : Type 0 where
   pub lines : range_with_len first (end - first) ≡ lines_of place count
   pub order : first ≤ end
-  pub last : LINE * end < place + count + LINE
+  pub begins : LINE * first ≤ place
+  pub inside : place < LINE * first + LINE
+  pub ends : LINE * end < place + count + LINE
+  pub covers : 0 < count → place + count ≤ LINE * end

@@ -1,7 +1,6 @@
 // The lines that hold some bytes.
-ghost use Rattle.std.specs.Prelude.{◌≡◌, ◌≤◌, ◌<◌, ◌+◌, ◌-◌, ◌*◌, ◌^◌};
-ghost use Rattle.std.specs.List.{range_with_len};
-ghost use Rattle.sdr_base.specs.Cells.{lines_of};
+ghost use Rattle.std.specs.Prelude.{◌<◌, ◌+◌, ◌^◌};
+ghost use Rattle.sdr_image.specs.Lines.{IsSpan};
 
 use sdr_base::LINE;
 
@@ -9,9 +8,7 @@ use sdr_base::LINE;
 #[tactic(auto, unfolding(sdr_base::specs::Cells::lines_of))]
 pub fn span(place: u64, count: u64) -> (u64, u64)
     requires { place + count < 2 ^ 60 }
-    ensures lines { range_with_len result.0 (result.1 - result.0) ≡ lines_of place count }
-    ensures order { result.0 ≤ result.1 }
-    ensures end { LINE * result.1 < place + count + LINE }
+    ensures { IsSpan place count result.0 result.1 }
 {
     let first = place / LINE;
     if count == 0 {

@@ -1,0 +1,98 @@
+-- Bytes of several lines, written or read line by line.
+use Rattle.std.proofs.Common.{◌≡◌, ◌≤◌, ◌<◌, ◌∙◌, ◌⊎◌, ⊎_elim, ℕ, ◌+◌, ◌-◌, ◌*◌, List, [], ◌++◌, length, take, drop, min}
+use Rattle.std.proofs.Common.{zero, suc, ◌∷◌, refl, sym, ap, arith, length-append, length-drop}
+use Rattle.std.proofs.Math.Seq.{take-add}
+use Rattle.std.proofs.lemmas.List.{drop-drop, length-take-le, take_at}
+use Rattle.sdr_base.specs.Parts.{overwrite, part}
+use Rattle.sdr_base.proofs.PartsLemmas.{length-overwrite, overwrite-behind}
+use Rattle.sdr_log.proofs.BatchesLemmas.{part-within}
+
+-- all of the bytes
+take_past : (n : ℕ) (xs : List ℕ) → length xs ≤ n → take n xs ≡ xs
+take_past zero [] le = refl
+take_past zero (x ∷ xs) le = absurd (omega (arith, le))
+take_past (suc n) [] le = refl
+take_past (suc n) (x ∷ xs) le = ap (λ (l : List ℕ). x ∷ l) (take_past n xs (omega (arith, le)))
+
+-- as many of the bytes as there are
+take-min : (n : ℕ) (xs : List ℕ) → take n xs ≡ take (min n (length xs)) xs
+take-min n xs = ⊎_elim
+    (λ le. ap (λ (k : ℕ). take k xs) (sym (low le)))
+    (λ ge. take_past n xs ge ∙ sym (take_past (min n (length xs)) xs (omega (arith, high ge))))
+    (below_or_past n (length xs))
+  where
+    below_or_past : (a b : ℕ) → (a ≤ b) ⊎ (b ≤ a)
+    below_or_past a b = grind arith
+
+    low : n ≤ length xs → min n (length xs) ≡ n
+    low le = omega (arith, le)
+
+    high : length xs ≤ n → min n (length xs) ≡ length xs
+    high ge = omega (arith, ge)
+
+-- One line of a call from a place on over so many bytes: from which of the line's bytes on, and which of the call's bytes.
+module _ (place count line at start stop : ℕ) (at_is : at ≡ place + start - 64 * line) (start_is : start ≡ 64 * line - place)
+    (stop_is : stop ≡ min (64 * line + 64 - place) count) (begins : place < 64 * line + 64)
+    (ends : 64 * line < place + count) where
+  pub piece_order : start ≤ stop
+  piece_order = omega (arith, start_is, stop_is, begins, ends)
+
+  pub piece_inside : at + (stop - start) ≤ 64
+  piece_inside = omega (arith, at_is, start_is, stop_is, begins, ends)
+
+  pub piece_place : 64 * line + at ≡ place + start
+  piece_place = omega (arith, at_is, start_is, begins)
+
+  -- the bytes up to there, and those of the line
+  pub take_piece : (xs : List ℕ) → length xs ≡ count →
+      take (64 * (line + 1) - place) xs ≡ take start xs ++ take (stop - start) (drop start xs)
+  take_piece xs long =
+      let up_to : min (64 * (line + 1) - place) (length xs) ≡ start + (stop - start) =
+      omega (arith, long, start_is, stop_is, begins, ends) in
+      take-min (64 * (line + 1) - place) xs ∙ ap (λ (k : ℕ). take k xs) up_to ∙ take-add start (stop - start) xs
+
+  -- bytes of a line more are written
+  pub put_next : (from x : List ℕ) → length from ≡ count → place + count ≤ length x →
+      overwrite (64 * line + at) (take (stop - start) (drop start from)) (overwrite place (take start from) x)
+      ≡ overwrite place (take (64 * (line + 1) - place) from) x
+  put_next from x long wide =
+      let piece = take (stop - start) (drop start from) in
+      let front = take start from in
+      let few : length front ≡ start = length-take-le start from (omega (arith, long, piece_order, stop_is)) in
+      let here : 64 * line + at ≡ place + length front = omega (arith, piece_place, few) in
+      ap (λ (k : ℕ). overwrite k piece (overwrite place front x)) here
+      ∙ overwrite-behind place front piece x (omega (arith, few, piece_order, stop_is, wide))
+      ∙ ap (λ (l : List ℕ). overwrite place l x) (sym (take_piece from long))
+
+  -- a part and the one behind it
+  part-both : (p a b : ℕ) (x : List ℕ) → part p (a + b) x ≡ part p a x ++ part (p + a) b x
+  part-both p a b x = take-add a b (drop p x) ∙ ap (λ (l : List ℕ). part p a x ++ take b l) (drop-drop a p x)
+
+  -- bytes of a line more are read
+  pub read_next : (into bytes line_bytes x : List ℕ) → length into ≡ count → length line_bytes ≡ 64 →
+      bytes ≡ take (stop - start) (drop at line_bytes) → line_bytes ≡ part (64 * line) 64 x →
+      take start into ≡ part place start x →
+      take (64 * (line + 1) - place) (overwrite start bytes into) ≡ part place stop x
+  read_next into bytes line_bytes x long whole is of_line before =
+      let m = stop - start in
+      let size : length bytes ≡ m =
+      ap length is ∙ length-take-le m (drop at line_bytes) (omega (arith, length-drop at line_bytes, whole, piece_inside)) in
+      let front : length (take start into) ≡ start =
+      length-take-le start into (omega (arith, long, piece_order, stop_is)) in
+      let all : length (overwrite start bytes into) ≡ count =
+      length-overwrite start bytes into (omega (arith, size, long, piece_order, stop_is)) ∙ long in
+      let up_to : min (64 * (line + 1) - place) (length (overwrite start bytes into)) ≡ stop =
+      omega (arith, all, stop_is, begins, ends) in
+      let both : length (take start into ++ bytes) ≡ stop =
+      omega (arith, length-append (take start into) bytes, front, size, piece_order) in
+      let sum : start + m ≡ stop = omega (arith, piece_order) in
+      take-min (64 * (line + 1) - place) (overwrite start bytes into)
+      ∙ ap (λ (k : ℕ). take k (overwrite start bytes into)) up_to
+      ∙ take_at (take start into ++ bytes) (drop (start + length bytes) into) stop both
+      ∙ ap (λ (l : List ℕ). l ++ bytes) before
+      ∙ ap (λ (l : List ℕ). part place start x ++ l) (is
+      ∙ ap (λ (l : List ℕ). take m (drop at l)) of_line
+      ∙ part-within (64 * line) at m 64 x piece_inside
+      ∙ ap (λ (k : ℕ). part k m x) piece_place)
+      ∙ sym (part-both place start m x)
+      ∙ ap (λ (k : ℕ). part place k x) sum
