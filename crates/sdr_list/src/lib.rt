@@ -32,5 +32,5 @@ pub use element::{datum, next, prev, set_datum};
 pub use insert::{insert_after, insert_before, insert_first, insert_last};
 pub use list::{create, first, last, length, set_user_data, user_data};
 pub use ordered::{insert_ordered, search};
-pub use orders::{ListKeys, Order, Stored};
+pub use orders::{Compare, ListKeys, Stored};
 pub use remove::delete;

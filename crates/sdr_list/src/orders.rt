@@ -1,7 +1,8 @@
 // The orders of keys by their bytes and by their length, and a function that is stored.
-ghost use Rattle.std.specs.Prelude.{◌≡◌, ℕ, List};
+ghost use Rattle.std.specs.Prelude.{◌≡◌};
 ghost use Rattle.std.specs.declared.cmp.Ordering.{Ordering};
-ghost use Rattle.sdr_list.specs.Orders.{IsKey, IsPreorder};
+ghost use Rattle.sdr_list.specs.Orders.{IsKey};
+ghost use Rattle.sdr_list.specs.Preorders.{key_order};
 
 use crate::collation::Collate;
 use std::cmp::Ordering;
@@ -30,52 +31,40 @@ impl Collate for ListKeys {
     ghost total = { order_total };
 }
 
-/// An order of keys, a total preorder there, that values of a type stand for. It has no code.
-pub trait Order {
-    /// How two keys compare.
-    ghost order: { Self → List ℕ → List ℕ → Ordering };
+/// A function that compares two keys.
+pub type Compare = fn(&[u8], &[u8]) -> Ordering;
 
-    /// On keys the order is total.
-    ghost total: { (s : Self) → IsPreorder (order s) };
-}
-
-impl Order for ListKeys {
-    ghost use Rattle.sdr_list.specs.Preorders.{key_order, order_total};
-
-    ghost order = { key_order };
-
-    ghost total = { order_total };
-}
-
-/// A function that is stored, beside the order that it compares by, and the facts that it may be
-/// called on any two keys and answers so. Any order will do that is a total preorder of keys.
+/// A function that is stored, beside what it compares by, and the facts that it may be called on
+/// any two keys and answers so.
 #[derive(Drop)]
-pub struct Stored<F: Fn(&[u8], &[u8]) -> Ordering, K: Order> {
-    compare: F,
-    order: K,
-    ghost callable: { (a b : _) → IsKey a.now → IsKey b.now → F.pre compare a b },
+pub struct Stored {
+    compare: Compare,
+    keys: ListKeys,
+    ghost callable: { (a b : _) → IsKey a.now → IsKey b.now → Compare.pre compare a b },
     ghost answers: { (a b : _) (r : Ordering) → IsKey a.now → IsKey b.now
-        → F.post compare a b r → r ≡ K.order order a.now b.now },
+        → Compare.post compare a b r → r ≡ key_order keys a.now b.now },
 }
 
-impl<F: Fn(&[u8], &[u8]) -> Ordering, K: Order> Stored<F, K> {
-    /// Stores a function that compares by `order`.
-    pub fn new(compare: F, order: K) -> Stored<F, K>
-        requires callable { (a b : _) → IsKey a.now → IsKey b.now → F.pre compare a b }
+impl Stored {
+    /// Stores a function that compares by `keys`.
+    pub fn new(compare: Compare, keys: ListKeys) -> Stored
+        requires callable { (a b : _) → IsKey a.now → IsKey b.now → Compare.pre compare a b }
         requires answers { (a b : _) (r : Ordering) → IsKey a.now → IsKey b.now
-            → F.post compare a b r → r ≡ K.order order a.now b.now }
-        ensures { ⟦<Stored<F, K> as Collate>⟧.order result ≡ K.order order }
+            → Compare.post compare a b r → r ≡ key_order keys a.now b.now }
+        ensures { ⟦<Stored as Collate>⟧.order result ≡ key_order keys }
     {
-        Stored { compare, order }
+        Stored { compare, keys }
     }
 }
 
-impl<F: Fn(&[u8], &[u8]) -> Ordering, K: Order> Collate for Stored<F, K> {
-    ghost order = { λ s. K.order s.order };
+impl Collate for Stored {
+    ghost use Rattle.sdr_list.specs.Preorders.{key_order, order_total};
+
+    ghost order = { λ s. key_order s.keys };
 
     fn compare(&self, a: &[u8], b: &[u8]) -> Ordering {
         (self.compare)(a, b)
     }
 
-    ghost total = { λ s. K.total s.order };
+    ghost total = { λ s. order_total s.keys };
 }
