@@ -16,7 +16,7 @@ ghost use Rattle.sdr_log.specs.Log.{first_gate};
 ghost use Rattle.sdr_log.specs.Logged.{GivesSame};
 ghost use Rattle.sdr_model.specs.Reading.{is_reading};
 ghost use Rattle.step_things.specs.Answering.{dooms};
-ghost use Rattle.sdr_station.specs.Grounded.{IsGoing, HasNoCalls, HasDiskSound, StandsInMemory, StaysInside};
+ghost use Rattle.sdr_station.specs.Grounded.{IsGoing, HasNoCalls, HasDiskSound, StandsInMemory, StaysInside, without_moves};
 ghost use Rattle.sdr_station.specs.Giving.{AsksMedia, GivesReply, reads_by};
 ghost use Rattle.sdr_station.specs.Opening.{ExplainsOpen, IsOfAudit, IsOfImage, IsOpen, LeavesBytes, MayBeAgain, disk_of};
 ghost use Rattle.sdr_station.specs.Opening.{media_of};
@@ -283,8 +283,8 @@ impl<D: Disk, M: Media, F: Notify + Drop> HeapGround<D, M, F> {
             (MeetsFault ⟦<HeapGround<D, M, F> as HasGround>⟧ self.old self.new) }
         ensures still { self.old.heap.cells.touched ≡ []
             → self.new.heap.cells.disk ≡ self.old.heap.cells.disk }
-        ensures calls { D.moment self.new.heap.cells.disk ≤ D.moment self.old.heap.cells.disk
-            + 2 * calls_of (length self.old.heap.cells.touched) }
+        ensures calls { self.new.moment
+            ≤ self.old.moment + 2 * calls_of (length self.old.heap.cells.touched) }
         ensures time { self.old.moment ≤ self.new.moment }
         ensures keeps { KeepsGround ⟦<HeapGround<D, M, F> as HasGround>⟧ false self.old self.new }
         ensures inside { StaysInside D.bytes D.tells_crashes self.old self.new }
@@ -314,6 +314,7 @@ impl<D: Disk, M: Media, F: Notify + Drop> HeapGround<D, M, F> {
             (Brings ⟦<HeapGround<D, M, F> as HasGround>⟧.stands self.old self.new RollsBack) }
         ensures disk { self.new.heap.cells.disk ≡ self.old.heap.cells.disk }
         ensures begun { self.new.heap.cells.begun ≡ self.old.heap.cells.begun }
+        ensures moment { self.new.moment ≡ self.old.moment }
         ensures seen { self.old.moment ≡ D.moment self.old.heap.cells.disk }
         ensures going { OnOk result
             (self.old.heap.cells.failed ≡ false → self.new.stopped ≡ false) }
@@ -343,6 +344,13 @@ impl<D: Disk, M: Media, F: Notify + Drop> HeapGround<D, M, F> {
             Err(Stop::MediaFault) => unreachable!(),
             Err(Stop::Refused(_)) => unreachable!(),
         }
+    }
+
+    /// Forgets the moves of the last call. It makes no call of the disk.
+    pub fn forget(&mut self)
+        ensures { self.new ≡ without_moves self.old self.new.heap.spare }
+    {
+        self.heap.clear_moves();
     }
 
     /// Whether the ticket is there, and granted, where no transaction is open.
@@ -465,8 +473,8 @@ impl<D: Disk, M: Media, F: Notify + Drop> Backing for HeapGround<D, M, F> {
         ensures idle { OnOk result (HasNoCalls self.new) }
         ensures still { self.old.heap.cells.touched ≡ []
             → self.new.heap.cells.disk ≡ self.old.heap.cells.disk }
-        ensures calls { D.moment self.new.heap.cells.disk ≤ D.moment self.old.heap.cells.disk
-            + 2 * calls_of (length self.old.heap.cells.touched) }
+        ensures calls { self.new.moment
+            ≤ self.old.moment + 2 * calls_of (length self.old.heap.cells.touched) }
         ensures memory { IsErrOf result Halt.Memory → self.new ≡ self.old }
         ensures never { IsErrOf result Halt.Memory → ⊥ }
         ensures fault { IsErrOf result Halt.Fault

@@ -53,6 +53,7 @@ returns-in-Ok g c =
       disk = ap (λ (h : Held (Opened D)). h.cells.disk) at.ensures.same ∙ e.same ∙ ap (λ (o : Grounded D M). o.heap.cells.disk) c.self.view_is;
       begun = ap (λ (h : Held (Opened D)). h.cells.begun) (at.ensures.same ∙ e.ended)
           ∙ ap (λ (o : Grounded D M). o.heap.cells.begun) c.self.view_is;
+      moment = at_now ∙ ap m e.same ∙ sym c.self.invariant.seen ∙ ap (λ (o : Grounded D M). o.moment) c.self.view_is;
       seen = subst (λ (o : Grounded D M). o.moment ≡ m o.heap.cells.disk) c.self.view_is c.self.invariant.seen;
       going = λ _. refl;
       idle = λ _. refl;

@@ -62,8 +62,8 @@ returns-in-Ok g c =
       fault = tt;
       still = subst (λ (o : Grounded D M). o.heap.cells.touched ≡ [] → new.heap.cells.disk ≡ o.heap.cells.disk) c.self.view_is
           (λ none. ap (λ (h : Held (Opened D)). h.cells.disk) at.ensures.same ∙ e.idle none);
-      calls = subst (λ (o : Grounded D M). m new.heap.cells.disk ≤ m o.heap.cells.disk + 2 * calls_of (length o.heap.cells.touched)) c.self.view_is
-          (omega (arith, e.calls, ap (λ (h : Held (Opened D)). m h.cells.disk) at.ensures.same));
+      calls = subst (λ (o : Grounded D M). new.moment ≤ o.moment + 2 * calls_of (length o.heap.cells.touched)) c.self.view_is
+          (omega (arith, e.calls, at_now, c.self.invariant.seen));
       time = all.time;
       keeps = all.keeps;
       inside = subst (λ (o : Grounded D M). StaysInside b t o new) c.self.view_is
@@ -227,5 +227,6 @@ returns-in-Err-clause-calls g c =
     let D = g.row.D.Denot in
     let m = g.D.Disk.moment in
     let at = c.moment_of-self-inside-in-Err in
-    subst (λ (o : Grounded D g.row.M.Denot). m at.new.heap.cells.disk ≤ m o.heap.cells.disk + 2 * calls_of (length o.heap.cells.touched)) c.self.view_is
-    (omega (arith, c.in-Err.ensures.calls, ap (λ (h : Held (Opened D)). m h.cells.disk) at.ensures.same))
+    let at_now = at.ensures.moment ∙ ap (λ (h : Held (Opened D)). m h.cells.disk) at.ensures.same in
+    subst (λ (o : Grounded D g.row.M.Denot). at.result ≤ o.moment + 2 * calls_of (length o.heap.cells.touched)) c.self.view_is
+    (omega (arith, c.in-Err.ensures.calls, at_now, c.self.invariant.seen))
