@@ -1,4 +1,4 @@
-use Rattle.std.proofs.Common.{◌∙◌, ap, false, sym, subst, true}
+use Rattle.std.proofs.Common.{arith, ◌∙◌, ap, false, sym, subst, true}
 use Rattle.sdr_disk.specs.Moments.{AtEach, Reads}
 use Rattle.sdr_disk.specs.Pending.{IsSynced}
 use Rattle.sdr_image.proofs.OutsideLemmas.{UnlessFault-then}
