@@ -42,7 +42,14 @@ const ROWS: [(&[u8], u64); 10] = [
 fn calls(alloc: Global, script: &[u8]) -> Option<u64> {
     let mut output = MemorySink::new(alloc, Vec::new(alloc));
     let bytes = formatted(alloc)?;
-    let outcome = answered(alloc, &["replay"], bytes, Vec::new(alloc), script, &mut output)?;
+    let outcome = answered(
+        alloc,
+        &["replay"],
+        bytes,
+        Vec::new(alloc),
+        script,
+        &mut output,
+    )?;
     if outcome.status == DONE {
         Some(outcome.disk.calls())
     } else {
