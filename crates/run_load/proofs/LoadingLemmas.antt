@@ -14,6 +14,7 @@ use Rattle.sdr_base.specs.declared.media.Media.{Ghosts as MediaGhosts}
 use Rattle.sdr_core.specs.Caused.{MediaChange, SeenMedia, from_to, seen_media}
 use Rattle.sdr_core.specs.CoreKept.{RunStart}
 use Rattle.sdr_disk.specs.declared.disk.Disk.{Ghosts as DiskGhosts}
+use Rattle.sdr_image.specs.Opened.{Holds}
 use Rattle.sdr_load.proofs.RoundLemmas.{round_is_short}
 use Rattle.sdr_load.specs.Rounds.{round_of}
 use Rattle.sdr_load.specs.Schedule.{said_from, script_for}
@@ -111,9 +112,9 @@ module _ {D M : Type 0} (d : DiskGhosts D) (m : MediaGhosts M) (disk : D) (files
   loaded_so : (out out' : Output) (ran : Ran (Grounded D M)) (result : Loaded D M)
       → PlaysOut ground (begins_on m was (script_for rounds) g) (script_for rounds) g out out' ran → result.journal ≡ ran.journal → TellsEnd ran result.end
       → (result.end ≡ ends.Unread → Rose (d.faults ran.base.heap.cells.disk) (d.faults result.disk)) → result.disk ≡ ran.base.heap.cells.disk
-      → result.media ≡ ran.base.media → d.size result.disk ≡ was.size → StaysAsHanded was.bytes (d.bytes result.disk) ran.base.heap.cells.frame
+      → result.media ≡ ran.base.media → Holds d.bytes ran.base.heap.cells → d.tells_crashes result.disk ≡ was.tells → StaysAsHanded was.bytes (d.bytes result.disk) ran.base.heap.cells.frame
       → d.moment result.disk ≡ ran.base.moment → LoadsOn d m rounds disk files result
-  loaded_so out out' ran result plays journal_is tells fault on media_is size stays seen = record {
+  loaded_so out out' ran result plays journal_is tells fault on media_is holds told stays seen = record {
     starved = ran.starved;
     on_heap = subst (λ (journal : List Entry). RanOn d m (load_daemons rounds) disk result.disk files journal
         (λ first. RunsRounds (from_to (shows files) (shows result.media)) first rounds journal ran.starved
@@ -121,7 +122,7 @@ module _ {D M : Type 0} (d : DiskGhosts D) (m : MediaGhosts M) (disk : D) (files
         (ran_opened d m disk files (script_for rounds) g condition met o was handed ran.journal ran.base result.disk
         (λ first. RunsRounds (from_to (shows files) (shows result.media)) first rounds ran.journal ran.starved
         × EndsSo (m.told files) first rounds ran.journal ran.starved result.end)
-        plays.run on size stays seen (
+        plays.run on holds told stays seen (
           subst (λ (x : M). RunsRounds (from_to (shows x) (shows result.media)) (first_on g) rounds ran.journal ran.starved) o.with_media
               (subst (λ (x : M). RunsRounds (from_to (shows g.media) (shows x)) (first_on g) rounds ran.journal ran.starved) (sym media_is)
               (unprinted (from_to (shows g.media) (shows ran.base.media)) (first_on g) (script_for rounds) ran.journal ran.starved _ plays.replays)),
@@ -137,7 +138,7 @@ module _ {D M : Type 0} (d : DiskGhosts D) (m : MediaGhosts M) (disk : D) (files
   pub loaded : (script : List ScriptStep) → script ≡ script_for rounds → (out out' : Output) (ran : Ran (Grounded D M)) (result : Loaded D M)
       → PlaysOut ground (begins_on m was script g) script g out out' ran → result.journal ≡ ran.journal → TellsEnd ran result.end
       → (result.end ≡ ends.Unread → Rose (d.faults ran.base.heap.cells.disk) (d.faults result.disk)) → result.disk ≡ ran.base.heap.cells.disk
-      → result.media ≡ ran.base.media → d.size result.disk ≡ was.size → StaysAsHanded was.bytes (d.bytes result.disk) ran.base.heap.cells.frame
+      → result.media ≡ ran.base.media → Holds d.bytes ran.base.heap.cells → d.tells_crashes result.disk ≡ was.tells → StaysAsHanded was.bytes (d.bytes result.disk) ran.base.heap.cells.frame
       → d.moment result.disk ≡ ran.base.moment → LoadsOn d m rounds disk files result
   loaded script is out out' ran result plays =
       loaded_so out out' ran result (subst (λ (s : List ScriptStep). PlaysOut ground (begins_on m was s g) s g out out' ran) is plays)

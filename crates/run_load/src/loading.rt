@@ -3,6 +3,7 @@ ghost use Rattle.std.specs.Prelude.{◌≡◌, ◌≤◌, ◌↔◌, IfErr, IfOk
 ghost use Rattle.run_load.specs.Listed.{load_name};
 ghost use Rattle.run_load.specs.Loading.{LoadsOn, TellsEnd, load_daemons};
 ghost use Rattle.sdr_base.specs.Causes.{Rose};
+ghost use Rattle.sdr_image.specs.Opened.{Holds};
 ghost use Rattle.sdr_load.specs.Schedule.{script_for};
 ghost use Rattle.sdr_run.specs.Handed.{StaysAsHanded, handed_as};
 ghost use Rattle.sdr_run.specs.Quiet.{StaysQuiet};
@@ -139,8 +140,9 @@ fn sum_up<D: Disk, M: Media, J: HandedIn>(
         (D.faults result.disk) }
     ensures disk { result.disk ≡ ran.base.heap.cells.disk }
     ensures media { result.media ≡ ran.base.media }
-    ensures size { D.size result.disk ≡ J.was.size }
+    ensures tells { D.tells_crashes result.disk ≡ J.was.tells }
     ensures stays { StaysAsHanded J.was.bytes (D.bytes result.disk) ran.base.heap.cells.frame }
+    ensures holds { Holds D.bytes ran.base.heap.cells }
     ensures seen { D.moment result.disk ≡ ran.base.moment }
 {
     let end = end_of(&mut ran, question);

@@ -1,6 +1,6 @@
 // An opened disk.
 ghost use Rattle.std.specs.Prelude.{◌≡◌, ◌≤◌, ◌<◌, ◌+◌, ◌-◌, ◌*◌, ◌∷◌, [], ℕ, true, false};
-ghost use Rattle.std.specs.Prelude.{length, refl, IfOk, IfErr, OnOk, None};
+ghost use Rattle.std.specs.Prelude.{length, refl, IfOk, IfErr, IsErrOf, OnOk, None};
 ghost use Rattle.std.specs.List.{range_with_len};
 ghost use Rattle.std.proofs.Common.{◌∙◌};
 ghost use Rattle.sdr_base.specs.Cells.{is_among, with_lines, lines_of, TouchesLines};
@@ -236,6 +236,7 @@ impl<D: Disk> Image<D> {
             → Rests D.bytes D.tells_crashes D.moment D.may_hold_after self.new }
 
         ensures answered { IfRefused result (λ _. ⊥) }
+        ensures never { IsErrOf result Stop.DiskFault → ⊥ }
         ensures cause { HasReason (transaction_of D.faults self.old)
             (transaction_of D.faults self.new) result }
         ensures stays { StaysAt result self.old self.new }

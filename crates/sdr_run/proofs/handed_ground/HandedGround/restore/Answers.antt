@@ -34,7 +34,13 @@ returns-clause-still g c =
     let D = g.row.D.Denot in
     let M = g.row.M.Denot in
     subst (λ (o : Grounded D M). StaysQuiet o c.restore.new.self) c.self.view_is
-    (record { disk = c.restore.ensures.disk; frame = c.restore.ensures.inside.frame; media = c.restore.ensures.media })
+    (record {
+      disk = c.restore.ensures.disk;
+      frame = c.restore.ensures.inside.frame;
+      begun = c.restore.ensures.begun;
+      failed = c.restore.ensures.sound;
+      media = c.restore.ensures.media;
+    })
 
 pub returns-clause-seen : goal.returns-clause-seen
 returns-clause-seen g c =
@@ -44,4 +50,4 @@ returns-clause-seen g c =
 
 pub invariant_of-self : goal.invariant_of-self
 invariant_of-self g c =
-    stays_more g.D.Disk.bytes g.J.HandedIn.was.bytes c.self.inside.ground c.restore.new.self c.self.invariant c.restore.ensures.inside
+    stays_more g.D.Disk.bytes g.D.Disk.tells_crashes g.J.HandedIn.was.bytes c.self.inside.ground c.restore.new.self c.self.invariant c.restore.ensures.inside
