@@ -95,7 +95,7 @@ module _ {D M : Type 0} (told : Option Told) (call : Call) (reply : Reply) (ques
 -- nothing asked
 pub asks_nothing : {D M : Type 0} (g : Grounded D M) → IsAskable g → AsksOnly g g
 asks_nothing g ready = record {
-  still = record { disk = refl; frame = refl; media = refl };
+  still = record { disk = refl; frame = refl; begun = refl; failed = refl; media = refl };
   ready = ready;
   each = λ v at. record { for = v; holds = at; tells = record { now = refl; before = refl } };
 }
@@ -109,6 +109,8 @@ pub still_then : {D M : Type 0} (a b c : Grounded D M) → StaysQuiet a b → St
 still_then a b c first second = record {
   disk = second.disk ∙ first.disk;
   frame = second.frame ∙ first.frame;
+  begun = second.begun ∙ first.begun;
+  failed = second.failed ∙ first.failed;
   media = second.media ∙ first.media;
 }
 

@@ -2,7 +2,7 @@
 ghost use Rattle.std.specs.Prelude.{◌≡◌, ◌≤◌, ◌↔◌, IfErr, IfOk, false, filter, length, nat_le};
 ghost use Rattle.run_load.specs.Listed.{load_name};
 ghost use Rattle.run_load.specs.Loading.{LoadsOn, TellsEnd, load_daemons};
-ghost use Rattle.sdr_base.specs.Causes.{Rose};
+ghost use Rattle.sdr_image.specs.Opened.{Holds};
 ghost use Rattle.sdr_load.specs.Schedule.{script_for};
 ghost use Rattle.sdr_run.specs.Handed.{StaysAsHanded, handed_as};
 ghost use Rattle.sdr_run.specs.Quiet.{StaysQuiet};
@@ -29,8 +29,6 @@ pub enum LoadEnd {
     Starved,
     /// The disk failed in an entry.
     Failed,
-    /// The disk failed as what stands was read.
-    Unread,
 }
 
 /// What a load has come to.
@@ -107,8 +105,6 @@ fn end_of<D: Disk, M: Media, J: HandedIn>(
     requires finds { question.now ≡ Call.Find load_name }
     requires stands { ran.old.failed ≡ false → StandsSome ran.old.base }
     ensures end { TellsEnd ran.old result }
-    ensures fault { result ≡ LoadEnd.Unread → Rose (D.faults ran.old.base.heap.cells.disk)
-        (D.faults ran.new.base.heap.cells.disk) }
     ensures still { StaysQuiet ran.old.base ran.new.base }
     ensures others { ran.new ≡ record ran.old { base = ran.new.base } }
     ensures seen { D.moment ran.new.base.heap.cells.disk ≡ ran.new.base.moment
@@ -120,10 +116,8 @@ fn end_of<D: Disk, M: Media, J: HandedIn>(
     if ran.starved {
         return LoadEnd::Starved;
     }
-    match read_list(&mut ran.base, question) {
-        Ok(list) => LoadEnd::Summed(Summary::of(ran.journal.as_slice(), list)),
-        Err(_) => LoadEnd::Unread,
-    }
+    let list = read_list(&mut ran.base, question);
+    LoadEnd::Summed(Summary::of(ran.journal.as_slice(), list))
 }
 
 // What a load has come to that was run, by how it ended.
@@ -135,12 +129,11 @@ fn sum_up<D: Disk, M: Media, J: HandedIn>(
     requires stands { ran.failed ≡ false → StandsSome ran.base }
     ensures journal { result.journal ≡ ran.journal }
     ensures end { TellsEnd ran result.end }
-    ensures fault { result.end ≡ LoadEnd.Unread → Rose (D.faults ran.base.heap.cells.disk)
-        (D.faults result.disk) }
     ensures disk { result.disk ≡ ran.base.heap.cells.disk }
     ensures media { result.media ≡ ran.base.media }
-    ensures size { D.size result.disk ≡ J.was.size }
+    ensures tells { D.tells_crashes result.disk ≡ J.was.tells }
     ensures stays { StaysAsHanded J.was.bytes (D.bytes result.disk) ran.base.heap.cells.frame }
+    ensures holds { Holds D.bytes ran.base.heap.cells }
     ensures seen { D.moment result.disk ≡ ran.base.moment }
 {
     let end = end_of(&mut ran, question);

@@ -1,10 +1,9 @@
 // The list that a load leaves, read element by element.
-ghost use Rattle.std.specs.Prelude.{◌≡◌, ◌≤◌, ◌^◌, IfOk, OnErr};
+ghost use Rattle.std.specs.Prelude.{◌≡◌, ◌≤◌, ◌^◌};
 ghost use Rattle.run_load.specs.Asking.{AsksOnly, IsAskable};
 ghost use Rattle.run_load.specs.Listed.{bytes_named, elements_at, load_name};
 ghost use Rattle.run_load.specs.Reading.{HasList};
 ghost use Rattle.run_load.specs.Summing.{load_list};
-ghost use Rattle.sdr_base.specs.Causes.{Rose};
 ghost use Rattle.sdr_machine.specs.Standing.{GroundState};
 ghost use Rattle.sdr_run.specs.Quiet.{StaysQuiet};
 ghost use Rattle.sdr_station.specs.Grounded.{StandsInMemory, StandsSome};
@@ -13,7 +12,6 @@ use crate::asking::{count, datum, find, first, next, raw_bytes};
 use crate::summary::ListRead;
 use sdr_base::Media;
 use sdr_disk::Disk;
-use sdr_machine::Fault;
 use sdr_model::Call;
 use sdr_run::{HandedGround, HandedIn};
 
@@ -66,16 +64,14 @@ fn list_found<D: Disk, M: Media, J: HandedIn>(
 pub fn read_list<D: Disk, M: Media, J: HandedIn>(
     base: &mut HandedGround<D, M, J>,
     question: &Call,
-) -> Result<ListRead, Fault>
+) -> ListRead
     requires finds { question.now ≡ Call.Find load_name }
     requires stands { StandsSome base.old }
-    ensures list { IfOk result (λ list. (v : GroundState) → StandsInMemory base.old v →
-        list ≡ load_list v.before.world) }
-    ensures fault { OnErr result (Rose (D.faults base.old.heap.cells.disk)
-        (D.faults base.new.heap.cells.disk)) }
+    ensures list { (v : GroundState) → StandsInMemory base.old v →
+        result ≡ load_list v.before.world }
     ensures still { StaysQuiet base.old base.new }
     ensures seen { base.old.moment ≡ D.moment base.old.heap.cells.disk }
 {
-    base.restore()?;
-    Ok(list_found(base, question))
+    base.restore();
+    list_found(base, question)
 }

@@ -1,3 +1,2 @@
 pub mod AtLock
-pub mod Daemons
 pub mod Posted

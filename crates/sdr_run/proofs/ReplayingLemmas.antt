@@ -4,7 +4,7 @@ use Rattle.std.specs.Prelude.{◌↔◌}
 use Rattle.sdr_base.specs.Media.{Told}
 use Rattle.sdr_base.specs.declared.media.Media.{Ghosts as MediaGhosts}
 use Rattle.sdr_core.specs.CoreKept.{AreMadeBetween, BeginsOn, IsRunOf}
-use Rattle.sdr_disk.specs.Moments.{AtEach}
+use Rattle.sdr_disk.specs.Moments.{AtEach, Reads}
 use Rattle.sdr_disk.specs.Tells.{IfTells}
 use Rattle.sdr_disk.specs.declared.disk.Disk.{Ghosts as DiskGhosts}
 use Rattle.sdr_core.specs.Caused.{SeenMedia, from_to, seen_media}
@@ -18,7 +18,7 @@ use Rattle.sdr_machine.specs.Standing.{standing_at}
 use Rattle.sdr_machine.specs.declared.has_ground.HasGround.{Ghosts}
 use Rattle.sdr_log.specs.Calls.{KeepsDisk, KeepsRest}
 use Rattle.sdr_log.specs.Frame.{room_of}
-use Rattle.sdr_log.specs.Log.{put_back_of}
+use Rattle.sdr_log.specs.Log.{first_gate, put_back_of}
 use Rattle.sdr_log.specs.Logged.{GivesSame}
 use Rattle.sdr_model.specs.declared.journal.Entry.{Entry}
 use Rattle.sdr_model.specs.declared.script.ScriptStep.{ScriptStep}
@@ -47,9 +47,10 @@ pub opened_so : {D M : Type 0} (d : DiskGhosts D) (given disk : D) (files : M) (
     → d.may_hold_after g.heap.cells.disk (d.moment g.heap.cells.disk) (d.bytes g.heap.cells.disk)
     → KeepsRest (d.bytes given) (d.bytes g.heap.cells.disk) → d.faults given ≤ d.faults g.heap.cells.disk
     → d.moment given ≤ d.moment g.heap.cells.disk
+    → (first_gate (d.bytes given) ≡ 0 → Reads d.bytes d.tells_crashes d.moment d.may_hold_after given g.heap.cells.disk)
     → IfTells (d.tells_crashes given) (MayBeOpened (d.bytes given) (d.may_hold_after given (d.moment given))
     → AtEach d.moment d.may_hold_after given g.heap.cells.disk (GivesSame (d.bytes given))) → OpenedSo d disk files g
-opened_so {D} d given disk files g same with_media open_so keeps read rest later forward any_moment =
+opened_so {D} d given disk files g same with_media open_so keeps read rest later forward quiet any_moment =
     subst (λ (x : D). OpenedSo d x files g) same
     (record {
       with_media = with_media;
@@ -59,6 +60,7 @@ opened_so {D} d given disk files g same with_media open_so keeps read rest later
       rest = rest;
       later = later;
       forward = forward;
+      quiet = quiet;
       same = λ settled told. any_moment told (settled told);
     })
 
@@ -79,6 +81,7 @@ opened_unrun {D} d disk left files g why o left_is is =
       keeps = o.keeps;
       bytes = tt;
       outside = o.rest;
+      quiet = o.quiet;
       again = open_again d disk g errors.NoMemory o.open_so o.keeps.tells;
       any_moment = o.same;
       later = o.later;

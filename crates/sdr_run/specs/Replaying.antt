@@ -4,7 +4,7 @@ use Rattle.sdr_base.specs.Causes.{Rose}
 use Rattle.sdr_base.specs.Media.{Told}
 use Rattle.sdr_base.specs.declared.media.Media.{Ghosts as MediaGhosts}
 use Rattle.sdr_core.specs.CoreKept.{AreMadeBetween, RunStart}
-use Rattle.sdr_disk.specs.Moments.{AtEach}
+use Rattle.sdr_disk.specs.Moments.{AtEach, Reads}
 use Rattle.sdr_disk.specs.Pending.{IsSynced}
 use Rattle.sdr_disk.specs.Tells.{IfTells}
 use Rattle.sdr_disk.specs.declared.disk.Disk.{Ghosts as DiskGhosts}
@@ -111,6 +111,8 @@ pub record IsNotRun {D : Type 0} (d : DiskGhosts D) (disk disk' : D) (cause : Op
   pub bytes : LeavesBytes (d.bytes disk) (d.bytes disk') cause
   -- no byte outside the regions of which its head tells has changed, and none at all where it tells of none
   pub outside : KeepsRest (d.bytes disk) (d.bytes disk')
+  -- where no batch is open on it, it was only read
+  pub quiet : first_gate (d.bytes disk) ≡ 0 → Reads d.bytes d.tells_crashes d.moment d.may_hold_after disk disk'
   -- where the disk was settled, it may be handed in again, unless it failed as the first gate was being closed; and where the heap is
   -- damaged nothing is pending
   pub again : MayBeAgain d.bytes d.tells_crashes d.moment d.may_hold_after disk disk' cause

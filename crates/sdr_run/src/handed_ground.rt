@@ -27,8 +27,7 @@ impl<D: Disk, M: Media, J: HandedIn> Model for HandedGround<D, M, J> {
 }
 
 impl<D: Disk, M: Media, J: HandedIn> HandedGround<D, M, J> {
-    ghost use Rattle.std.specs.Prelude.{◌≡◌, OnErr, OnOk, false, true};
-    ghost use Rattle.sdr_base.specs.Causes.{Rose};
+    ghost use Rattle.std.specs.Prelude.{◌≡◌, false, true};
     ghost use Rattle.sdr_image.specs.Opened.{Holds};
     ghost use Rattle.sdr_machine.specs.Serving.{Brings, Calls, RollsBack};
     ghost use Rattle.sdr_model.specs.Reading.{is_reading, reads_media};
@@ -43,16 +42,17 @@ impl<D: Disk, M: Media, J: HandedIn> HandedGround<D, M, J> {
         HandedGround { ground }
     }
 
-    /// Rolls the open transaction back. It makes no call of the disk.
-    pub fn restore(&mut self) -> Result<(), Fault>
-        ensures back { OnOk result (Brings StandsInMemory self.old self.new RollsBack) }
-        ensures going { OnOk result (self.old.heap.cells.failed ≡ false → self.new.stopped ≡ false) }
-        ensures fault { OnErr result (Rose (D.faults self.old.heap.cells.disk)
-            (D.faults self.new.heap.cells.disk)) }
+    /// Rolls the open transaction back. It makes no call of the disk, and doesn't fail.
+    pub fn restore(&mut self)
+        ensures back { Brings StandsInMemory self.old self.new RollsBack }
+        ensures going { self.old.heap.cells.failed ≡ false → self.new.stopped ≡ false }
         ensures still { StaysQuiet self.old self.new }
         ensures seen { self.old.moment ≡ D.moment self.old.heap.cells.disk }
     {
-        self.ground.restore()
+        match self.ground.restore() {
+            Ok(()) => {}
+            Err(Fault) => unreachable!(),
+        }
     }
 
     /// Makes a call that reads, and asks no media, in a transaction in which none was stopped. It makes no call of the disk.

@@ -230,7 +230,7 @@ module _ {D M S K : Type 0} (d : DiskGhosts D) (m : MediaGhosts M) (s : SourceGh
   pub answers_load : (rounds : ℕ) (r : RunOutcome D M)
       → AnswersLoad rounds d m r.status disk r.disk files r.media r.journal (sink output) (sink output')
       → HaveFailed 0 0 (change_of m files r.media) → (k.faults output ≤ k.faults output') × (d.faults disk ≤ d.faults r.disk)
-      → KeepsDisk d.size d.bytes disk r.disk → AnswersForm d m s k (Some (forms.Load rounds)) disk files input input output output' r
+      → KeepsDisk d.bytes d.tells_crashes disk r.disk → AnswersForm d m s k (Some (forms.Load rounds)) disk files input input output output' r
   answers_load rounds r answers media later keeps =
       let never : r.status ≡ USAGE → ⊥ =
       load.never_usage d m rounds disk r.disk files r.media r.journal (sink output) (sink output') r.status answers.comes in

@@ -17,8 +17,8 @@ use Rattle.sdr_log.specs.Log.{put_back_of}
 use Rattle.sdr_model.specs.World.{World}
 use Rattle.sdr_model.specs.declared.journal.Entry.{Entry}
 use Rattle.sdr_model.specs.declared.script.ScriptStep.{ScriptStep}
-use Rattle.sdr_live.specs.declared.daemons.RanTotals.{RanTotals}
-use Rattle.sdr_live.specs.Daemons.{RunsOn}
+use Rattle.run_live.specs.declared.daemons.RanTotals.{RanTotals}
+use Rattle.run_live.specs.Daemons.{RunsOn}
 use Rattle.sdr_run.specs.Playing.{IsPrinted, ReplaysSteps}
 use Rattle.sdr_run.specs.Replaying.{RanOn}
 use Rattle.sdr_run.specs.Schedule.{run_text}

@@ -1,5 +1,5 @@
 -- What each form answers: by status, what was read, written and changed.
-use Rattle.std.specs.Prelude.{◌≡◌, ◌≢◌, ◌≤◌, ◌<◌, ◌↔◌, ◌⊎◌, ℕ, List, Option, Some, IsOk, IsErr, codes, ◌&&◌, MatchBool}
+use Rattle.std.specs.Prelude.{◌≡◌, ◌≢◌, ◌≤◌, ◌<◌, ◌↔◌, ◌⊎◌, ℕ, List, Option, Some, IsOk, IsErr, codes, ◌&&◌, MatchBool, length}
 use Rattle.std.specs.Io.KnownBytes.{Appends}
 use Rattle.sdr_base.specs.Causes.{Rose}
 use Rattle.sdr_base.specs.Media.{Told}

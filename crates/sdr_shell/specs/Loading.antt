@@ -30,7 +30,6 @@ TellsLoad rounds (ends.Summed summary) status sink sink' =
     ⊎ ((status ≡ OUTPUT_FAULT) × Rose sink.faults sink'.faults × AppendsPart sink.bytes sink'.bytes (summary_text rounds summary))
 TellsLoad rounds ends.Starved status sink sink' = (status ≡ NO_MEMORY) × Wrote sink sink' (codes "no memory\n")
 TellsLoad rounds ends.Failed status sink sink' = (status ≡ DISK_FAULT) × (sink' ≡ sink)
-TellsLoad rounds ends.Unread status sink sink' = (status ≡ DISK_FAULT) × (sink' ≡ sink)
 
 -- A load of so many rounds was run on the heap of the disk with these media, and memory was wanting in it or not. P tells of the state that it
 -- began with.
@@ -68,10 +67,6 @@ pub data LoadComesTo {D M : Type 0} (d : DiskGhosts D) (m : MediaGhosts M) (roun
   -- the disk failed in an entry, and nothing was written
   failed : status ≡ DISK_FAULT → is_sound journal ≡ false → (starved : Bool) → HadLoad d m rounds disk disk' files files' journal starved (λ first. ⊤)
       → sink' ≡ sink → LoadComesTo d m rounds status disk disk' files files' journal sink sink'
-  -- memory sufficed, the disk failed in no entry but as the list was read, and nothing was written
-  unread : status ≡ DISK_FAULT → is_sound journal ≡ true → Rose (d.faults disk) (d.faults disk')
-      → HadLoad d m rounds disk disk' files files' journal false (λ first. ⊤)
-      → sink' ≡ sink → LoadComesTo d m rounds status disk disk' files files' journal sink sink'
   -- memory was wanting in the run, the disk failed in no entry, and the last line tells so
   starved : status ≡ NO_MEMORY → is_sound journal ≡ true → HadLoad d m rounds disk disk' files files' journal true (λ first. ⊤)
       → Wrote sink sink' (codes "no memory\n") → LoadComesTo d m rounds status disk disk' files files' journal sink sink'
@@ -89,6 +84,6 @@ pub record AnswersLoad {D M : Type 0} (rounds : ℕ) (d : DiskGhosts D) (m : Med
       → (status ≡ DONE) ⊎ (status ≡ NOT_FORMATTED) ⊎ (status ≡ DAMAGED) ⊎ (status ≡ NO_MEMORY)
   -- each heap is taken for which a world stands
   pub taken :
-      (x heap : List ℕ) (w : World) (P : Pools) → d.bytes disk ≡ Some x → put_back_of x ≡ Some heap → StandsForWhole heap w P
+      (heap : List ℕ) (w : World) (P : Pools) → put_back_of (d.bytes disk) ≡ Some heap → StandsForWhole heap w P
       → ¬ Rose sink.faults sink'.faults → ¬ Rose (d.faults disk) (d.faults disk')
       → (status ≡ DONE) ⊎ (status ≡ NO_MEMORY)

@@ -5,13 +5,13 @@ use Rattle.sdr_stands.specs.Standing.{StandsForWhole}
 use Rattle.sdr_base.specs.Causes.{Rose}
 use Rattle.sdr_base.specs.Pools.{Pools}
 use Rattle.sdr_base.specs.Written.{AppendsPart}
-use Rattle.sdr_disk.specs.Moments.{AtEach}
+use Rattle.sdr_disk.specs.Moments.{AtEach, Reads}
 use Rattle.sdr_disk.specs.Pending.{IsSynced}
 use Rattle.sdr_disk.specs.Tells.{IfTells}
 use Rattle.sdr_disk.specs.declared.disk.Disk.{Ghosts as DiskGhosts}
 use Rattle.sdr_image.specs.Opening.{MayBeOpened}
 use Rattle.sdr_log.specs.Calls.{KeepsRest, PutsBack}
-use Rattle.sdr_log.specs.Log.{put_back_of}
+use Rattle.sdr_log.specs.Log.{first_gate, put_back_of}
 use Rattle.sdr_log.specs.Logged.{GivesSame}
 use Rattle.sdr_log.specs.declared.frame.Frame.{Frame}
 use Rattle.sdr_model.specs.World.{World}
@@ -75,10 +75,11 @@ pub data RecoversTo {D : Type 0} (d : DiskGhosts D) (status : ℕ) (disk disk' :
   shut : (why : OpenError) → status ≡ status_shut why → IsNotOpened d disk disk' why → Wrote sink sink' (line_shut why)
       → RecoversTo d status disk disk' sink sink'
 
--- What `recover` answers. Whatever its status, at each moment of the call a crash leaves what gives the same heap as before, or none as
--- before, where nothing was pending on the disk that was handed in, or a recovery of it was stopped.
+-- What `recover` answers. Whatever its status, a disk on which no batch is open was only read. At each moment of the call a crash leaves what
+-- gives the same heap as before, or none as before, where nothing was pending on the disk that was handed in, or a recovery of it was stopped.
 pub record AnswersRecover {D : Type 0} (d : DiskGhosts D) (status : ℕ) (disk disk' : D) (sink sink' : Seen) : Type 0 where
   pub comes : RecoversTo d status disk disk' sink sink'
+  pub quiet : first_gate (d.bytes disk) ≡ 0 → Reads d.bytes d.tells_crashes d.moment d.may_hold_after disk disk'
   pub any_moment : IfTells (d.tells_crashes disk) (MayBeOpened (d.bytes disk) (d.may_hold_after disk (d.moment disk))
       → AtEach d.moment d.may_hold_after disk disk' (GivesSame (d.bytes disk)))
   -- unless there is a fault, the status is by the heap that the disk gives

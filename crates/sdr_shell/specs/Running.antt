@@ -8,7 +8,7 @@ use Rattle.sdr_disk.specs.declared.disk.Disk.{Ghosts as DiskGhosts}
 use Rattle.sdr_machine.specs.Ground.{State}
 use Rattle.sdr_model.specs.declared.journal.Entry.{Entry}
 use Rattle.sdr_model.specs.declared.script.ScriptStep.{ScriptStep}
-use Rattle.sdr_live.specs.Daemons.{RunsDaemons}
+use Rattle.run_live.specs.Daemons.{RunsDaemons}
 use Rattle.sdr_shell.specs.Answers.{Seen}
 use Rattle.sdr_shell.specs.OnHeap.{AnswersOnHeap}
 use Rattle.sdr_text.specs.JournalText.{journal_text}

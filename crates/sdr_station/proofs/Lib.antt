@@ -1,5 +1,6 @@
 pub mod CameLemmas
 pub mod ClosingLemmas
+pub mod ForgettingLemmas
 pub mod GivenLemmas
 pub mod GivingLemmas
 pub mod GroundLemmas

@@ -1,5 +1,5 @@
 -- A heap on an image as the ground of a lock: what it stands for.
-use Rattle.std.specs.Prelude.{◌≡◌, ◌≤◌, ◌*◌, ℕ, Bool, true, false, List, length, Some}
+use Rattle.std.specs.Prelude.{◌≡◌, ◌≤◌, ◌*◌, ℕ, Bool, true, false, List, [], length, Some}
 use Rattle.sdr_stands.specs.Standing.{HeapStandsFor, StandsForWhole}
 use Rattle.sdr_base.specs.Entries.{Few}
 use Rattle.sdr_base.specs.KeptHeap.{KeepsRegion, block_in, root_in}
@@ -28,6 +28,10 @@ pub record Grounded (D M : Type 0) : Type 0 where
   pub idle : Bool
   pub moment : ℕ
   pub restored : ℕ
+
+-- the ground whose moves are forgotten, with memory for so many
+abbrev pub without_moves : {D M : Type 0} → Grounded D M → ℕ → Grounded D M
+without_moves g spare = record g { heap = record g.heap { moves = []; spare = spare } }
 
 -- its disk hasn't failed
 abbrev pub HasDiskSound : {D M : Type 0} → Grounded D M → Type 0

@@ -1,5 +1,6 @@
 -- A station: what its calls and events do.
-use Rattle.std.specs.Prelude.{◌≡◌, ◌==◌, ℕ, Bool, true, false, ⊤, Option, None, Some, Result, Ok, Err, nat_le, MatchBool, MatchOption}
+use Rattle.std.specs.Prelude.{◌≡◌, ◌≤◌, ◌+◌, ◌*◌, ◌==◌, ℕ, Bool, true, false, [], ⊤, Option, None, Some, Result, Ok, Err, length, nat_le}
+use Rattle.std.specs.Prelude.{MatchBool, MatchOption}
 use Rattle.sdr_base.specs.declared.refusal.Refusal.TheVariants as refusals
 use Rattle.sdr_base.specs.declared.stop.Stop.{Stop}
 use Rattle.sdr_base.specs.declared.stop.Stop.TheVariants as stops
@@ -7,6 +8,7 @@ use Rattle.sdr_machine.specs.Crash.{LeavesOr, is_kept}
 use Rattle.sdr_machine.specs.Lapses.{HasLapseCause}
 use Rattle.sdr_machine.specs.Nesting.{Inner, closing, deepened, nested, noted, unbegun}
 use Rattle.sdr_image.specs.Opened.{IsQuiet}
+use Rattle.sdr_image.specs.Saved.{calls_of}
 use Rattle.sdr_machine.specs.Serving.{Brings, Calls, KeepsGround, MeetsFault, Settles, SameStates, shown_in}
 use Rattle.sdr_machine.specs.Standing.{GroundState}
 use Rattle.sdr_machine.specs.declared.has_ground.HasGround.{Ghosts}
@@ -20,7 +22,7 @@ use Rattle.sdr_model.specs.declared.answer.Reply.TheVariants as replies
 use Rattle.sdr_model.specs.declared.call.Call.{Call}
 use Rattle.sdr_model.specs.declared.event.Event.{Event}
 use Rattle.sdr_station.specs.Giving.{reads_by}
-use Rattle.sdr_station.specs.Grounded.{Grounded, StandsInMemory}
+use Rattle.sdr_station.specs.Grounded.{Grounded, StandsInMemory, without_moves}
 use Rattle.sdr_station.specs.declared.error.Shut.{Shut}
 use Rattle.sdr_station.specs.declared.station.Closed.{Closed}
 use Rattle.sdr_station.specs.declared.station.Closed.TheVariants as closed
@@ -86,14 +88,18 @@ pub record Says {D M : Type 0} (g : Ghosts (Grounded D M)) (call : Call) (reply 
   pub unread : reads_by call reply ≡ false → new.ground.media ≡ old.ground.media
   pub keeps : KeepsGround g true old.ground new.ground
 
+-- a call that isn't made has no moves, and all else is as it was
+abbrev pub IsUnmade : {D M : Type 0} → Stationed D M → Stationed D M → Type 0
+IsUnmade old new = new ≡ record old { ground = without_moves old.ground new.ground.heap.spare }
+
 -- what a call does: it is a step, or is refused where the transaction is doomed, or fails after a disk fault
 abbrev pub SaysOr : {D M : Type 0} → Ghosts (Grounded D M) → Call → Reply → Stationed D M → Stationed D M → Type 0
 SaysOr g call reply old new =
     MatchOption old.failed
     (MatchOption old.nesting.doom
     (Says g call reply old new)
-    (λ by. (reply ≡ replies.Refused (refusals.Doomed by)) × (new ≡ old)))
-    (λ moment. (reply ≡ replies.Failed moment) × (new ≡ old))
+    (λ by. (reply ≡ replies.Refused (refusals.Doomed by)) × IsUnmade old new))
+    (λ moment. (reply ≡ replies.Failed moment) × IsUnmade old new)
 
 -- how an outermost close is told
 abbrev pub closed_as : Close → Closed
@@ -121,6 +127,13 @@ abbrev pub ClosesWith : {D M : Type 0} → Ghosts (Grounded D M) → Close → S
 ClosesWith g close old new (Ok told) = ClosesWell g close old new told
 ClosesWith g close old new (Err stop) = ClosesFailing g old new stop
 
+-- What a close asks of the disk: nothing where the transaction is put back or has touched no line, and else at most as many writes and
+-- syncs as a commit of so many lines.
+pub record AsksDisk {D M : Type 0} (g : Ghosts (Grounded D M)) (keeps : Bool) (old new : Grounded D M) : Type 0 where
+  pub unkept : keeps ≡ false → new.heap.cells.disk ≡ old.heap.cells.disk
+  pub still : old.heap.cells.touched ≡ [] → new.heap.cells.disk ≡ old.heap.cells.disk
+  pub calls : g.moment new ≤ g.moment old + 2 * calls_of (length old.heap.cells.touched)
+
 -- an outermost close, after which no transaction has begun
 pub record Closes {D M : Type 0} (g : Ghosts (Grounded D M)) (close : Close) (old new : Stationed D M)
     (result : Result Closed Stop) : Type 0 where
@@ -128,6 +141,7 @@ pub record Closes {D M : Type 0} (g : Ghosts (Grounded D M)) (close : Close) (ol
   pub nesting : new.nesting ≡ unbegun
   pub restored : new.ground.restored ≡ old.ground.restored
   pub media : new.ground.media ≡ old.ground.media
+  pub disk : AsksDisk g (is_kept close) old.ground new.ground
   pub keeps : KeepsGround g false old.ground new.ground
   pub any_moment : LeavesOr (is_kept close) g old.ground new.ground
 

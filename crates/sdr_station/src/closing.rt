@@ -1,10 +1,11 @@
 // How the transaction of a heap on an image closes.
-ghost use Rattle.std.specs.Prelude.{◌≡◌, ◌≤◌, false, OnErr, OnOk};
+ghost use Rattle.std.specs.Prelude.{◌≡◌, ◌≤◌, ◌+◌, ◌*◌, [], false, length, IsErrOf, OnErr, OnOk};
 ghost use Rattle.sdr_base.specs.Transaction.{HasReason, IfRefused};
 ghost use Rattle.sdr_disk.specs.Moments.{AtEach};
 ghost use Rattle.sdr_disk.specs.Tells.{IfTells};
 ghost use Rattle.sdr_image.specs.Changed.{GivesEither};
 ghost use Rattle.sdr_image.specs.Opened.{Rests, StaysAt, transaction_of};
+ghost use Rattle.sdr_image.specs.Saved.{calls_of};
 ghost use Rattle.sdr_log.specs.Calls.{KeepsDisk, KeepsOutside};
 ghost use Rattle.sdr_log.specs.Logged.{GivesHeap};
 ghost use Rattle.sdr_station.specs.Closing.{heap_committed, moves_left, heap_rolled_back};
@@ -28,7 +29,10 @@ pub fn commit<D: Disk>(heap: &mut Heap<Image<D>>) -> Result<(), Stop>
     ensures disk { KeepsDisk D.bytes D.tells_crashes heap.old.cells.disk heap.new.cells.disk }
     ensures inside { KeepsOutside heap.old.cells.frame (D.bytes heap.old.cells.disk)
         (D.bytes heap.new.cells.disk) }
+    ensures idle { heap.old.cells.touched ≡ [] → heap.new.cells.disk ≡ heap.old.cells.disk }
     ensures forward { D.moment heap.old.cells.disk ≤ D.moment heap.new.cells.disk }
+    ensures calls { D.moment heap.new.cells.disk
+        ≤ D.moment heap.old.cells.disk + 2 * calls_of (length heap.old.cells.touched) }
     ensures any_moment { heap.old.cells.failed ≡ false
         → Rests D.bytes D.tells_crashes D.moment D.may_hold_after heap.old.cells
         → IfTells (D.tells_crashes heap.old.cells.disk) (AtEach D.moment D.may_hold_after
@@ -51,6 +55,7 @@ pub fn cancel<D: Disk>(heap: &mut Heap<Image<D>>) -> Result<(), Stop>
     ensures cause { HasReason (transaction_of D.faults heap.old.cells)
         (transaction_of D.faults heap.new.cells) result }
     ensures stays { StaysAt result heap.old.cells heap.new.cells }
+    ensures never { IsErrOf result Stop.DiskFault → ⊥ }
     ensures disk { KeepsDisk D.bytes D.tells_crashes heap.old.cells.disk heap.new.cells.disk }
     ensures same { heap.new.cells.disk ≡ heap.old.cells.disk }
     ensures forward { D.moment heap.old.cells.disk ≤ D.moment heap.new.cells.disk }

@@ -1,7 +1,7 @@
 // A heap on an image as the ground of a lock.
-ghost use Rattle.std.specs.Prelude.{◌≡◌, ◌≤◌, false, true, length};
+ghost use Rattle.std.specs.Prelude.{◌≡◌, ◌≤◌, ◌+◌, ◌*◌, [], false, true, length};
 ghost use Rattle.std.specs.Prelude.{IfErr, IfOk, IsErrOf, OnErr, OnOk};
-ghost use Rattle.sdr_disk.specs.Moments.{AtEach};
+ghost use Rattle.sdr_disk.specs.Moments.{AtEach, Reads};
 ghost use Rattle.sdr_disk.specs.Tells.{IfTells};
 ghost use Rattle.sdr_image.specs.Opening.{MayBeOpened};
 ghost use Rattle.sdr_machine.specs.Crash.{LeavesBefore, LeavesEither};
@@ -9,12 +9,14 @@ ghost use Rattle.sdr_machine.specs.Lapses.{HasLapseCause};
 ghost use Rattle.sdr_machine.specs.Served.{GoesOnAfter};
 ghost use Rattle.sdr_machine.specs.Serving.{Brings, CallAsks, Calls, Commits, KeepsGround, MeetsFault, RollsBack, Shows};
 ghost use Rattle.sdr_image.specs.Opened.{Holds, IsQuiet};
+ghost use Rattle.sdr_image.specs.Saved.{calls_of};
 ghost use Rattle.sdr_machine.specs.Standing.{GroundState};
 ghost use Rattle.sdr_log.specs.Calls.{KeepsDisk, KeepsRest};
+ghost use Rattle.sdr_log.specs.Log.{first_gate};
 ghost use Rattle.sdr_log.specs.Logged.{GivesSame};
 ghost use Rattle.sdr_model.specs.Reading.{is_reading};
 ghost use Rattle.step_things.specs.Answering.{dooms};
-ghost use Rattle.sdr_station.specs.Grounded.{IsGoing, HasNoCalls, HasDiskSound, StandsInMemory, StaysInside};
+ghost use Rattle.sdr_station.specs.Grounded.{IsGoing, HasNoCalls, HasDiskSound, StandsInMemory, StaysInside, without_moves};
 ghost use Rattle.sdr_station.specs.Giving.{AsksMedia, GivesReply, reads_by};
 ghost use Rattle.sdr_station.specs.Opening.{ExplainsOpen, IsOfAudit, IsOfImage, IsOpen, LeavesBytes, MayBeAgain, disk_of};
 ghost use Rattle.sdr_station.specs.Opening.{media_of};
@@ -147,7 +149,8 @@ fn of_audit(why: AuditError) -> OpenError
 }
 
 impl<D: Disk, M: Media, F: Notify + Drop> HeapGround<D, M, F> {
-    /// Opens the heap on a disk. Where batches are open, their lines are put back. All memory is taken
+    /// Opens the heap on a disk. Where batches are open, their lines are put back, by a write for each and
+    /// three writes and syncs more; else the disk is only read. All memory is taken
     /// here. A crash on the way leaves the same heap as one before, where nothing is pending on the disk
     /// that is handed in, or a recovery of it was stopped. Each heap is opened for which a world stands, but for a
     /// fault or want of memory. The media are kept, and not read here.
@@ -169,7 +172,11 @@ impl<D: Disk, M: Media, F: Notify + Drop> HeapGround<D, M, F> {
         ensures again { IfErr result (λ shut. MayBeAgain D.bytes D.tells_crashes D.moment
             D.may_hold_after disk shut.disk shut.why) }
         ensures later { D.faults disk ≤ D.faults (disk_of result) }
+        ensures quiet { first_gate (D.bytes disk) ≡ 0
+            → Reads D.bytes D.tells_crashes D.moment D.may_hold_after disk (disk_of result) }
         ensures forward { D.moment disk ≤ D.moment (disk_of result) }
+        ensures calls { IfOk result (λ ground.
+            D.moment ground.heap.cells.disk ≤ D.moment disk + 2 * (ground.restored + 3)) }
         ensures any_moment { IfTells (D.tells_crashes disk)
             (MayBeOpened (D.bytes disk) (D.may_hold_after disk (D.moment disk))
             → AtEach D.moment D.may_hold_after disk (disk_of result) (GivesSame (D.bytes disk))) }
@@ -260,7 +267,8 @@ impl<D: Disk, M: Media, F: Notify + Drop> HeapGround<D, M, F> {
         }
     }
 
-    /// Keeps the open transaction, in which no call was stopped.
+    /// Keeps the open transaction, in which no call was stopped. Where it touched no line, it makes no call of the
+    /// disk, else a write for each line and seven writes and syncs more.
     pub fn save(&mut self) -> Result<(), Fault>
         requires going { self.old.stopped ≡ false }
         ensures memory { OnOk result (Brings StandsInMemory self.old self.new Commits) }
@@ -273,6 +281,10 @@ impl<D: Disk, M: Media, F: Notify + Drop> HeapGround<D, M, F> {
         ensures media { self.new.media ≡ self.old.media }
         ensures fault { OnErr result
             (MeetsFault ⟦<HeapGround<D, M, F> as HasGround>⟧ self.old self.new) }
+        ensures still { self.old.heap.cells.touched ≡ []
+            → self.new.heap.cells.disk ≡ self.old.heap.cells.disk }
+        ensures calls { self.new.moment
+            ≤ self.old.moment + 2 * calls_of (length self.old.heap.cells.touched) }
         ensures time { self.old.moment ≤ self.new.moment }
         ensures keeps { KeepsGround ⟦<HeapGround<D, M, F> as HasGround>⟧ false self.old self.new }
         ensures inside { StaysInside D.bytes D.tells_crashes self.old self.new }
@@ -295,20 +307,23 @@ impl<D: Disk, M: Media, F: Notify + Drop> HeapGround<D, M, F> {
         }
     }
 
-    /// Puts back what was before the open transaction. It makes no call of the disk.
+    /// Puts back what was before the open transaction. It makes no call of the disk, and doesn't fail.
     pub fn restore(&mut self) -> Result<(), Fault>
         ensures memory { OnOk result (Brings StandsInMemory self.old self.new RollsBack) }
         ensures put_back { OnOk result
             (Brings ⟦<HeapGround<D, M, F> as HasGround>⟧.stands self.old self.new RollsBack) }
         ensures disk { self.new.heap.cells.disk ≡ self.old.heap.cells.disk }
+        ensures begun { self.new.heap.cells.begun ≡ self.old.heap.cells.begun }
+        ensures moment { self.new.moment ≡ self.old.moment }
         ensures seen { self.old.moment ≡ D.moment self.old.heap.cells.disk }
         ensures going { OnOk result
             (self.old.heap.cells.failed ≡ false → self.new.stopped ≡ false) }
         ensures idle { OnOk result
             (self.old.heap.cells.failed ≡ false → self.new.idle ≡ true) }
-        ensures sound { OnOk result (self.new.heap.cells.failed ≡ self.old.heap.cells.failed) }
+        ensures sound { self.new.heap.cells.failed ≡ self.old.heap.cells.failed }
         ensures restored { self.new.restored ≡ self.old.restored }
         ensures media { self.new.media ≡ self.old.media }
+        ensures never { OnErr result ⊥ }
         ensures fault { OnErr result
             (MeetsFault ⟦<HeapGround<D, M, F> as HasGround>⟧ self.old self.new) }
         ensures time { self.old.moment ≤ self.new.moment }
@@ -324,16 +339,18 @@ impl<D: Disk, M: Media, F: Notify + Drop> HeapGround<D, M, F> {
                 self.idle = true;
                 Ok(())
             }
-            Err(Stop::DiskFault) => {
-                self.moment = moment_of(&mut self.heap);
-                self.stopped = true;
-                self.idle = false;
-                Err(Fault)
-            }
             Err(Stop::Failed) => Ok(()),
+            Err(Stop::DiskFault) => unreachable!(),
             Err(Stop::MediaFault) => unreachable!(),
             Err(Stop::Refused(_)) => unreachable!(),
         }
+    }
+
+    /// Forgets the moves of the last call. It makes no call of the disk.
+    pub fn forget(&mut self)
+        ensures { self.new ≡ without_moves self.old self.new.heap.spare }
+    {
+        self.heap.clear_moves();
     }
 
     /// Whether the ticket is there, and granted, where no transaction is open.
@@ -454,6 +471,10 @@ impl<D: Disk, M: Media, F: Notify + Drop> Backing for HeapGround<D, M, F> {
             (Brings ⟦<HeapGround<D, M, F> as HasGround>⟧.stands self.old self.new Commits) }
         ensures media { self.new.media ≡ self.old.media }
         ensures idle { OnOk result (HasNoCalls self.new) }
+        ensures still { self.old.heap.cells.touched ≡ []
+            → self.new.heap.cells.disk ≡ self.old.heap.cells.disk }
+        ensures calls { self.new.moment
+            ≤ self.old.moment + 2 * calls_of (length self.old.heap.cells.touched) }
         ensures memory { IsErrOf result Halt.Memory → self.new ≡ self.old }
         ensures never { IsErrOf result Halt.Memory → ⊥ }
         ensures fault { IsErrOf result Halt.Fault

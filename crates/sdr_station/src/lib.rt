@@ -11,7 +11,9 @@
 //! Proved: a heap on an image is a ground of the lock (`Backing for HeapGround`): each call is a step of the
 //! machine, and a crash at any moment leaves the world before the transaction or, in its end, that or the new
 //! one. Opening takes exactly the heaps that stand for a world (`opened`, `why`). `Station` nests transactions.
-//! A call makes no call of the disk, and a reading call touches no line (`quiet`, `lines`).
+//! A call makes no call of the disk, and a reading call touches no line (`quiet`, `lines`). Nor does a close that puts back, or that has
+//! touched no line; an end that keeps lines makes at most a write for each and seven writes and syncs more (`AsksDisk`). Opening only reads
+//! a disk on which no batch is open, and else makes a write for each line that it puts back and at most three writes and syncs more (`quiet`, `calls`).
 //! On every outcome a call asks media at most once for each extent that lies with them and of which it needs bytes, in the world for
 //! which the heap stands (`asks`); ends, cancels, exits and looks leave them (`media`).
 //! No byte outside the disk's regions changes (`inside`), and a disk that wasn't opened may be handed in again,

@@ -1,6 +1,6 @@
 // A transaction on the world that a disk keeps.
-ghost use Rattle.std.specs.Prelude.{◌≡◌, ◌≤◌, ◌<◌, ◌+◌, ◌/◌, None, false, true, IfErr, IfOk};
-ghost use Rattle.sdr_disk.specs.Moments.{AtEach};
+ghost use Rattle.std.specs.Prelude.{◌≡◌, ◌≤◌, ◌<◌, ◌+◌, ◌*◌, ◌/◌, None, false, true, IfErr, IfOk};
+ghost use Rattle.sdr_disk.specs.Moments.{AtEach, Reads};
 ghost use Rattle.sdr_disk.specs.Tells.{IfTells};
 ghost use Rattle.sdr_image.specs.Opened.{IsQuiet};
 ghost use Rattle.sdr_image.specs.Opening.{MayBeOpened};
@@ -8,11 +8,12 @@ ghost use Rattle.sdr_machine.specs.Crash.{LeavesBefore, LeavesOr, is_kept, commi
 ghost use Rattle.sdr_machine.specs.Nesting.{cancelled, closing, ended, unbegun};
 ghost use Rattle.sdr_model.specs.Reading.{is_reading};
 ghost use Rattle.sdr_log.specs.Calls.{KeepsDisk};
+ghost use Rattle.sdr_log.specs.Log.{first_gate};
 ghost use Rattle.sdr_log.specs.Logged.{GivesSame};
 ghost use Rattle.sdr_station.specs.Giving.{AsksMedia, Fills, GivesReply};
 ghost use Rattle.sdr_station.specs.Opening.{ExplainsOpen, IsOpen, LeavesBytes};
 ghost use Rattle.sdr_station.specs.Rooming.{MovesAtMost, TellsRoom};
-ghost use Rattle.sdr_station.specs.Stationed.{Begins, Closes, ClosesBy, HasRisen, IsTicketTold, LooksAt, SaysOr, StaysLooked};
+ghost use Rattle.sdr_station.specs.Stationed.{Begins, Closes, ClosesBy, HasRisen, IsTicketTold, IsUnmade, LooksAt, SaysOr, StaysLooked};
 ghost use Rattle.sdr_station.specs.Stationed.{closed_as, disk_under, media_under};
 
 use crate::HeapGround;
@@ -107,6 +108,11 @@ impl<D: Disk, M: Media, F: Notify + Drop> Station<D, M, F> {
         ensures bytes { IfErr result (λ shut.
             LeavesBytes (D.bytes disk) (D.bytes shut.disk) shut.why) }
         ensures later { D.faults disk ≤ D.faults (disk_under result) }
+        ensures quiet { first_gate (D.bytes disk) ≡ 0 → Reads D.bytes D.tells_crashes D.moment
+            D.may_hold_after disk (disk_under result) }
+        ensures forward { D.moment disk ≤ D.moment (disk_under result) }
+        ensures calls { IfOk result (λ s.
+            D.moment s.ground.heap.cells.disk ≤ D.moment disk + 2 * (s.ground.restored + 3)) }
         ensures any_moment { IfTells (D.tells_crashes disk)
             (MayBeOpened (D.bytes disk) (D.may_hold_after disk (D.moment disk))
             → AtEach D.moment D.may_hold_after disk (disk_under result) (GivesSame
@@ -195,7 +201,7 @@ impl<D: Disk, M: Media, F: Notify + Drop> Station<D, M, F> {
 
     /// Makes a call. Where it gives bytes, they are put at the front of the buffer, and the reply tells how many.
     ///
-    /// In a doomed transaction it is refused `Doomed`, and after a disk fault it answers `Failed`. Else it is refused as its
+    /// In a doomed transaction it is refused `Doomed`, and after a disk fault it answers `Failed`, both without moves. Else it is refused as its
     /// row has it, or for want of a block (`NoBlock`) or of log room (`LogFull`), which dooms where it is a change. A fault of
     /// media, or too few bytes of them (`SourceShort`), dooms nothing. Media are asked at most once for each extent that
     /// lies with them and of which the call needs bytes. It makes no call of the disk, and a reading call touches no line.
@@ -228,6 +234,13 @@ impl<D: Disk, M: Media, F: Notify + Drop> Station<D, M, F> {
         }
     }
 
+    // Forgets the moves of the call before one that isn't made.
+    fn leave_unmade(&mut self)
+        ensures { IsUnmade self.old self.new }
+    {
+        self.ground.forget();
+    }
+
     // Makes a call.
     fn reply(&mut self, call: &Call) -> Reply
         requires begun { 0 < self.old.nesting.depth }
@@ -243,9 +256,11 @@ impl<D: Disk, M: Media, F: Notify + Drop> Station<D, M, F> {
             self.old.ground self.new.ground }
     {
         if let Some(moment) = self.failed {
+            self.leave_unmade();
             return Reply::Failed { moment };
         }
         if let Some(by) = self.nesting.doom {
+            self.leave_unmade();
             return Reply::Refused(Refusal::Doomed { by });
         }
         let reply = self.ground.serve(call);
@@ -253,7 +268,7 @@ impl<D: Disk, M: Media, F: Notify + Drop> Station<D, M, F> {
         reply
     }
 
-    /// The moves of the last call that was made. One that is refused `Doomed` or answered `Failed` isn't.
+    /// The moves of the last call. One that is refused `Doomed` or answered `Failed` has none.
     pub fn moves(&self) -> &[Move]
         ensures { result.now ≡ self.now.ground.heap.moves }
     {

@@ -5,9 +5,9 @@ ghost use Rattle.sdr_base.specs.Objects.{Misses, OnlyFault, OnlyUnmoved};
 ghost use Rattle.sdr_base.specs.Wanting.{OnlyWanting};
 ghost use Rattle.sdr_base.specs.Works.{Looks, Spends};
 ghost use Rattle.sdr_base.specs.declared.kind.Kind.TheVariants as kinds;
-ghost use Rattle.zco_ref.specs.Counting.{Attaches, CountsUses, Detaches, DetachStops, TellsUses, count_field};
+ghost use Rattle.zco_ref.specs.Counting.{Attaches, CountsIn, CountsUses, Detaches, DetachStops, TellsUses, count_field};
 ghost use Rattle.zco_ref.specs.Going.{going};
-ghost use Rattle.zco_ref.specs.Kept.{IsFew, SomeAttached, SomeBelow, SomeFew};
+ghost use Rattle.zco_ref.specs.Kept.{IsFew, IsSource, SomeAttached, SomeBelow, SomeFew};
 
 use crate::dropping::vanish;
 use crate::seeing::see;
@@ -37,6 +37,18 @@ pub fn uses_of<O: Objects>(o: &mut O, source: Addr) -> Result<u64, Stop>
     let inbound = word(o, source, words::INBOUND)?;
     let outbound = word(o, source, words::OUTBOUND)?;
     Ok(inbound + outbound)
+}
+
+/// How many extents of an account's objects name a source.
+pub fn count_in<O: Objects>(o: &mut O, source: Addr, acct: Acct) -> Result<u64, Stop>
+    requires kept { KeepsSome (O.keeps o.old) }
+    requires source { IsSource ((O.heap o.old).blocks source) }
+    ensures given { IfOk result (CountsIn acct ((O.heap o.old).blocks source)) }
+    ensures refused { IfErr result (Misses ((O.heap o.old).blocks source) source kinds.Source) }
+    ensures looks { Looks O.HasHeap o.old o.new result }
+{
+    expect_kind(o, source, Kind::Source)?;
+    word(o, source, count_field(acct))
 }
 
 /// Counts an extent more of an account that names a source.

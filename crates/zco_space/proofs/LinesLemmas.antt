@@ -80,6 +80,14 @@ grants_then {T} {U} acct first t {a} {b} {c} {d} {v} {r} before same grant =
     ])
     (within_then before (within_then looked grant))
 
+-- the same, where more tickets are these and the granted one
+pub grants_next : {T U : Type 0} (acct : Acct) (first more : List Ticket) (t : Ticket) {a b c d : Transaction} {v : U} {r : Result T Stop} →
+    more ≡ first ++ t ∷ [] → TouchesWithin (serving_lines acct first) a b (Ok v) → c.touched ≡ b.touched →
+    TouchesWithin (grant_lines t.block ++ occupied_lines acct) c d r → TouchesWithin (serving_lines acct more) a d r
+grants_next {T} {U} acct first more t {a} {b} {c} {d} {v} {r} is before same grant =
+    subst (λ (l : List Ticket). TouchesWithin {T = T} (serving_lines acct l) a d r) (sym is)
+    (grants_then acct first t before same grant)
+
 -- so is a call that touches no line
 pub serves_same : {T U : Type 0} {own : List ℕ} {a b c : Transaction} {v : U} (r : Result T Stop) → TouchesWithin own a b (Ok v) →
     c.touched ≡ b.touched → TouchesWithin own a c r

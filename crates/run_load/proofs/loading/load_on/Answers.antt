@@ -54,4 +54,4 @@ returns-in-Ok-play_recorded-clause-ran g c =
     let e = c.sum_up.ensures in
     loaded g.D.Disk g.M.Media c.args.disk c.args.media c.args.rounds c.in-Ok.base g.J.HandedIn.condition
     c.requires.settled c.in-Ok.ensures.opened g.J.HandedIn.was c.requires.handed c.in-Ok-of.outset.steps c.in-Ok-of.ensures.steps _ _
-    c.in-Ok-play_recorded.ran c.sum_up.result c.in-Ok-play_recorded.ensures.ran e.journal e.end e.fault e.disk e.media e.size e.stays e.seen
+    c.in-Ok-play_recorded.ran c.sum_up.result c.in-Ok-play_recorded.ensures.ran e.journal e.end e.disk e.media e.holds e.tells e.stays e.seen

@@ -1,15 +1,14 @@
 -- The tickets are served one by one.
-use Rattle.std.proofs.Common.{◌∙◌, ◌+◌, List, ap, sym, subst, arith}
+use Rattle.std.proofs.Common.{◌∙◌, ◌+◌, ap, sym, arith}
 use Rattle.std.specs.Prelude.{Ok, Err}
 use Rattle.std.proofs.lemmas.Result.{err_from_is_err_and}
-use Rattle.sdr_base.specs.Cells.{TouchesWithin}
 use Rattle.sdr_base.proofs.WithinLemmas.{within_none, within_ok, within_stopped}
 use Rattle.sdr_base.proofs.WorksLemmas.{looks_looks, looks_works, works_more, works_ok, works_stopped, works_then}
 use Rattle.sdr_model.specs.Amounts.{are_within}
 use Rattle.sdr_model.specs.declared.accounts.Ticket.{Ticket}
 use Rattle.zco_acct.specs.Kept.{AmountsFit}
-use Rattle.zco_space.specs.Served.{serving_lines, waiting_tickets}
-use Rattle.zco_space.proofs.LinesLemmas.{grants_then, serves_same, serving_upto}
+use Rattle.zco_space.specs.Served.{waiting_tickets}
+use Rattle.zco_space.proofs.LinesLemmas.{grants_next, serves_same, serving_upto}
 use Rattle.zco_space.proofs.ServesLemmas.{count_below, count_most, goes_on, inside_here, passes, serves_all, serves_most, serves_some, some_here, sum_fits, taken_next, unmoved}
 use Rattle.zco_space.proofs.ServingLemmas.{starts}
 use Rattle.zco_space.proofs.serving.serve.Goals as goal
@@ -133,11 +132,9 @@ returns-in_err-taken-2-clause-lines g c =
     rw (p.1, p.2)
     (within_stopped _
     (serving_upto c.args.acct (c.loop-i.granted + 1) _ (waiting_tickets tickets) n
-    (subst (λ (l : List Ticket). TouchesWithin (serving_lines c.args.acct l) (g.O.HasHeap.transaction c.args.o.now)
-    (g.O.HasHeap.transaction c.grant.new.o) (Err _))
-    (sym (taken_next c.loop-i.invariant.serves k c.if-addr-eq0.false c.in_ok-here.ensures.told c.if-here.false))
-    (grants_then c.args.acct _ c.in_ok-here.here.ticket (c.loop-i.invariant.lines tickets k) c.in_ok-here.ensures.looks.touched
-    c.in_err-taken-2.ensures.lines))))
+    (grants_next c.args.acct _ _ c.in_ok-here.here.ticket
+    (taken_next c.loop-i.invariant.serves k c.if-addr-eq0.false c.in_ok-here.ensures.told c.if-here.false)
+    (c.loop-i.invariant.lines tickets k) c.in_ok-here.ensures.looks.touched c.in_err-taken-2.ensures.lines)))
 
 pub loop-i-preserved : goal.loop-i-preserved
 loop-i-preserved g c =
@@ -155,11 +152,9 @@ loop-i-preserved g c =
           c.in_ok-taken-2.ensures.works) (omega arith));
       lines = λ tickets k.
           within_ok
-          (subst (λ (l : List Ticket). TouchesWithin (serving_lines c.args.acct l) (g.O.HasHeap.transaction c.args.o.now)
-          (g.O.HasHeap.transaction c.grant.new.o) (Ok _))
-          (sym (taken_next c.loop-i.invariant.serves k c.if-addr-eq0.false c.in_ok-here.ensures.told c.if-here.false))
-          (grants_then c.args.acct _ c.in_ok-here.here.ticket (c.loop-i.invariant.lines tickets k)
-          c.in_ok-here.ensures.looks.touched c.in_ok-taken-2.ensures.lines));
+          (grants_next c.args.acct _ _ c.in_ok-here.here.ticket
+          (taken_next c.loop-i.invariant.serves k c.if-addr-eq0.false c.in_ok-here.ensures.told c.if-here.false)
+          (c.loop-i.invariant.lines tickets k) c.in_ok-here.ensures.looks.touched c.in_ok-taken-2.ensures.lines);
     }
 
 pub returns-clause-served : goal.returns-clause-served

@@ -24,9 +24,11 @@ returns-clause-still g c =
     (record {
       disk = c.serve.ensures.quiet.disk;
       frame = c.serve.ensures.quiet.frame;
+      begun = c.serve.ensures.quiet.begun;
+      failed = c.serve.ensures.quiet.failed;
       media = c.serve.ensures.unread (asks_none c.args.call.now c.serve.result c.requires.unasked);
     })
 
 pub invariant_of-self : goal.invariant_of-self
 invariant_of-self g c =
-    stays_more g.D.Disk.bytes g.J.HandedIn.was.bytes c.self.inside.ground c.serve.new.self c.self.invariant c.serve.ensures.inside
+    stays_more g.D.Disk.bytes g.D.Disk.tells_crashes g.J.HandedIn.was.bytes c.self.inside.ground c.serve.new.self c.self.invariant c.serve.ensures.inside

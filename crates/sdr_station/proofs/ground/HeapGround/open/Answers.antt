@@ -1,4 +1,4 @@
-use Rattle.std.proofs.Common.{◌∙◌, ap, false, sym, subst, true}
+use Rattle.std.proofs.Common.{arith, ◌∙◌, ap, false, sym, subst, true}
 use Rattle.sdr_disk.specs.Moments.{AtEach, Reads}
 use Rattle.sdr_disk.specs.Pending.{IsSynced}
 use Rattle.sdr_image.proofs.OutsideLemmas.{UnlessFault-then}
@@ -150,3 +150,28 @@ returns-in-Err-new-clause-inside g c =
     subst (λ (d : D). KeepsRest (g.D.Disk.bytes c.args.disk) (g.D.Disk.bytes d))
     (sym (c.into_disk-in-Err-new.ensures.disk ∙ ap (λ (i : Opened D). i.disk) c.in-Err-new.ensures.back ∙ c.check.ensures.reads.quiet.disk))
     c.in-Ok.ensures.inside
+
+pub returns-in-Err-check-clause-quiet : goal.returns-in-Err-check-clause-quiet
+returns-in-Err-check-clause-quiet g c gate =
+    subst (λ (d : g.row.D.Denot). Reads g.D.Disk.bytes g.D.Disk.tells_crashes g.D.Disk.moment g.D.Disk.may_hold_after c.args.disk d)
+    (sym (c.into_disk.ensures.disk ∙ c.check.ensures.reads.quiet.disk)) (c.in-Ok.ensures.quiet gate)
+
+pub returns-in-Ok-new-clause-quiet : goal.returns-in-Ok-new-clause-quiet
+returns-in-Ok-new-clause-quiet g c gate =
+    let D = g.row.D.Denot in
+    subst (λ (d : D). Reads g.D.Disk.bytes g.D.Disk.tells_crashes g.D.Disk.moment g.D.Disk.may_hold_after c.args.disk d)
+    (sym (ap (λ (h : Held (Opened D)). h.cells.disk) c.in-Ok-new.ensures.made ∙ c.check.ensures.reads.quiet.disk)) (c.in-Ok.ensures.quiet gate)
+
+pub returns-in-Err-new-clause-quiet : goal.returns-in-Err-new-clause-quiet
+returns-in-Err-new-clause-quiet g c gate =
+    let D = g.row.D.Denot in
+    subst (λ (d : D). Reads g.D.Disk.bytes g.D.Disk.tells_crashes g.D.Disk.moment g.D.Disk.may_hold_after c.args.disk d)
+    (sym (c.into_disk-in-Err-new.ensures.disk ∙ ap (λ (i : Opened D). i.disk) c.in-Err-new.ensures.back ∙ c.check.ensures.reads.quiet.disk))
+    (c.in-Ok.ensures.quiet gate)
+
+pub returns-in-Ok-new-clause-calls : goal.returns-in-Ok-new-clause-calls
+returns-in-Ok-new-clause-calls g c =
+    let D = g.row.D.Denot in
+    let m = g.D.Disk.moment in
+    let same = ap (λ (h : Held (Opened D)). m h.cells.disk) c.in-Ok-new.ensures.made ∙ ap m c.check.ensures.reads.quiet.disk in
+    omega (arith, same, c.in-Ok.ensures.calls, c.restored-restored.ensures)

@@ -1,12 +1,8 @@
-use Rattle.std.proofs.Common.{arith, ◌≡◌, ◌∙◌, ◌≤◌, true, ap, Err, false, refl, sym, subst}
-use Rattle.sdr_base.specs.Transaction.{Explains}
-use Rattle.sdr_base.specs.declared.stop.Stop.{Stop}
+use Rattle.std.proofs.Common.{arith, ◌≡◌, ◌∙◌, ◌≤◌, true, ap, false, refl, sym, subst}
 use Rattle.sdr_heap.specs.Noted.{Held}
-use Rattle.sdr_image.specs.Opened.{Opened, Rests, transaction_of}
-use Rattle.sdr_machine.specs.Crash.{LeavesBefore}
+use Rattle.sdr_image.specs.Opened.{Opened, Rests}
 use Rattle.sdr_machine.specs.Serving.{RollsBack}
-use Rattle.sdr_station.proofs.ClosingLemmas.{ClosesTo, back_ground, closes_back, leaves_back}
-use Rattle.sdr_station.proofs.GroundLemmas.{heap_ground}
+use Rattle.sdr_station.proofs.ClosingLemmas.{ClosesTo, back_ground, closes_back}
 use Rattle.sdr_station.proofs.InsideLemmas.{inside_same, stays_frame}
 use Rattle.sdr_station.specs.Grounded.{Grounded, StaysInside}
 use Rattle.sdr_station.proofs.ground.HeapGround.restore.Goals as goal
@@ -55,12 +51,16 @@ returns-in-Ok g c =
       memory = all.memory;
       put_back = all.brings;
       disk = ap (λ (h : Held (Opened D)). h.cells.disk) at.ensures.same ∙ e.same ∙ ap (λ (o : Grounded D M). o.heap.cells.disk) c.self.view_is;
+      begun = ap (λ (h : Held (Opened D)). h.cells.begun) (at.ensures.same ∙ e.ended)
+          ∙ ap (λ (o : Grounded D M). o.heap.cells.begun) c.self.view_is;
+      moment = at_now ∙ ap m e.same ∙ sym c.self.invariant.seen ∙ ap (λ (o : Grounded D M). o.moment) c.self.view_is;
       seen = subst (λ (o : Grounded D M). o.moment ≡ m o.heap.cells.disk) c.self.view_is c.self.invariant.seen;
       going = λ _. refl;
       idle = λ _. refl;
       sound = all.sound ∙ sym (ap (λ (o : Grounded D M). o.heap.cells.failed) (sym c.self.view_is) ∙ sound);
       restored = ap (λ (o : Grounded D M). o.restored) c.self.view_is;
       media = ap (λ (o : Grounded D M). o.media) c.self.view_is;
+      never = tt;
       fault = tt;
       time = all.time;
       keeps = all.keeps;
@@ -68,44 +68,6 @@ returns-in-Ok g c =
           (inside_same b t old new c.cancel.new.heap at.ensures.same (ap (λ (h : Held (Opened D)). h.cells.frame) e.ended) e.same);
       any_moment = all.any_moment;
     }
-
-pub returns-in-Err-DiskFault-clause-any_moment : goal.returns-in-Err-DiskFault-clause-any_moment
-returns-in-Err-DiskFault-clause-any_moment g c =
-    let D = g.row.D.Denot in
-    let M = g.row.M.Denot in
-    let b = g.D.Disk.bytes in
-    let t = g.D.Disk.tells_crashes in
-    let m = g.D.Disk.moment in
-    let l = g.D.Disk.may_hold_after in
-    let f = g.D.Disk.faults in
-    let n = g.M.Media in
-    let at = c.moment_of-self-inside-in-Err-DiskFault in
-    let e = c.in-Err-DiskFault.ensures in
-    let old : Grounded D M = record {
-      heap = c.self.inside.heap;
-      media = c.self.inside.media;
-      shown = c.self.inside.shown;
-      stopped = c.self.inside.stopped;
-      idle = c.self.inside.idle;
-      moment = c.self.inside.moment;
-      restored = c.self.inside.restored;
-    } in
-    let new : Grounded D M = record {
-      heap = at.new.heap;
-      media = c.self.inside.media;
-      shown = c.self.inside.shown;
-      stopped = true;
-      idle = false;
-      moment = at.result;
-      restored = c.self.inside.restored;
-    } in
-    let disk = c.cancel.new.heap.cells.disk in
-    let at_now = at.ensures.moment ∙ ap (λ (h : Held (Opened D)). m h.cells.disk) at.ensures.same in
-    let since : old.moment ≤ at.result = omega (arith, at_now, c.self.invariant.seen, e.forward) in
-    let sound : old.heap.cells.failed ≡ false = (subst (λ (s : Stop). Explains {T = Unit {0}} (transaction_of f old.heap.cells) (transaction_of f c.cancel.new.heap.cells) (Err s)) c.in-Err-DiskFault.field-0-is e.cause.explained).0 in
-    subst (λ (o : Grounded D M). LeavesBefore (heap_ground b t m f l n) o new) c.self.view_is
-    (leaves_back b t m f l n old disk at.result at_now since sound e.disk.tells _ (e.any_moment sound) new
-    (ap (λ (h : Held (Opened D)). h.cells.disk) at.ensures.same) refl (λ image p. p))
 
 pub invariant_of-self : goal.invariant_of-self
 invariant_of-self g c =
@@ -147,42 +109,6 @@ invariant_of-self g c =
     let closed = closes_back b t m f l n old disk at.result at_now since sound e.disk.tells _ (e.any_moment sound) new is c.self.invariant
     e.cause.later (λ rests. subst (λ (h : Held (Opened D)). Rests b t m l h.cells) e.ended (e.rests rests)) (λ image p. p) in
     closed.is_ground
-
-pub returns-in-Err-DiskFault-clause-time : goal.returns-in-Err-DiskFault-clause-time
-returns-in-Err-DiskFault-clause-time g c =
-    let was = ap (λ (o : Grounded g.row.D.Denot g.row.M.Denot). o.moment) c.self.view_is in
-    let at = c.moment_of-self-inside-in-Err-DiskFault in
-    let at_now = at.ensures.moment ∙ ap (λ (h : Held (Opened g.row.D.Denot)). g.D.Disk.moment h.cells.disk) at.ensures.same in
-    omega (arith, was, at_now, c.self.invariant.seen, c.in-Err-DiskFault.ensures.forward)
-
-pub returns-in-Err-DiskFault-clause-inside : goal.returns-in-Err-DiskFault-clause-inside
-returns-in-Err-DiskFault-clause-inside g c =
-    let D = g.row.D.Denot in
-    let M = g.row.M.Denot in
-    let b = g.D.Disk.bytes in
-    let t = g.D.Disk.tells_crashes in
-    let at = c.moment_of-self-inside-in-Err-DiskFault in
-    let e = c.in-Err-DiskFault.ensures in
-    let old : Grounded D M = record {
-      heap = c.self.inside.heap;
-      media = c.self.inside.media;
-      shown = c.self.inside.shown;
-      stopped = c.self.inside.stopped;
-      idle = c.self.inside.idle;
-      moment = c.self.inside.moment;
-      restored = c.self.inside.restored;
-    } in
-    let new : Grounded D M = record {
-      heap = at.new.heap;
-      media = c.self.inside.media;
-      shown = c.self.inside.shown;
-      stopped = true;
-      idle = false;
-      moment = at.result;
-      restored = c.self.inside.restored;
-    } in
-    subst (λ (o : Grounded D M). StaysInside b t o new) c.self.view_is
-    (inside_same b t old new c.cancel.new.heap at.ensures.same (stays_frame _ _ _ e.stays) e.same)
 
 pub returns-in-Err-Failed-clause-inside : goal.returns-in-Err-Failed-clause-inside
 returns-in-Err-Failed-clause-inside g c =

@@ -1,6 +1,7 @@
-use Rattle.std.proofs.Common.{arith, ◌≡◌, ◌∙◌, ◌≤◌, true, ap, false, refl, subst}
+use Rattle.std.proofs.Common.{arith, ◌≡◌, ◌∙◌, ◌≤◌, ◌+◌, ◌*◌, [], true, ap, false, length, refl, subst}
 use Rattle.sdr_heap.specs.Noted.{Held}
 use Rattle.sdr_image.specs.Opened.{Opened, Rests}
+use Rattle.sdr_image.specs.Saved.{calls_of}
 use Rattle.sdr_machine.specs.Crash.{LeavesEither}
 use Rattle.sdr_machine.specs.Serving.{Commits, MeetsFault}
 use Rattle.sdr_station.proofs.ClosingLemmas.{ClosesTo, closes_kept, kept_ground, leaves_either, meets_fault}
@@ -59,6 +60,10 @@ returns-in-Ok g c =
       restored = ap (λ (o : Grounded D M). o.restored) c.self.view_is;
       media = ap (λ (o : Grounded D M). o.media) c.self.view_is;
       fault = tt;
+      still = subst (λ (o : Grounded D M). o.heap.cells.touched ≡ [] → new.heap.cells.disk ≡ o.heap.cells.disk) c.self.view_is
+          (λ none. ap (λ (h : Held (Opened D)). h.cells.disk) at.ensures.same ∙ e.idle none);
+      calls = subst (λ (o : Grounded D M). new.moment ≤ o.moment + 2 * calls_of (length o.heap.cells.touched)) c.self.view_is
+          (omega (arith, e.calls, at_now, c.self.invariant.seen));
       time = all.time;
       keeps = all.keeps;
       inside = subst (λ (o : Grounded D M). StaysInside b t o new) c.self.view_is
@@ -209,3 +214,19 @@ returns-in-Err-clause-inside g c =
     } in
     subst (λ (o : Grounded D M). StaysInside b t o new) c.self.view_is
     (inside_closed b t old new c.commit.new.heap at.ensures.same (stays_frame _ _ _ e.stays) e.disk.tells e.inside)
+
+pub returns-in-Err-clause-still : goal.returns-in-Err-clause-still
+returns-in-Err-clause-still g c =
+    let D = g.row.D.Denot in
+    let at = c.moment_of-self-inside-in-Err in
+    subst (λ (o : Grounded D g.row.M.Denot). o.heap.cells.touched ≡ [] → at.new.heap.cells.disk ≡ o.heap.cells.disk) c.self.view_is
+    (λ none. ap (λ (h : Held (Opened D)). h.cells.disk) at.ensures.same ∙ c.in-Err.ensures.idle none)
+
+pub returns-in-Err-clause-calls : goal.returns-in-Err-clause-calls
+returns-in-Err-clause-calls g c =
+    let D = g.row.D.Denot in
+    let m = g.D.Disk.moment in
+    let at = c.moment_of-self-inside-in-Err in
+    let at_now = at.ensures.moment ∙ ap (λ (h : Held (Opened D)). m h.cells.disk) at.ensures.same in
+    subst (λ (o : Grounded D g.row.M.Denot). at.result ≤ o.moment + 2 * calls_of (length o.heap.cells.touched)) c.self.view_is
+    (omega (arith, c.in-Err.ensures.calls, at_now, c.self.invariant.seen))

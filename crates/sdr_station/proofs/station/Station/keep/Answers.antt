@@ -1,4 +1,4 @@
-use Rattle.std.proofs.Common.{◌∙◌, ap, refl, subst, Ok, Err, Some, ℕ}
+use Rattle.std.proofs.Common.{◌∙◌, ap, refl, subst, Ok, Err, Some, ℕ, true≢false}
 use Rattle.sdr_base.specs.declared.stop.Stop.TheVariants as stops
 use Rattle.sdr_model.specs.declared.answer.Close.TheVariants as closes
 use Rattle.sdr_station.proofs.GroundLemmas.{heap_ground}
@@ -23,6 +23,7 @@ returns-in-Ok g c =
       nesting = c.none-self-inside.ensures;
       restored = c.in-Ok.ensures.restored;
       media = c.in-Ok.ensures.media;
+      disk = record { unkept = λ unkept. absurd (true≢false unkept); still = c.in-Ok.ensures.still; calls = c.in-Ok.ensures.calls };
       keeps = c.in-Ok.ensures.keeps;
       any_moment = c.in-Ok.ensures.any_moment;
     })
@@ -39,6 +40,7 @@ returns-in-Err g c =
       nesting = c.none-self-inside-in-Err.ensures;
       restored = c.in-Err.ensures.restored;
       media = c.in-Err.ensures.media;
+      disk = record { unkept = λ unkept. absurd (true≢false unkept); still = c.in-Err.ensures.still; calls = c.in-Err.ensures.calls };
       keeps = c.in-Err.ensures.keeps;
       any_moment = c.in-Err.ensures.any_moment;
     })

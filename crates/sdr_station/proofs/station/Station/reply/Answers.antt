@@ -1,13 +1,12 @@
 use Rattle.std.proofs.Common.{◌≡◌, ◌∙◌, ap, arith, refl, sym, subst, true}
 use Rattle.sdr_image.specs.Opened.{IsQuiet}
-use Rattle.sdr_machine.proofs.GroundLemmas.{leaves_same}
 use Rattle.sdr_machine.proofs.ServedLemmas.{noted_depth}
 use Rattle.sdr_machine.proofs.WorkLemmas.{on_none}
 use Rattle.sdr_machine.specs.Crash.{LeavesBefore}
 use Rattle.sdr_machine.specs.declared.nesting.Nesting.{Nesting}
 use Rattle.sdr_model.specs.Reading.{is_reading}
+use Rattle.sdr_station.proofs.ForgettingLemmas.{unmade_asks, unmade_depth, unmade_leaves, unmade_lines, unmade_quiet}
 use Rattle.sdr_station.proofs.GroundLemmas.{heap_ground}
-use Rattle.sdr_station.proofs.MediaLemmas.{asks_none}
 use Rattle.sdr_station.proofs.StationLemmas.{undoomed_noted}
 use Rattle.sdr_station.specs.Giving.{AsksMedia}
 use Rattle.sdr_station.specs.Stationed.{SaysOr, Stationed}
@@ -51,26 +50,10 @@ invariant_of-self g c =
       sound = λ sound. c.serve-reply.ensures.sound;
     }
 
-pub returns-in-Some-clause-any_moment : goal.returns-in-Some-clause-any_moment
-returns-in-Some-clause-any_moment g c =
-    let h = heap_ground g.D.Disk.bytes g.D.Disk.tells_crashes g.D.Disk.moment g.D.Disk.faults g.D.Disk.may_hold_after g.M.Media in
-    leaves_same h c.args.self.now.ground
-
-pub returns-in-Some-doom-clause-any_moment : goal.returns-in-Some-doom-clause-any_moment
-returns-in-Some-doom-clause-any_moment g c =
-    let h = heap_ground g.D.Disk.bytes g.D.Disk.tells_crashes g.D.Disk.moment g.D.Disk.faults g.D.Disk.may_hold_after g.M.Media in
-    leaves_same h c.args.self.now.ground
-
 pub returns-clause-any_moment : goal.returns-clause-any_moment
 returns-clause-any_moment g c =
     let h = heap_ground g.D.Disk.bytes g.D.Disk.tells_crashes g.D.Disk.moment g.D.Disk.faults g.D.Disk.may_hold_after g.M.Media in
     subst (λ (s : Stationed g.row.D.Denot g.row.M.Denot). LeavesBefore h s.ground c.serve-reply.new.self) c.self.view_is c.serve-reply.ensures.any_moment
-
-pub returns-in-Some-clause-quiet : goal.returns-in-Some-clause-quiet
-returns-in-Some-clause-quiet g c = record { disk = refl; frame = refl; begun = refl; failed = refl; restored = refl; still_open = λ is. is }
-
-pub returns-in-Some-doom-clause-quiet : goal.returns-in-Some-doom-clause-quiet
-returns-in-Some-doom-clause-quiet g c = record { disk = refl; frame = refl; begun = refl; failed = refl; restored = refl; still_open = λ is. is }
 
 pub returns-clause-quiet : goal.returns-clause-quiet
 returns-clause-quiet g c =
@@ -82,13 +65,41 @@ returns-clause-lines g c =
     subst (λ (s : Stationed g.row.D.Denot g.row.M.Denot). is_reading c.args.call.now ≡ true
     → c.serve-reply.new.self.heap.cells.touched ≡ s.ground.heap.cells.touched) c.self.view_is c.serve-reply.ensures.lines
 
-pub returns-in-Some-clause-asks : goal.returns-in-Some-clause-asks
-returns-in-Some-clause-asks g c = asks_none g.M.Media c.args.call.now c.args.self.now.ground
-
-pub returns-in-Some-doom-clause-asks : goal.returns-in-Some-doom-clause-asks
-returns-in-Some-doom-clause-asks g c = asks_none g.M.Media c.args.call.now c.args.self.now.ground
-
 pub returns-clause-asks : goal.returns-clause-asks
 returns-clause-asks g c =
     subst (λ (s : Stationed g.row.D.Denot g.row.M.Denot). AsksMedia g.M.Media c.args.call.now s.ground c.serve-reply.new.self) c.self.view_is
     c.serve-reply.ensures.asks
+
+pub returns-in-Some-clause-any_moment : goal.returns-in-Some-clause-any_moment
+returns-in-Some-clause-any_moment g c =
+    let d = g.D.Disk in
+    unmade_leaves c.args.self.now c.leave_unmade.new.self c.leave_unmade.ensures d.bytes d.tells_crashes d.moment d.faults d.may_hold_after g.M.Media
+
+pub returns-in-Some-clause-quiet : goal.returns-in-Some-clause-quiet
+returns-in-Some-clause-quiet g c = unmade_quiet c.args.self.now c.leave_unmade.new.self c.leave_unmade.ensures
+
+pub returns-in-Some-clause-lines : goal.returns-in-Some-clause-lines
+returns-in-Some-clause-lines g c reads = unmade_lines c.args.self.now c.leave_unmade.new.self c.leave_unmade.ensures
+
+pub returns-in-Some-clause-depth : goal.returns-in-Some-clause-depth
+returns-in-Some-clause-depth g c = unmade_depth c.args.self.now c.leave_unmade.new.self c.leave_unmade.ensures
+
+pub returns-in-Some-clause-asks : goal.returns-in-Some-clause-asks
+returns-in-Some-clause-asks g c = unmade_asks c.args.self.now c.leave_unmade.new.self c.leave_unmade.ensures g.M.Media c.args.call.now
+
+pub returns-in-Some-doom-clause-any_moment : goal.returns-in-Some-doom-clause-any_moment
+returns-in-Some-doom-clause-any_moment g c =
+    let d = g.D.Disk in
+    unmade_leaves c.args.self.now c.leave_unmade-in-Some-doom.new.self c.leave_unmade-in-Some-doom.ensures d.bytes d.tells_crashes d.moment d.faults d.may_hold_after g.M.Media
+
+pub returns-in-Some-doom-clause-quiet : goal.returns-in-Some-doom-clause-quiet
+returns-in-Some-doom-clause-quiet g c = unmade_quiet c.args.self.now c.leave_unmade-in-Some-doom.new.self c.leave_unmade-in-Some-doom.ensures
+
+pub returns-in-Some-doom-clause-lines : goal.returns-in-Some-doom-clause-lines
+returns-in-Some-doom-clause-lines g c reads = unmade_lines c.args.self.now c.leave_unmade-in-Some-doom.new.self c.leave_unmade-in-Some-doom.ensures
+
+pub returns-in-Some-doom-clause-depth : goal.returns-in-Some-doom-clause-depth
+returns-in-Some-doom-clause-depth g c = unmade_depth c.args.self.now c.leave_unmade-in-Some-doom.new.self c.leave_unmade-in-Some-doom.ensures
+
+pub returns-in-Some-doom-clause-asks : goal.returns-in-Some-doom-clause-asks
+returns-in-Some-doom-clause-asks g c = unmade_asks c.args.self.now c.leave_unmade-in-Some-doom.new.self c.leave_unmade-in-Some-doom.ensures g.M.Media c.args.call.now

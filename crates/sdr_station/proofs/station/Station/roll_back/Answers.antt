@@ -2,7 +2,7 @@ use Rattle.std.proofs.Common.{◌∙◌, ap, refl, subst, Ok, Err, Some, ℕ}
 use Rattle.sdr_base.specs.declared.stop.Stop.TheVariants as stops
 use Rattle.sdr_station.proofs.GroundLemmas.{heap_ground}
 use Rattle.sdr_station.specs.Stationed.{Closes, Stationed}
-use Rattle.sdr_station.proofs.StationLemmas.{leaves_unkept, settles_back}
+use Rattle.sdr_station.proofs.StationLemmas.{asks_nothing, leaves_unkept, settles_back}
 use Rattle.sdr_station.proofs.station.Station.roll_back.Goals as goal
 
 pub returns-in-Ok : goal.returns-in-Ok
@@ -23,6 +23,7 @@ returns-in-Ok g c =
       nesting = c.none-self-inside.ensures;
       restored = c.in-Ok.ensures.restored;
       media = c.in-Ok.ensures.media;
+      disk = asks_nothing h close old.ground new.ground c.in-Ok.ensures.disk c.in-Ok.ensures.moment;
       keeps = c.in-Ok.ensures.keeps;
       any_moment = leaves_unkept h close old.ground new.ground c.requires.unkept c.in-Ok.ensures.any_moment;
     })
@@ -40,6 +41,7 @@ returns-in-Err g c =
       nesting = c.none-self-inside-in-Err.ensures;
       restored = c.in-Err.ensures.restored;
       media = c.in-Err.ensures.media;
+      disk = asks_nothing h close old.ground new.ground c.in-Err.ensures.disk c.in-Err.ensures.moment;
       keeps = c.in-Err.ensures.keeps;
       any_moment = leaves_unkept h close old.ground new.ground c.requires.unkept c.in-Err.ensures.any_moment;
     })

@@ -1,10 +1,10 @@
 use Rattle.std.proofs.Common.{◌∙◌, List, ℕ, ap, subst, sym}
 use Rattle.sdr_core.specs.CoreKept.{BeginsOn}
-use Rattle.sdr_live.specs.Daemons.{RunsOnGround}
+use Rattle.run_live.specs.Daemons.{RunsOnGround}
 use Rattle.sdr_model.specs.declared.script.ScriptStep.{ScriptStep}
-use Rattle.sdr_live.proofs.RunsLemmas.{fresh_core}
+use Rattle.run_live.proofs.RunsLemmas.{fresh_core}
 use Rattle.sdr_words.specs.Daemons.{daemons_of}
-use Rattle.sdr_live.proofs.daemons.run_on_ground.Goals as goal
+use Rattle.run_live.proofs.daemons.run_on_ground.Goals as goal
 
 pub new-requires-clause-begins : goal.new-requires-clause-begins
 new-requires-clause-begins g c =

@@ -1,5 +1,5 @@
 use Rattle.sdr_run.specs.Replaying.{begins_on}
-use Rattle.sdr_live.proofs.daemons.run_on.Given as goal
+use Rattle.run_live.proofs.daemons.run_on.Given as goal
 
 -- the heap that was just opened
 abbrev pub ghosts-run_on_ground : goal.ghosts-run_on_ground

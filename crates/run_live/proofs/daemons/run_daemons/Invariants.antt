@@ -1,6 +1,6 @@
 use Rattle.sdr_run.specs.Handed.{handed_as}
 use Rattle.sdr_run.specs.Replaying.{IsSettled}
-use Rattle.sdr_live.proofs.daemons.run_daemons.Given as goal
+use Rattle.run_live.proofs.daemons.run_daemons.Given as goal
 
 -- the disk that is handed in
 abbrev pub ghosts-run_on-J-HandedIn : goal.ghosts-run_on-J-HandedIn

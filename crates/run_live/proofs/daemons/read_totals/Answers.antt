@@ -5,7 +5,7 @@ use Rattle.sdr_board.specs.Known.{Published, Seen}
 use Rattle.sdr_board.specs.Totals.{totals}
 use Rattle.sdr_board.specs.declared.totals.Totals.{Totals}
 use Rattle.sdr_model.specs.declared.journal.Entry.{Entry}
-use Rattle.sdr_live.proofs.daemons.read_totals.Goals as goal
+use Rattle.run_live.proofs.daemons.read_totals.Goals as goal
 
 pub returns-then-totals-journal : goal.returns-then-totals-journal
 returns-then-totals-journal c =

@@ -6,7 +6,7 @@ use Rattle.sdr_board.specs.Totals.{totals}
 use Rattle.sdr_core.specs.Caused.{EntriesAreCaused, MediaChange, media_change}
 use Rattle.sdr_core.specs.CoreKept.{IsRunOf, RunStart}
 use Rattle.sdr_daemon.specs.Scripts.{KeepsToScripts, is_memory_leave}
-use Rattle.sdr_live.specs.declared.daemons.RanTotals.{RanTotals}
+use Rattle.run_live.specs.declared.daemons.RanTotals.{RanTotals}
 use Rattle.sdr_disk.specs.declared.disk.Disk.{Ghosts as DiskGhosts}
 use Rattle.sdr_machine.specs.Crash.{is_sound}
 use Rattle.sdr_machine.specs.Ground.{State}

@@ -1,6 +1,6 @@
 use Rattle.std.proofs.Common.{◌∙◌, ap}
 use Rattle.sdr_board.specs.Totals.{totals}
-use Rattle.sdr_live.proofs.daemons.run_on_board.Goals as goal
+use Rattle.run_live.proofs.daemons.run_on_board.Goals as goal
 
 pub returns : goal.returns
 returns g c =

@@ -9,8 +9,8 @@ use Rattle.sdr_daemon.specs.Progressing.{IsFresh}
 use Rattle.sdr_daemon.specs.Scripts.{KeepsToScripts}
 use Rattle.sdr_disk.specs.declared.disk.Disk.{Ghosts as DiskGhosts}
 use Rattle.sdr_image.specs.Opened.{Holds}
-use Rattle.sdr_live.specs.Daemons.{RunsDaemons, RunsOn, RunsOnGround}
-use Rattle.sdr_live.specs.declared.daemons.RanTotals.{RanTotals}
+use Rattle.run_live.specs.Daemons.{RunsDaemons, RunsOn, RunsOnGround}
+use Rattle.run_live.specs.declared.daemons.RanTotals.{RanTotals}
 use Rattle.sdr_machine.specs.Roll.{first_roll}
 use Rattle.sdr_machine.specs.declared.has_ground.HasGround.{Ghosts}
 use Rattle.sdr_model.specs.declared.script.ScriptStep.{ScriptStep}

@@ -1,8 +1,8 @@
 use Rattle.std.proofs.Common.{◌∙◌, ap}
-use Rattle.sdr_live.proofs.RunsLemmas.{daemons_ran}
+use Rattle.run_live.proofs.RunsLemmas.{daemons_ran}
 use Rattle.sdr_run.proofs.ReplayingLemmas.{begins_opened, opened_unrun}
 use Rattle.sdr_station.specs.Grounded.{Grounded}
-use Rattle.sdr_live.proofs.daemons.run_on.Goals as goal
+use Rattle.run_live.proofs.daemons.run_on.Goals as goal
 
 pub run_on_ground-requires-clause-begins : goal.run_on_ground-requires-clause-begins
 run_on_ground-requires-clause-begins g c lives outlive =
