@@ -6,7 +6,7 @@ use Rattle.std.proofs.lemmas.Bool.{cases_eq}
 use Rattle.std.proofs.lemmas.Bool.Decides.{nat_tests}
 use Rattle.std.proofs.lemmas.Grind.{common_steps}
 use Rattle.std.proofs.lemmas.List.{length-set, map-append}
-use Rattle.std.proofs.lemmas.List.Sorted.{length_permutation}
+use Rattle.std.proofs.lemmas.List.Sorted.{IsPermutation-append_left, IsPermutation-trans, length_permutation}
 use Rattle.sdr_base.specs.Cells.{is_among}
 use Rattle.sdr_base.specs.Parts.{overwrite, part}
 use Rattle.sdr_base.proofs.PartsLemmas.{length-overwrite, length-part}
@@ -243,6 +243,16 @@ module _ (f : Frame) (begun : List ℕ) (lines : Lines) (x : List ℕ) (s : Stan
         other false is ne was = was
         other true is ne was = absurd (ne (grind (arith, nat_tests, is)))
 
+    entered_permuted : IsPermutation (lines_named (s.records ++ (lines.buffer.olds ++ o ∷ []))) (touched_in l.marks)
+    entered_permuted =
+        let names = lines_named (s.records ++ lines.buffer.olds) in
+        let split : names ++ line ∷ [] ≡ lines_named (s.records ++ (lines.buffer.olds ++ o ∷ [])) =
+        sym (map-append (λ (r : Record). r.line) (s.records ++ lines.buffer.olds) (o ∷ []))
+        ∙ ap lines_named (append_assoc s.records lines.buffer.olds (o ∷ [])) in
+        subst (λ (ns : List ℕ). IsPermutation ns (touched_in l.marks)) split
+        (IsPermutation-trans (names ++ line ∷ []) (touched_in lines.marks ++ line ∷ []) (touched_in l.marks)
+        (IsPermutation-append_left (line ∷ []) names (touched_in lines.marks) s.permuted) entered_touched)
+
     pub entered_stands : Stands f begun l x
     entered_stands = record {
       records = s.records;
@@ -257,6 +267,8 @@ module _ (f : Frame) (begun : List ℕ) (lines : Lines) (x : List ℕ) (s : Stan
       room = omega (arith, place, s.room);
       many = logged ∙ s.many;
       few = omega (arith, touched_more, few);
+      permuted = subst (λ (c : Changes). IsPermutation (lines_named (s.records ++ c.olds)) (touched_in l.marks)) (sym buffer)
+          entered_permuted;
       clean = subst (λ (ms : List Stand). AreClean f x ms l.cache) (sym marks) clean_now;
     }
 
@@ -378,6 +390,7 @@ module _ (f : Frame) (begun : List ℕ) (lines : Lines) (x : List ℕ) (s : Stan
     room = s.room;
     many = s.many;
     few = s.few;
+    permuted = s.permuted;
     clean = s.clean;
   }
 
@@ -439,6 +452,7 @@ module _ (f : Frame) (begun : List ℕ) (lines : Lines) (x : List ℕ) (s : Stan
       room = s.room;
       many = s.many;
       few = s.few;
+      permuted = s.permuted;
       clean = through_cached;
     }
 

@@ -1,5 +1,6 @@
 pub mod BufferLemmas
 pub mod CacheLemmas
+pub mod ChangedLemmas
 pub mod EndedLemmas
 pub mod EnteredLemmas
 pub mod FaultedLemmas

@@ -1,9 +1,9 @@
 -- How the lines of a transaction come to rest.
 use Rattle.std.proofs.Common.{◌≡◌, ◌<◌, ◌∙◌, ℕ, ◌+◌, ◌*◌, true, false, List, [], ◌∷◌, length, refl, sym, ap, subst, arith}
 use Rattle.std.proofs.Common.{true≢false}
-use Rattle.std.specs.Prelude.{Contains, replicate}
+use Rattle.std.specs.Prelude.{IsPermutation, Contains, replicate}
 use Rattle.std.proofs.lemmas.List.{length-map, length-replicate}
-use Rattle.std.proofs.lemmas.List.Sorted.{length_permutation}
+use Rattle.std.proofs.lemmas.List.Sorted.{IsPermutation-refl, length_permutation}
 use Rattle.std.specs.Prelude.{Vec}
 use Rattle.std.specs.declared.alloc.Global.{Global}
 use Rattle.sdr_base.specs.Parts.{part}
@@ -71,6 +71,8 @@ rested f bytes y l e place logged buffer n marks cached = record {
     room = omega (arith, place);
     many = logged;
     few = omega (arith, ap length none);
+    permuted = subst (λ (c : Changes). IsPermutation (lines_named c.olds) (touched_in l.marks)) (sym buffer)
+        (subst (IsPermutation []) (sym none) (IsPermutation-refl []));
     clean = λ e has. (cached e has, ap is_clean (all_clean e.0));
   };
   untouched = none;

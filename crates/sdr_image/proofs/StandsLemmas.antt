@@ -4,7 +4,8 @@ use Rattle.std.proofs.Common.{drop, length, get_or, refl, sym, ap, subst, arith,
 use Rattle.std.specs.Prelude.{IfOk, OnOk, Result, Ok, Err, unwrap_or, IsPermutation, Contains}
 use Rattle.std.specs.List.{All}
 use Rattle.std.proofs.lemmas.Bool.Decides.{nat_tests}
-use Rattle.std.proofs.lemmas.List.Sorted.{All-permutation, IsPermutation-append_right, length_permutation}
+use Rattle.std.proofs.lemmas.List.Sorted.{All-permutation, IsPermutation-append_right, IsPermutation-map}
+use Rattle.std.proofs.lemmas.List.Sorted.{IsPermutation-sym, IsPermutation-trans, length_permutation}
 use Rattle.sdr_base.specs.Parts.{part}
 use Rattle.sdr_log.specs.Batch.{batch_size, with_batch}
 use Rattle.sdr_log.specs.Calls.{AreBelow, AreNamed, HasPlace, with_records}
@@ -184,6 +185,15 @@ module _ (f : Frame) (begun : List ℕ) (lines : Lines) (x : List ℕ) (s : Stan
     news_good : are_good f.heap_lines lines.buffer.news ≡ true
     news_good = are_good-lines f.heap_lines lines.buffer.news lines.buffer.olds s.same olds_good
 
+    -- they are the touched lines still
+    pub risen_permuted : IsPermutation (lines_named (s.records ++ risen.olds)) (touched_in lines.marks)
+    risen_permuted =
+        let all = IsPermutation-append_right s.records lines.buffer.olds risen.olds r.olds in
+        IsPermutation-trans (lines_named (s.records ++ risen.olds)) (lines_named (s.records ++ lines.buffer.olds))
+        (touched_in lines.marks)
+        (IsPermutation-sym (lines_named (s.records ++ lines.buffer.olds)) (lines_named (s.records ++ risen.olds))
+        (IsPermutation-map (λ (o : Record). o.line) (s.records ++ lines.buffer.olds) (s.records ++ risen.olds) all)) s.permuted
+
     pub risen_marks : (line : ℕ) → names_line risen.olds line ≡ true → line < length lines.marks
     risen_marks line named =
         let good = good_behind f.heap_lines s.records risen.olds (risen_may (Just x) s.may.keeps).good in
@@ -295,6 +305,11 @@ module _ (f : Frame) (begun : List ℕ) (lines : Lines) (x : List ℕ) (s : Stan
           room = omega (arith, place, s.room, some, risen_long, length-append s.records risen.olds);
           many = omega (arith, logged, s.many, length-append s.records risen.olds);
           few = omega (arith, ap length spilled_touched, s.few);
+          permuted = subst (λ (c : Changes). IsPermutation (lines_named ((s.records ++ risen.olds) ++ c.olds)) (touched_in l.marks))
+              (sym empty)
+              (subst (λ (rs : List Record). IsPermutation (lines_named rs) (touched_in l.marks))
+              (sym (append-nil (s.records ++ risen.olds)))
+              (subst (IsPermutation (lines_named (s.records ++ risen.olds))) (sym spilled_touched) risen_permuted));
           clean = spilled_cached;
         }
 

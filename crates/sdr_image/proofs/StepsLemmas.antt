@@ -25,6 +25,7 @@ recached f begun lines x cache s clean = record {
   room = s.room;
   many = s.many;
   few = s.few;
+  permuted = s.permuted;
   clean = clean;
 }
 

@@ -1,4 +1,5 @@
 pub mod Buffer
+pub mod Changed
 pub mod Format
 pub mod Lines
 pub mod Marks

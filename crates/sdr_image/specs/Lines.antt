@@ -1,5 +1,5 @@
 -- Where the lines of an opened disk stand while a transaction is open, and what stands on the disk then.
-use Rattle.std.specs.Prelude.{◌≡◌, ◌≤◌, ◌<◌, ◌+◌, ◌-◌, ◌*◌, ℕ, Bool, true, List, [], length, map, get_or, Contains, unwrap_or, replicate}
+use Rattle.std.specs.Prelude.{◌≡◌, ◌≤◌, ◌<◌, ◌+◌, ◌-◌, ◌*◌, ℕ, Bool, true, List, [], length, map, get_or, Contains, unwrap_or, replicate, IsPermutation, ◌++◌}
 use Rattle.std.specs.List.{range_with_len}
 use Rattle.sdr_base.specs.Cells.{lines_of}
 use Rattle.sdr_base.specs.Parts.{part}
@@ -66,6 +66,7 @@ pub record Stands (f : Frame) (begun : List ℕ) (lines : Lines) (x : List ℕ) 
   pub room : lines.place ≤ 73 * length records
   pub many : lines.logged ≡ length records
   pub few : length (touched_in lines.marks) ≤ room_of f
+  pub permuted : IsPermutation (lines_named (records ++ lines.buffer.olds)) (touched_in lines.marks)
   pub clean : AreClean f x lines.marks lines.cache
 
 -- all that is pending on a disk of these bytes is logged, and opening it gives these bytes

@@ -6,8 +6,10 @@ ghost use Rattle.sdr_disk.specs.Pending.{IsSynced};
 ghost use Rattle.sdr_disk.specs.Tells.{IfTells};
 ghost use Rattle.sdr_log.specs.Calls.{KeepsDisk, KeepsOutside};
 ghost use Rattle.sdr_log.specs.Frame.{LieInside};
+ghost use Rattle.sdr_log.specs.Log.{first_gate};
 ghost use Rattle.sdr_log.specs.Logged.{GivesHeap};
 ghost use Rattle.sdr_log.specs.Spilled.{Ends, GivesEither, Just};
+ghost use Rattle.sdr_image.specs.Changed.{HasChanged};
 ghost use Rattle.sdr_image.specs.Lines.{IsLines, IsRested, IsUntouched, Keeps, Stands, begun_of, now_of};
 ghost use Rattle.sdr_image.specs.Marks.{touched_in};
 
@@ -36,6 +38,10 @@ fn close_all<D: Disk>(disk: &mut D, frame: Frame, lines: &mut Lines) -> Result<(
         (D.bytes disk.new) (Just (D.bytes disk.new))) }
     ensures synced { OnOk result (IsSynced D.bytes D.tells_crashes D.moment D.may_hold_after
         disk.new) }
+    // Where no batch is open yet, there is one alone.
+    ensures written { OnOk result (first_gate (D.bytes disk.old) ≡ 0
+        → HasChanged frame (begun_of (D.bytes disk.old)) (now_of frame lines.old (D.bytes disk.old))
+        (touched_in lines.old.marks) (D.bytes disk.old) (D.bytes disk.new)) }
     ensures cause { HasCause (D.faults disk.old) (D.faults disk.new) result }
 
     ensures lines { IsLines frame lines.new }
@@ -80,6 +86,10 @@ pub fn end<D: Disk>(disk: &mut D, frame: Frame, lines: &mut Lines) -> Result<(),
         lines.new (D.bytes disk.new)) }
     ensures synced { OnOk result (IsSynced D.bytes D.tells_crashes D.moment D.may_hold_after
         disk.new) }
+    // Where no batch is open yet, there is one alone.
+    ensures written { OnOk result (first_gate (D.bytes disk.old) ≡ 0
+        → HasChanged frame (begun_of (D.bytes disk.old)) (now_of frame lines.old (D.bytes disk.old))
+        (touched_in lines.old.marks) (D.bytes disk.old) (D.bytes disk.new)) }
     ensures cause { HasCause (D.faults disk.old) (D.faults disk.new) result }
 
     ensures lines { IsLines frame lines.new }

@@ -340,12 +340,12 @@ impl<D: Disk> Image<D> {
         requires inside { at + length from.now ≤ LINE }
         requires room { is_among self.old.touched line ≡ false
             → length self.old.touched < room_of self.old.frame }
-        requires open { self.old.is_open ≡ true }
+        requires opened { self.old.is_open ≡ true }
         ensures written { OnOk result (self.new.bytes
             ≡ overwrite (LINE * line + at) from.now self.old.bytes) }
         ensures touched { OnOk result (IsPermutation (with_lines self.old.touched (line ∷ []))
             self.new.touched) }
-        ensures open { self.new.is_open ≡ true }
+        ensures opened { self.new.is_open ≡ true }
 
         ensures size { length self.new.bytes ≡ length self.old.bytes }
         ensures some { TouchesSome 1 (transaction_of D.faults self.old)
@@ -374,7 +374,7 @@ impl<D: Disk> Image<D> {
         ensures written { OnOk result (self.new.bytes ≡ overwrite place from.now self.old.bytes) }
         ensures touched { OnOk result (IsPermutation (with_lines self.old.touched
             (range_with_len first (end - first))) self.new.touched) }
-        ensures open { OnOk result (self.new.is_open ≡ true) }
+        ensures opened { OnOk result (self.new.is_open ≡ true) }
 
         ensures size { length self.new.bytes ≡ length self.old.bytes }
         ensures some { TouchesSome (end - first) (transaction_of D.faults self.old)

@@ -31,3 +31,6 @@ returns-clause-lines g c =
     rested_lines f c.untouch.new.lines (ap (λ (v : Lines). v.logged) u) (ap (λ (v : Lines). v.buffer) u)
     (ap (λ (v : Lines). v.marks) u ∙ ap (λ (n : ℕ). replicate n Clean) k.long)
     (ap (λ (v : Lines). length v.batch.items) u ∙ k.batch)
+
+pub returns-clause-written : goal.returns-clause-written
+returns-clause-written g c gate = c.in_ok-close_all.ensures.written gate

@@ -99,7 +99,7 @@ invariant_of-self g c =
     let y = d.bytes c.write_line.new.disk in
     let l = c.write_line.new.lines in
     let steps = c.write_line.ensures.steps in
-    let open_now = ap (λ (v : Opened g.row.D.Denot). v.is_open) c.self.view_is ∙ c.requires.open in
+    let open_now = ap (λ (v : Opened g.row.D.Denot). v.is_open) c.self.view_is ∙ c.requires.opened in
     image_failed o.frame x y o.lines l o.is_open o.failed inv open_now steps.keeps.size steps.lines
 
 pub invariant_of-self-2 : goal.invariant_of-self-2
@@ -112,7 +112,7 @@ invariant_of-self-2 g c =
     let y = d.bytes c.write_line.new.disk in
     let l = c.write_line.new.lines in
     let steps = c.write_line.ensures.steps in
-    let open_now = ap (λ (v : Opened g.row.D.Denot). v.is_open) c.self.view_is ∙ c.requires.open in
+    let open_now = ap (λ (v : Opened g.row.D.Denot). v.is_open) c.self.view_is ∙ c.requires.opened in
     let was : IsImage x o.frame o.lines true false =
     subst (λ (b : Bool). IsImage x o.frame o.lines b false) open_now
     (subst (λ (b : Bool). IsImage x o.frame o.lines o.is_open b) sound inv) in
