@@ -70,6 +70,7 @@ returns-clause-saved g c =
     record {
       back = (c.self.invariant.stands c.if-self.false).may.keeps.gives
           ∙ ap Some (sym same ∙ ap (λ (v : Opened g.row.D.Denot). v.bytes) c.self.view_is);
+      written = λ gate some. absurd (some (nil_of c.args.self.now.touched (sym touched ∙ none)));
       rests = λ some. absurd (some (nil_of c.args.self.now.touched (sym touched ∙ none)));
     }
 

@@ -2,6 +2,8 @@ use Rattle.std.proofs.Common.{◌<◌, ◌∙◌, [], true, false, length, sym, 
 use Rattle.std.proofs.Common.{Some, true≢false}
 use Rattle.sdr_disk.specs.Moments.{AtEach}
 use Rattle.sdr_log.specs.Spilled.{GivesEither}
+use Rattle.sdr_log.specs.Log.{first_gate}
+use Rattle.sdr_image.specs.Changed.{HasChanged}
 use Rattle.sdr_image.specs.Lines.{now_of}
 use Rattle.sdr_image.specs.Marks.{touched_in}
 use Rattle.sdr_image.specs.Opened.{Opened, Rests}
@@ -132,7 +134,10 @@ returns-clause-saved g c =
     omega (arith, c.requires.some, ap (λ (v : Opened g.row.D.Denot). length v.touched) c.self.view_is) in
     let y = d.bytes c.end.new.disk in
     let l = c.end.new.lines in
+    let written = subst (λ (v : Opened g.row.D.Denot). first_gate (d.bytes v.disk) ≡ 0 →
+    HasChanged v.frame v.begun v.bytes v.touched (d.bytes v.disk) y) c.self.view_is c.in-Ok.ensures.written in
     record {
+      written = λ gate touched. written gate;
       back = c.in-Ok.ensures.rests.stands.may.keeps.gives ∙ ap (λ (v : Opened g.row.D.Denot). Some v.bytes) c.self.view_is;
       rests = λ touched.
           rested_rests d.bytes d.tells_crashes d.moment d.may_hold_after c.end.new.disk o.frame (now_of o.frame o.lines x) l
