@@ -57,7 +57,7 @@ fn played(alloc: Global, close: Close, failing: u64) -> Option<(Done, u64, usize
 
 // The first of so many calls whose fault leaves something else: the bytes at begin, but where the last call fails.
 fn wrong_fault(alloc: Global, close: Close, calls: u64, last: usize) -> Option<u64> {
-    for failing in 1..calls + 1 {
+    for failing in 1..=calls {
         let ones = if failing == calls { last } else { 0 };
         if played(alloc, close, failing) != Some((Err(Stop::DiskFault), failing, ones)) {
             return Some(failing);
