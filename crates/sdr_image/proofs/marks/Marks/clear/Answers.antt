@@ -9,7 +9,7 @@ use Rattle.sdr_image.proofs.marks.Marks.clear.Goals as goal
 
 pub returns : goal.returns
 returns c =
-    ap (map stand_of) c.fill.ensures.items
+    ap (map stand_of) (c.fill.ensures.items (λ y is. is))
     ∙ clean_bytes (length c.self.inside.bytes.items)
     ∙ ap (λ (n : ℕ). replicate n Clean)
     (Rattle.std.proofs.Common.sym (length-map c.self.inside.bytes.items stand_of) ∙ ap length c.self.view_is)
