@@ -2,7 +2,7 @@
 use Rattle.std.proofs.Common.{◌≡◌, ◌≤◌, ◌<◌, ◌∙◌, ◌⊎◌, ⊎_elim, ℕ, ◌+◌, ◌-◌, ◌*◌, List, [], ◌++◌, length, take, drop, min}
 use Rattle.std.proofs.Common.{zero, suc, ◌∷◌, refl, sym, ap, arith, length-append, length-drop}
 use Rattle.std.proofs.Math.Seq.{take-add}
-use Rattle.std.proofs.lemmas.List.{drop-drop, length-take-le, take_at}
+use Rattle.std.proofs.lemmas.List.{drop-drop, length-take-le, take-append-drop, take_at}
 use Rattle.sdr_base.specs.Parts.{overwrite, part}
 use Rattle.sdr_base.proofs.PartsLemmas.{length-overwrite, overwrite-behind}
 use Rattle.sdr_log.proofs.BatchesLemmas.{part-within}
@@ -29,6 +29,14 @@ take-min n xs = ⊎_elim
 
     high : length xs ≤ n → min n (length xs) ≡ length xs
     high ge = omega (arith, ge)
+
+-- no byte is written
+pub nothing_put : (place n : ℕ) (from x : List ℕ) → n ≡ 0 → overwrite place (take n from) x ≡ x
+nothing_put place n from x none =
+    let here : place + 0 ≡ place = omega arith in
+    ap (λ (k : ℕ). overwrite place (take k from) x) none
+    ∙ ap (λ (k : ℕ). take place x ++ drop k x) here
+    ∙ take-append-drop place x
 
 -- One line of a call from a place on over so many bytes: from which of the line's bytes on, and which of the call's bytes.
 module _ (place count line at start stop : ℕ) (at_is : at ≡ place + start - 64 * line) (start_is : start ≡ 64 * line - place)

@@ -6,6 +6,7 @@ use Rattle.std.proofs.Common.{append-nil, append_assoc, length-append}
 use Rattle.std.specs.Prelude.{filter}
 use Rattle.std.specs.List.{range_with_len}
 use Rattle.std.proofs.lemmas.List.Elements.{filter-append}
+use Rattle.std.proofs.lemmas.List.Filters.{length-filter_both}
 use Rattle.std.proofs.lemmas.List.Folds.{list_any-append}
 use Rattle.std.proofs.lemmas.Bool.{cases_eq}
 use Rattle.std.proofs.lemmas.Bool.Decides.{nat_tests}
@@ -103,6 +104,20 @@ with_lines-none touched first =
     let fresh : ℕ → Bool = λ line. not (is_among touched line) in
     let none : first - first ≡ 0 = omega arith in
     ap (λ (n : ℕ). touched ++ filter fresh (range_with_len first n)) none ∙ append-nil touched
+
+-- with others there are as many at least
+pub with_lines-least : (touched own : List ℕ) → length touched ≤ length (with_lines touched own)
+unfolding with_lines
+with_lines-least touched own =
+    omega (arith, length-append touched (filter (λ line. not (is_among touched line)) own))
+
+-- and at most so many more as there are others
+pub with_lines-most : (touched own : List ℕ) → length (with_lines touched own) ≤ length touched + length own
+unfolding with_lines
+with_lines-most touched own =
+    let fresh : ℕ → Bool = λ line. not (is_among touched line) in
+    let both = length-filter_both fresh (λ line. not (fresh line)) (λ line. refl) own in
+    omega (arith, length-append touched (filter fresh own), both)
 
 -- fewer lines of a run
 pub with_lines-fewer : (touched : List ℕ) (first m n : ℕ) → m ≤ n →
