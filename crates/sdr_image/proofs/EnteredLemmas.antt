@@ -368,8 +368,8 @@ module _ (f : Frame) (begun : List ℕ) (lines : Lines) (x : List ℕ) (s : Stan
   line_is : (get_or lines.buffer.news place d).line ≡ line
   line_is = (s.marked.placed line place stands).1 d
 
-  new_long : length r.bytes ≡ 64
-  new_long =
+  changed_long : length r.bytes ≡ 64
+  changed_long =
       let old = whole_at lines.buffer.news place d k.whole lt in
       length-overwrite at from (get_or lines.buffer.news place d).bytes (omega (arith, old, inside)) ∙ old
 
@@ -399,7 +399,7 @@ module _ (f : Frame) (begun : List ℕ) (lines : Lines) (x : List ℕ) (s : Stan
     long = k.long;
     batch = k.batch;
     below = AreBelow-set f.heap_lines lines.buffer.news place r k.below (omega (arith, line_is, below));
-    whole = AreLines-set lines.buffer.news place r k.whole new_long;
+    whole = AreLines-set lines.buffer.news place r k.whole changed_long;
     paired = length-set lines.buffer.news place r ∙ k.paired;
     counted = k.counted;
   }

@@ -8,7 +8,7 @@ use Rattle.sdr_base.proofs.PartsLemmas.{length-overwrite, overwrite-behind}
 use Rattle.sdr_log.proofs.BatchesLemmas.{part-within}
 
 -- all of the bytes
-take_past : (n : ℕ) (xs : List ℕ) → length xs ≤ n → take n xs ≡ xs
+pub take_past : (n : ℕ) (xs : List ℕ) → length xs ≤ n → take n xs ≡ xs
 take_past zero [] le = refl
 take_past zero (x ∷ xs) le = absurd (omega (arith, le))
 take_past (suc n) [] le = refl
@@ -30,13 +30,19 @@ take-min n xs = ⊎_elim
     high : length xs ≤ n → min n (length xs) ≡ length xs
     high ge = omega (arith, ge)
 
+-- the lines up to there hold all of the bytes
+pub all_covered : (place count end line : ℕ) → (0 < count → place + count ≤ 64 * end) → end ≤ line →
+    count ≤ 64 * line - place
+all_covered place zero end line covers le = omega arith
+all_covered place (suc n) end line covers le = omega (arith, covers (omega arith), le)
+
 -- no byte is written
 pub nothing_put : (place n : ℕ) (from x : List ℕ) → n ≡ 0 → overwrite place (take n from) x ≡ x
 nothing_put place n from x none =
     let here : place + 0 ≡ place = omega arith in
-    ap (λ (k : ℕ). overwrite place (take k from) x) none
-    ∙ ap (λ (k : ℕ). take place x ++ drop k x) here
-    ∙ take-append-drop place x
+    let last : overwrite place [] x ≡ x =
+    ap (λ (k : ℕ). take place x ++ drop k x) here ∙ take-append-drop place x in
+    ap (λ (k : ℕ). overwrite place (take k from) x) none ∙ last
 
 -- One line of a call from a place on over so many bytes: from which of the line's bytes on, and which of the call's bytes.
 module _ (place count line at start stop : ℕ) (at_is : at ≡ place + start - 64 * line) (start_is : start ≡ 64 * line - place)

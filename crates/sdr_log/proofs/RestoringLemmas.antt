@@ -58,7 +58,7 @@ at_closed moment may_hold_after f old mid new x y records left' l p before each 
 -- Without a crash.
 
 -- nothing is pending on it
-pub alone : (f : Frame) (x : List ℕ) (records : List Record) → Logs f x records → IsLogged f x (λ image. image ≡ x)
+unfoldable pub alone : (f : Frame) (x : List ℕ) (records : List Record) → Logs f x records → IsLogged f x (λ image. image ≡ x)
 alone f x records l = record {
   records = records;
   logs = l;

@@ -18,8 +18,8 @@ pub line_now-requires-clause-stands : goal.line_now-requires-clause-stands
 line_now-requires-clause-stands g c =
     c.self.invariant.stands (ap (λ (v : Opened g.row.D.Denot). v.failed) c.self.view_is ∙ c.requires.sound)
 
-pub invariant_of-self : goal.invariant_of-self
-invariant_of-self g c =
+pub invariant_of-self-in_default : goal.invariant_of-self-in_default
+invariant_of-self-in_default g c =
     let d = g.D.Disk in
     let o = c.self.inside in
     let sound = ap (λ (v : Opened g.row.D.Denot). v.failed) c.self.view_is ∙ c.requires.sound in
@@ -45,8 +45,8 @@ returns-in_default-clause-failed g c =
     read_ended d.bytes o.disk c.line_now.new.disk o.frame o.lines l o.is_open o.failed true o.restored e.reads.same e.same
     ∙ ap (λ (v : Opened g.row.D.Denot). record v { disk = c.line_now.new.disk; failed = true }) c.self.view_is
 
-pub invariant_of-self-2 : goal.invariant_of-self-2
-invariant_of-self-2 g c =
+pub invariant_of-self : goal.invariant_of-self
+invariant_of-self g c =
     let d = g.D.Disk in
     let o = c.self.inside in
     let sound = ap (λ (v : Opened g.row.D.Denot). v.failed) c.self.view_is ∙ c.requires.sound in

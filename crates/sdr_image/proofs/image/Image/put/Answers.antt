@@ -89,8 +89,8 @@ returns-in_default-clause-some g c =
       few = omega (arith, touched, c.write_line.ensures.few);
     }
 
-pub invariant_of-self : goal.invariant_of-self
-invariant_of-self g c =
+pub invariant_of-self-in_default : goal.invariant_of-self-in_default
+invariant_of-self-in_default g c =
     let d = g.D.Disk in
     let o = c.self.inside in
     let inv = c.self.invariant in
@@ -102,8 +102,8 @@ invariant_of-self g c =
     let open_now = ap (λ (v : Opened g.row.D.Denot). v.is_open) c.self.view_is ∙ c.requires.opened in
     image_failed o.frame x y o.lines l o.is_open o.failed inv open_now steps.keeps.size steps.lines
 
-pub invariant_of-self-2 : goal.invariant_of-self-2
-invariant_of-self-2 g c =
+pub invariant_of-self : goal.invariant_of-self
+invariant_of-self g c =
     let d = g.D.Disk in
     let o = c.self.inside in
     let inv = c.self.invariant in

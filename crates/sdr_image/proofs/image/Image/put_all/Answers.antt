@@ -1,4 +1,4 @@
-use Rattle.std.proofs.Common.{◌≡◌, ◌≤◌, ◌<◌, ◌∙◌, ◌+◌, ◌-◌, ◌*◌, ◌==◌, ◌∷◌, [], ℕ, true, List, length, take, refl, sym, ap, subst, arith}
+use Rattle.std.proofs.Common.{◌≡◌, ◌≤◌, ◌<◌, ◌∙◌, ◌+◌, ◌-◌, ◌*◌, ◌==◌, ◌∷◌, [], ℕ, true, List, length, drop, take, refl, sym, ap, subst, arith}
 use Rattle.std.proofs.Common.{true≢false}
 use Rattle.std.specs.Prelude.{IsPermutation}
 use Rattle.std.specs.List.{range_with_len}
@@ -7,11 +7,12 @@ use Rattle.std.proofs.lemmas.List.Sorted.{IsPermutation-refl, IsPermutation-tran
 use Rattle.sdr_base.specs.Cells.{is_among, with_lines}
 use Rattle.sdr_base.specs.Parts.{overwrite}
 use Rattle.sdr_log.specs.Frame.{room_of}
+use Rattle.sdr_log.specs.declared.frame.Frame.{Frame}
 use Rattle.sdr_image.specs.Marks.{touched_in}
 use Rattle.sdr_image.specs.Opened.{IsQuiet, Opened, image_of}
 use Rattle.sdr_image.specs.QuietLaws.{quiet_both}
 use Rattle.sdr_image.proofs.ImageLemmas.{now_long, quiet_opened, with_one-permutation}
-use Rattle.sdr_image.proofs.LoopsLemmas.{nothing_put, piece_inside, put_next}
+use Rattle.sdr_image.proofs.LoopsLemmas.{all_covered, nothing_put, put_next, take_past}
 use Rattle.sdr_image.proofs.TouchedLemmas.{few_next, with_lines-least, with_lines-most, with_lines-next, with_lines-none}
 use Rattle.sdr_image.proofs.image.Image.put_all.Goals as goal
 
@@ -75,6 +76,13 @@ loop-line-preserved g c =
     let first = c.args.first in
     let n = line - first in
     let e = c.in_ok-put.ensures in
+    let p = c.piece-at.ensures in
+    let place = c.args.place in
+    let from = c.args.from.now in
+    let piece = take (c.piece-at.result.2 - c.piece-at.result.1) (drop c.piece-at.result.1 from) in
+    let span = c.requires.span in
+    let starts : place < 64 * line + 64 = omega (arith, span.inside) in
+    let ends : 64 * line < place + length from = omega (arith, span.ends, c.loop-line-test.true) in
     let at : first + n ≡ line = omega arith in
     let next : n + 1 ≡ line + 1 - first = omega arith in
     let lines = ap (λ (k : ℕ). with_lines (with_lines begin.touched (range_with_len first n)) (k ∷ [])) (sym at)
@@ -84,9 +92,79 @@ loop-line-preserved g c =
       sound = e.cause.explained.1;
       is_open = e.opened;
       later = omega (arith, inv.later, e.cause.later);
-      bytes = ?;
+      bytes = e.written
+          ∙ ap (overwrite (64 * line + c.piece-at.result.0) piece) inv.bytes
+          ∙ ap (λ (k : ℕ). overwrite (64 * line + c.piece-at.result.0) piece
+          (overwrite place (take k from) begin.bytes)) (sym p.from)
+          ∙ put_next place (length from) line c.piece-at.result.0 c.piece-at.result.1 c.piece-at.result.2 p.at p.from p.to
+          starts ends from begin.bytes refl c.requires.inside;
       touched = subst (λ (l : List ℕ). IsPermutation l c.put.new.self.touched) lines
           (IsPermutation-trans _ _ _ (with_one-permutation _ _ line inv.touched) e.touched);
       quiet = quiet_both d.bytes d.tells_crashes d.moment d.may_hold_after begin c.loop-line.self c.put.new.self inv.quiet
           e.quiet;
     }
+
+pub piece-at-requires-clause-small : goal.piece-at-requires-clause-small
+piece-at-requires-clause-small g c =
+    let o = c.self.inside in
+    let inv = c.self.invariant in
+    let long = now_long o.frame o.lines (g.D.Disk.bytes o.disk) inv.lines_kept inv.fits in
+    omega (
+      arith,
+      c.requires.inside,
+      long,
+      ap (λ (v : Opened g.row.D.Denot). length v.bytes) c.self.view_is,
+      inv.limits.most_heap,
+    )
+
+pub put-requires-clause-below : goal.put-requires-clause-below
+put-requires-clause-below g c =
+    let o = c.self.inside in
+    let inv = c.self.invariant in
+    let long = now_long o.frame o.lines (g.D.Disk.bytes o.disk) inv.lines_kept inv.fits in
+    omega (
+      arith,
+      c.requires.inside,
+      c.requires.span.ends,
+      c.loop-line-test.true,
+      long,
+      ap (λ (v : Opened g.row.D.Denot). length v.bytes) c.self.view_is,
+      ap (λ (v : Opened g.row.D.Denot). v.frame.heap_lines) c.self.view_is,
+      ap (λ (f : Frame). f.heap_lines) c.loop-line.invariant.quiet.frame,
+    )
+
+pub returns-in_err-put-clause-some : goal.returns-in_err-put-clause-some
+returns-in_err-put-clause-some g c =
+    let first = c.args.first in
+    let n = c.loop-line.line - first in
+    let touched = c.args.self.now.touched in
+    let run = range_with_len first n in
+    let same = length_permutation (with_lines touched run) c.loop-line.self.touched c.loop-line.invariant.touched in
+    let some = c.put.ensures.some in
+    record {
+      kept = omega (arith, same, with_lines-least touched run, some.kept);
+      few =
+          omega (arith, same, with_lines-most touched run, length-range_with_len first n, some.few, c.loop-line-test.true);
+    }
+
+pub returns-clause-some : goal.returns-clause-some
+returns-clause-some g c =
+    let first = c.args.first in
+    let n = c.loop-line.line - first in
+    let touched = c.args.self.now.touched in
+    let run = range_with_len first n in
+    let same = length_permutation (with_lines touched run) c.loop-line.self.touched c.loop-line.invariant.touched in
+    record {
+      kept = omega (arith, same, with_lines-least touched run);
+      few = omega (arith, same, with_lines-most touched run, length-range_with_len first n);
+    }
+
+pub returns-clause-written : goal.returns-clause-written
+returns-clause-written g c =
+    let line = c.loop-line.line in
+    let from = c.args.from.now in
+    let le : c.args.end ≤ line = omega (arith, c.loop-line-test.false) in
+    let all = all_covered c.args.place (length from) c.args.end line c.requires.span.covers le in
+    c.loop-line.invariant.bytes
+    ∙ ap (λ (l : List ℕ). overwrite c.args.place l c.args.self.now.bytes)
+    (take_past (64 * line - c.args.place) from all)

@@ -1,4 +1,4 @@
-use Rattle.std.proofs.Common.{◌∙◌, ap, List, length, refl, ℕ}
+use Rattle.std.proofs.Common.{◌≡◌, ◌∙◌, ap, arith, List, length, sym, vec_len, ℕ}
 use Rattle.std.specs.Prelude.{map, replicate}
 use Rattle.std.proofs.lemmas.List.{length-map}
 use Rattle.sdr_image.specs.Marks.{stand_of}
@@ -9,7 +9,8 @@ use Rattle.sdr_image.proofs.marks.Marks.clear.Goals as goal
 
 pub returns : goal.returns
 returns c =
+    let b = c.self.inside.bytes in
+    let len : vec_len b ≡ length b.items = omega arith in
     ap (map stand_of) (c.fill.ensures.items (λ y is. is))
-    ∙ clean_bytes (length c.self.inside.bytes.items)
-    ∙ ap (λ (n : ℕ). replicate n Clean)
-    (Rattle.std.proofs.Common.sym (length-map c.self.inside.bytes.items stand_of) ∙ ap length c.self.view_is)
+    ∙ clean_bytes (vec_len b)
+    ∙ ap (λ (n : ℕ). replicate n Clean) (len ∙ sym (length-map b.items stand_of) ∙ ap length c.self.view_is)
