@@ -18,6 +18,7 @@ pub mod RestedLemmas
 pub mod StandsLemmas
 pub mod StepsLemmas
 pub mod StillLemmas
+pub mod StopLemmas
 pub mod TouchedLemmas
 pub mod VecLemmas
 pub mod WritingLemmas

@@ -1,6 +1,6 @@
 -- Bytes of several lines, written or read line by line.
 use Rattle.std.proofs.Common.{◌≡◌, ◌≤◌, ◌<◌, ◌∙◌, ◌⊎◌, ⊎_elim, ℕ, ◌+◌, ◌-◌, ◌*◌, List, [], ◌++◌, length, take, drop, min}
-use Rattle.std.proofs.Common.{zero, suc, ◌∷◌, refl, sym, ap, arith, length-append, length-drop}
+use Rattle.std.proofs.Common.{zero, suc, ◌∷◌, refl, sym, ap, append-nil, arith, length-append, length-drop}
 use Rattle.std.proofs.Math.Seq.{take-add}
 use Rattle.std.proofs.lemmas.List.{drop-drop, length-take-le, take-append-drop, take_at}
 use Rattle.sdr_base.specs.Parts.{overwrite, part}
@@ -41,7 +41,9 @@ pub nothing_put : (place n : ℕ) (from x : List ℕ) → n ≡ 0 → overwrite 
 nothing_put place n from x none =
     let here : place + 0 ≡ place = omega arith in
     let last : overwrite place [] x ≡ x =
-    ap (λ (k : ℕ). take place x ++ drop k x) here ∙ take-append-drop place x in
+    ap (λ (l : List ℕ). l ++ drop (place + 0) x) (append-nil (take place x))
+    ∙ ap (λ (k : ℕ). take place x ++ drop k x) here
+    ∙ take-append-drop place x in
     ap (λ (k : ℕ). overwrite place (take k from) x) none ∙ last
 
 -- One line of a call from a place on over so many bytes: from which of the line's bytes on, and which of the call's bytes.
