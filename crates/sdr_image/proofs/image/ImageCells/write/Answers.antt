@@ -1,0 +1,43 @@
+use Rattle.std.proofs.Common.{◌≡◌, ◌≤◌, ◌-◌, ◌∙◌, ℕ, List, length, sym, ap, subst, arith}
+use Rattle.std.specs.Prelude.{IsPermutation, OnErr, OnOk}
+use Rattle.std.specs.List.{range_with_len}
+use Rattle.std.proofs.lemmas.List.FromFn.{length-range_with_len}
+use Rattle.std.proofs.lemmas.List.Sorted.{length_permutation}
+use Rattle.sdr_base.specs.Cells.{IsFull, TouchesSome, lines_of, with_lines}
+use Rattle.sdr_log.specs.Frame.{room_of}
+use Rattle.sdr_image.specs.Opened.{transaction_of}
+use Rattle.sdr_image.proofs.StandsLemmas.{on_ok}
+use Rattle.sdr_image.proofs.StopLemmas.{never_refused, on_err, quiet_stays}
+use Rattle.sdr_image.proofs.image.ImageCells.write.Goals as goal
+
+pub returns-clause-room : goal.returns-clause-room
+returns-clause-room g c =
+    let d = g.D.Disk in
+    let old = transaction_of d.faults c.args.self.now in
+    let new = transaction_of d.faults c.put_all.new.self in
+    let e = c.put_all.ensures in
+    let r = c.put_all.result in
+    let first = c.span-first.result.0 in
+    let n = c.span-first.result.1 - first in
+    let own = lines_of c.args.place (length c.args.from.now) in
+    let is : range_with_len first n ≡ own = c.span-first.ensures.lines in
+    let many : length own ≡ n = ap length (sym is) ∙ length-range_with_len first n in
+    let touched = subst (λ (l : List ℕ). OnOk r (IsPermutation (with_lines old.touched l) new.touched)) is e.touched in
+    let fits : length (with_lines old.touched own) ≤ old.room =
+    omega (arith, ap (λ (l : List ℕ). length (with_lines old.touched l)) is, c.touched_with-lines.ensures, c.room-room.ensures) in
+    record {
+      room = ap room_of e.quiet.frame;
+      touched = touched;
+      fits = on_ok r (λ (p : IsPermutation (with_lines old.touched own) new.touched).
+          omega (arith, fits, length_permutation _ _ p)) touched;
+      same = never_refused (λ _. new.touched ≡ old.touched) r e.answered;
+      some = on_err r (subst (λ (k : ℕ). TouchesSome k old new) (sym many) e.some);
+      full = never_refused (IsFull own old) r e.answered;
+    }
+
+pub returns-clause-stays : goal.returns-clause-stays
+returns-clause-stays g c =
+    let d = g.D.Disk in
+    let e = c.put_all.ensures in
+    quiet_stays d.bytes d.tells_crashes d.moment d.may_hold_after d.faults c.args.self.now c.put_all.new.self c.put_all.result
+    c.if-self.false e.answered e.cause e.quiet
