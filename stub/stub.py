@@ -136,7 +136,7 @@ for c in sorted(need):
             put(q,text); keep.add(q)
     keep|={p for p in made if p.startswith(d+'/')}
     for base,_,files in os.walk(d):
-        if '/out' in base[len(d):]: continue
+        if '/out' in base[len(d):] and base[len(d):].split('/')[1]=='out': continue
         for f in files:
             q=f'{base}/{f}'
             if q not in keep and not q.startswith(f'{d}/out'): os.remove(q)
