@@ -254,7 +254,7 @@ module _ {D M S K : Type 0} (d : DiskGhosts D) (m : MediaGhosts M) (s : SourceGh
         media = media;
         unread = λ _ _ _ other. absurd (true≢false other);
         same = λ opens. absurd (true≢false opens);
-        told = (keeps.tells, keeps.size);
+        keeps = keeps;
       }
 
   -- to `recover`

@@ -13,5 +13,5 @@ returns-clause-end g c = (
       ∙ ap (λ (l : ListRead). summed c.args.ran.now.journal l) (c.read_list-list.ensures.list v at),
 )
 
-pub read_list-requires-clause-stands : goal.read_list-requires-clause-stands
-read_list-requires-clause-stands g c = c.requires.stands c.if-ran.false
+pub read_list-list-requires-clause-stands : goal.read_list-list-requires-clause-stands
+read_list-list-requires-clause-stands g c = c.requires.stands c.if-ran.false

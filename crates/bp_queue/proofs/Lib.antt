@@ -1,0 +1,25 @@
+pub mod SortingLemmas
+pub mod StateLemmas
+pub mod RunLemmas
+pub mod FourLemmas
+pub mod PlaceLemmas
+pub mod ItemLemmas
+pub mod QueueLemmas
+pub mod FitLemmas
+pub mod RemoveLemmas
+pub mod RemoveStopLemmas
+pub mod LackLemmas
+pub mod MadeLemmas
+pub mod FirstLemmas
+pub mod PutLemmas
+pub mod TakeLemmas
+pub mod NamingLemmas
+pub mod StopLemmas
+pub mod LastLemmas
+pub mod RankLemmas
+pub mod DueLemmas
+pub mod ExpireLemmas
+pub mod FirstDueLemmas
+pub mod GoesLemmas
+pub mod OrderLemmas
+mod RowsOfQueues

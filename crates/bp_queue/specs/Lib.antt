@@ -1,0 +1,12 @@
+pub mod Classes
+pub mod Sorting
+pub mod States
+pub mod Runs
+pub mod Kept
+pub mod Keys
+pub mod Lacking
+pub mod Calls
+pub mod Removing
+pub mod Putting
+pub mod Taking
+pub mod Expiring
