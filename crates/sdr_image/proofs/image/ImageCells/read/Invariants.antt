@@ -10,5 +10,5 @@ invariant-loop-line g l = record {
   later : g.D.Disk.faults l.fn.self.disk ≤ g.D.Disk.faults l.self.disk;
   reads : Reads g.D.Disk.bytes g.D.Disk.tells_crashes g.D.Disk.moment g.D.Disk.may_hold_after l.fn.self.disk l.self.disk;
   given : take (64 * l.line - l.place) l.into
-      ≡ part l.place (min (64 * l.line - l.place) (length l.into)) l.fn.self.bytes;
+      ≡ part l.place (min (64 * l.line - l.place) (length l.fn.into)) l.fn.self.bytes;
 }
