@@ -17,7 +17,7 @@ pub struct Cache {
 }
 
 impl Model for Cache {
-    ghost use Rattle.std.specs.Prelude.{List};
+    ghost use Rattle.std.specs.Prelude.{List, ℕ};
     ghost use Rattle.sdr_image.specs.Cache.{IsTable, entries_of};
 
     ghost Value = { List (ℕ × List ℕ) };

@@ -201,6 +201,35 @@ impl<D: Disk> Image<D> {
         Ok(())
     }
 
+    // Fills a buffer with the bytes from a place on.
+    fn get_all(&mut self, place: u64, into: &mut [u8], first: u64, end: u64) -> Result<(), Stop>
+        requires sound { self.old.failed ≡ false }
+        requires inside { place + length into.old ≤ length self.old.bytes }
+        requires small { place + length into.old < 2 ^ 60 }
+        requires span { IsSpan place (length into.old) first end }
+        requires below { end ≤ self.old.frame.heap_lines }
+
+        ensures given { OnOk result (into.new ≡ part place (length into.old) self.old.bytes) }
+
+        ensures same { self.new.bytes ≡ self.old.bytes }
+        ensures room { TouchesNone (transaction_of D.faults self.old)
+            (transaction_of D.faults self.new) result }
+        ensures cause { HasReason (transaction_of D.faults self.old)
+            (transaction_of D.faults self.new) result }
+        ensures quiet { IsQuiet D.bytes D.tells_crashes D.moment D.may_hold_after self.old
+            self.new }
+
+        ensures still_open { self.new.is_open ≡ self.old.is_open }
+        ensures reads { Reads D.bytes D.tells_crashes D.moment D.may_hold_after self.old.disk
+            self.new.disk }
+    {
+        for line in first..end {
+            let (at, start, stop) = piece(place, into.len(), line);
+            self.get(line, at, &mut into[start..stop])?;
+        }
+        Ok(())
+    }
+
     // How many lines are touched with those from the first to the one before the end.
     fn touched_with(&self, first: u64, end: u64) -> u64
         requires order { first ≤ end }
@@ -453,11 +482,7 @@ impl<D: Disk> Cells for Image<D> {
             return Err(Stop::Failed);
         }
         let (first, end) = span(place, into.len() as u64);
-        for line in first..end {
-            let (at, start, stop) = piece(place, into.len(), line);
-            self.get(line, at, &mut into[start..stop])?;
-        }
-        Ok(())
+        self.get_all(place, into, first, end)
     }
 
     fn write(&mut self, place: u64, from: &[u8]) -> Result<(), Stop>

@@ -1,7 +1,7 @@
 use Rattle.std.proofs.Common.{◌≡◌, ◌≤◌, ◌-◌, ◌*◌, false, length, min, take}
 use Rattle.sdr_base.specs.Parts.{part}
 use Rattle.sdr_disk.specs.Moments.{Reads}
-use Rattle.sdr_image.proofs.image.ImageCells.read.Given as goal
+use Rattle.sdr_image.proofs.image.Image.get_all.Given as goal
 
 abbrev pub invariant-loop-line : goal.invariant-loop-line
 invariant-loop-line g l = record {
