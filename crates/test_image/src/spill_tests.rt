@@ -4,8 +4,9 @@ ghost use Rattle.sdr_log.specs.Frame.{IsInLimits};
 
 use crate::crashes::{Opened, Pending, Row, opened_torn, wanted, wrong_moment};
 use crate::works::{Work, done_on, fresh};
+use byteorder::{BigEndian, ByteOrder};
 use sdr_base::{Cells, Refusal, Stop};
-use sdr_disk::{Disk, MemoryDisk};
+use sdr_disk::{Disk, MemoryDisk, Torn};
 use sdr_image::{Image, format};
 use sdr_log::Frame;
 use std::alloc::Global;
@@ -16,7 +17,7 @@ type Done = Result<(), Stop>;
 
 // Of seventy lines that are ended: the batch of 64 and its gate, their lines, the batch of six and its gate, those lines, and the
 // first gate.
-const SEVENTY: [Pending; 16] = [
+const SEVENTY: [Pending; 17] = [
     (0, 1, &[]),
     (1, 4, &[65..4422]),
     (4, 5, &[]),
@@ -32,7 +33,8 @@ const SEVENTY: [Pending; 16] = [
     (145, 147, &[24_640..24_704]),
     (155, 158, &[24_640..25_024]),
     (158, 159, &[]),
-    (159, 163, &[64..65]),
+    (159, 162, &[64..65]),
+    (162, 163, &[]),
 ];
 
 // Of seventy lines that are taken back: behind the lines that are spilled, the same lines again, and the first gate.
@@ -54,6 +56,23 @@ fn pending(alloc: Global, work: Work, rows: &[Pending]) -> Option<(u64, u64, Opt
     let disk = MemoryDisk::new(fresh(alloc)?, Vec::new(alloc));
     let (_, disk) = done_on(alloc, disk, work);
     Some((disk.calls(), disk.now(), wrong_moment(&disk, 0, rows)?))
+}
+
+// Where both batches of seventy lines are open, the places of their counts and of some records' numbers: the first and the
+// second of the first batch, and the first of the second one.
+const NUMBERS: [(usize, u32); 5] = [(65, 64), (69, 64), (137, 65), (4422, 6), (4426, 128)];
+
+// The first place at which they have another number.
+fn wrong_number(alloc: Global) -> Option<Option<usize>> {
+    let disk = MemoryDisk::new(fresh(alloc)?, Vec::new(alloc));
+    let (_, disk) = done_on(alloc, disk, Work::Seventy);
+    let image = disk.image_at(144, Torn::Old).ok()?;
+    for (place, number) in &NUMBERS {
+        if image.len() != 81_984 || BigEndian::read_u32(&image[*place..]) != *number {
+            return Some(Some(*place));
+        }
+    }
+    Some(None)
 }
 
 #[test]
