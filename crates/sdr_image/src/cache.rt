@@ -1,9 +1,10 @@
 // Clean lines, as the disk has them.
-ghost use Rattle.std.specs.Prelude.{◌≡◌, ◌≢◌, ◌≤◌, ◌<◌, ◌%◌, [], ◌⊎◌, ℕ, length, filter, is_some, Contains, IfOk, IfSome};
+ghost use Rattle.std.specs.Prelude.{◌≡◌, ◌≢◌, ◌≤◌, ◌<◌, ◌%◌, [], ◌⊎◌, ℕ, length, filter, map, is_some, Contains, IfOk, IfSome};
+ghost use Rattle.std.specs.List.{range_with_len};
 
 use sdr_base::NoMemory;
 use sdr_log::Record;
-use std::alloc::Global;
+use std::alloc::{AllocError, Global};
 use std::marker::Model;
 
 /// How many lines a cache keeps at most.
@@ -35,6 +36,13 @@ fn place_of(line: u32) -> usize
     line as usize % MOST_CACHED
 }
 
+// As many places as lines may be kept, none of which has a line.
+fn no_lines(alloc: Global) -> Result<Vec<Option<Record>>, AllocError>
+    ensures { IfOk result (λ v. v.items ≡ map (λ _. None) (range_with_len 0 MOST_CACHED)) }
+{
+    (0..MOST_CACHED).map(|_| None).collect(alloc)
+}
+
 // How many places have a line.
 fn count_lines(places: &[Option<Record>]) -> usize
     ensures { result ≡ length (filter is_some places.now) }
@@ -50,7 +58,7 @@ impl Cache {
         ensures { IfOk result (λ c. c ≡ []) }
     {
         Ok(Cache {
-            places: vec![in alloc; None; MOST_CACHED]?,
+            places: no_lines(alloc)?,
         })
     }
 

@@ -272,8 +272,15 @@ returns-in_err-end_with-clause-calls g c =
     let r = c.rise.ensures in
     let left = d.may_hold_after a.disk.now (d.moment a.disk.now) in
     let whole = c.len-count.ensures.whole in
-    omega (arith, c.end_with.ensures.calls, ap length c.news.ensures, c.len-count.ensures.long, c.len-count.ensures.len,
-    length_permutation _ _ r.olds, k.counted)
+    omega (
+      arith,
+      c.end_with.ensures.calls,
+      ap length c.news.ensures,
+      c.len-count.ensures.long,
+      c.len-count.ensures.len,
+      length_permutation _ _ r.olds,
+      k.counted,
+    )
 
 pub returns-in_err-end_with-clause-any_moment : goal.returns-in_err-end_with-clause-any_moment
 returns-in_err-end_with-clause-any_moment g c told keeps =
@@ -426,8 +433,15 @@ returns-clause-calls g c =
     let r = c.rise.ensures in
     let left = d.may_hold_after a.disk.now (d.moment a.disk.now) in
     let whole = c.len-count.ensures.whole in
-    omega (arith, c.end_with.ensures.calls, ap length c.news.ensures, c.len-count.ensures.long, c.len-count.ensures.len,
-    length_permutation _ _ r.olds, k.counted)
+    omega (
+      arith,
+      c.end_with.ensures.calls,
+      ap length c.news.ensures,
+      c.len-count.ensures.long,
+      c.len-count.ensures.len,
+      length_permutation _ _ r.olds,
+      k.counted,
+    )
 
 pub returns-clause-any_moment : goal.returns-clause-any_moment
 returns-clause-any_moment g c told keeps =
