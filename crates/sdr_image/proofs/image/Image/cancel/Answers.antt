@@ -222,3 +222,24 @@ returns-clause-calls g c =
     c.self.view_is
     (calls_of-lines d.moment o.disk c.take_back.new.disk o.lines.logged (length (touched_in o.lines.marks))
     (omega (arith, inv.lines_kept.counted)) e.same e.calls)
+
+pub returns-in_default-clause-idle : goal.returns-in_default-clause-idle
+returns-in_default-clause-idle g c none =
+    let touched = ap (λ (v : Opened g.row.D.Denot). length v.touched) c.self.view_is in
+    c.take_back.ensures.same (omega (arith, c.self.invariant.lines_kept.counted, touched, ap length none))
+    ∙ ap (λ (v : Opened g.row.D.Denot). v.disk) c.self.view_is
+
+pub returns-in_default-clause-some : goal.returns-in_default-clause-some
+returns-in_default-clause-some g c is =
+    omega (
+      arith,
+      c.self.invariant.lines_kept.counted,
+      c.in_default.ensures.some,
+      ap (λ (v : Opened g.row.D.Denot). length v.touched) c.self.view_is,
+    )
+
+pub returns-clause-idle : goal.returns-clause-idle
+returns-clause-idle g c none =
+    let touched = ap (λ (v : Opened g.row.D.Denot). length v.touched) c.self.view_is in
+    c.take_back.ensures.same (omega (arith, c.self.invariant.lines_kept.counted, touched, ap length none))
+    ∙ ap (λ (v : Opened g.row.D.Denot). v.disk) c.self.view_is
