@@ -3,7 +3,7 @@ use Rattle.sdr_image.proofs.image.Image.now.Goals as goal
 
 pub returns-clause-leaves : goal.returns-clause-leaves
 returns-clause-leaves g c sound rests =
-    rests_leaves g.D.Disk.bytes g.D.Disk.tells_crashes g.D.Disk.moment g.D.Disk.may_hold_after _ sound rests
+    rests_leaves g.D.Disk.bytes g.D.Disk.tells_crashes g.D.Disk.moment g.D.Disk.may_hold_after c.args.self.now sound rests
 
 pub returns-clause-any_moment : goal.returns-clause-any_moment
 returns-clause-any_moment g c before quiet =
