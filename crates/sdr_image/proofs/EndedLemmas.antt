@@ -140,10 +140,13 @@ module _ (f : Frame) (x : List ℕ) (lines : Lines) (is_open failed : Bool) (i :
     limits = i.limits;
     fits = i.fits;
     lines_kept = i.lines_kept;
-    idle = λ closed. (nil_of (touched_in lines.marks) none, record {
-      regions = unspilled.rest.regions;
-      gate = unspilled.rest.gate;
-      heap = refl;
-    });
+    idle = λ closed. (
+      nil_of (touched_in lines.marks) none,
+      record {
+        regions = unspilled.rest.regions;
+        gate = unspilled.rest.gate;
+        heap = refl;
+      },
+    );
     stands = i.stands;
   }
