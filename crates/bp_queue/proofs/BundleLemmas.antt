@@ -17,7 +17,7 @@ use Rattle.sdr_base.specs.declared.medium.Medium.TheVariants as media
 use Rattle.sdr_base.proofs.StandingLemmas.{moved}
 use Rattle.sdr_model.specs.Accounts.{is_same_account}
 use Rattle.sdr_model.specs.declared.accounts.Ticket.{Ticket}
-use Rattle.zco_acct.specs.Kept.{SomeQueue, queue_entries as tickets_of}
+use Rattle.zco_acct.specs.Kept.{KeepsQueue, SomeQueue, queue_entries as tickets_of}
 use Rattle.zco_obj.specs.Destroying.{gone_object}
 use Rattle.zco_obj.specs.Gone.{NamedSource, goes_with, going_before, gone_blocks, naming, source_at, sources_entries}
 use Rattle.zco_obj.specs.Kept.{ObjectFits}
@@ -41,7 +41,7 @@ object_in r = r.waiting.object
 -- in whatever order the blocks beside queues are listed
 pub kept_unordered : (b : Blocks) (q : Queues) (next : ℕ) (rows : List Row) → IsUnordered (KeepsQueues b q next rows)
 kept_unordered b q next rows xs part ys k = record {
-  stands = unordered_behind (BlocksAre b) (λ as bs cs s. moved as bs cs s) (queue_entries q next rows) xs part ys k.stands;
+  stands = unordered_behind (BlocksAre b) (λ us vs ws s. moved us vs ws s) (queue_entries q next rows) xs part ys k.stands;
   fits = k.fits;
 }
 
@@ -211,7 +211,7 @@ module _ {heap : Heap} {q : Queues} {loose : List ℕ} {room : ℕ} {b : Bundles
         let all : P (flat_map own (with_loose b.rows loose) ++ []) =
         subst P (sym (append-nil (flat_map own (with_loose b.rows loose)))) (k.named acct) in
         let turned : P (flat_map own (map object_in late ++ others) ++ []) =
-        overdue_first now b.rows loose own P (named_unordered acct b.sources) [] all in
+        (overdue_first now b.rows loose).parts own P (named_unordered acct b.sources) [] all in
         subst P
         (append-nil (flat_map own (map object_in late ++ others)) ∙ flat_map-append own (map object_in late) others
         ∙ ap (λ es. es ++ bundle_extents b.object_at acct others) (extents_by_address b.object_at acct late))
@@ -226,7 +226,7 @@ module _ {heap : Heap} {q : Queues} {loose : List ℕ} {room : ℕ} {b : Bundles
           let B = bundle_entries b.object_at others in
           let O = objects_entries b.object_at late in
           let turned : P (flat_map own (map object_in late ++ others) ++ beside) =
-          overdue_first now b.rows loose own P (kept_unordered heap.blocks q b.next b.rows) beside k.queues in
+          (overdue_first now b.rows loose).parts own P (kept_unordered heap.blocks q b.next b.rows) beside k.queues in
           let apart : P (O ++ (B ++ beside)) =
           subst P
           (ap (λ es. es ++ beside) (flat_map-append own (map object_in late) others ∙ ap (λ es. es ++ B) (objects_by_address b.object_at late))
@@ -259,20 +259,20 @@ module _ {heap : Heap} {q : Queues} {loose : List ℕ} {room : ℕ} {b : Bundles
       room =
           let n = gone_few b.object_at (record { gone = []; sources = b.sources; rest = beside_late; heap = heap }) late in
           let m = moves_late in
-          let r = k.room in
+          let r = k.spare in
           omega (arith, n, m, r);
     }
 
   pub some_queues : SomeQueues heap.blocks q
   some_queues = record { next = b.next; rows = b.rows; rest = _; keeps = k.queues }
 
+  pub queue_kept : (acct : Acct) → KeepsQueue heap acct (b.tickets acct)
+  queue_kept acct =
+      let t = k.tickets acct in
+      let s =
+      ticket_first acct (queue_entries q b.next b.rows) (bundle_entries b.object_at (with_loose b.rows loose)) (sources_entries b.sources)
+      b.tickets b.rest k.queues.stands in
+      record { rest = s.0; stands = s.1; first = t.first; last = t.last; fits = t.fits }
+
   pub some_queue : (acct : Acct) → SomeQueue heap acct
-  some_queue acct = record {
-    tickets = b.tickets acct;
-    keeps =
-        let t = k.tickets acct in
-        let s =
-        ticket_first acct (queue_entries q b.next b.rows) (bundle_entries b.object_at (with_loose b.rows loose)) (sources_entries b.sources)
-        b.tickets b.rest k.queues.stands in
-        record { rest = s.0; stands = s.1; first = t.first; last = t.last; fits = t.fits };
-  }
+  some_queue acct = record { tickets = b.tickets acct; keeps = queue_kept acct }

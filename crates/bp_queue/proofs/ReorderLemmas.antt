@@ -13,9 +13,9 @@ abbrev pub IsUnordered : {Y : Type 0} → (List Y → Type 0) → Type 0
 IsUnordered {Y} Q = (xs part ys : List Y) → Q (xs ++ (part ++ ys)) → Q (part ++ (xs ++ ys))
 
 -- such facts of the parts of one list hold of those of another
-abbrev pub Reorders : {X : Type 0} → List X → List X → Type 1
-Reorders {X} xs ys =
-    {Y : Type 0} (f : X → List Y) (Q : List Y → Type 0) → IsUnordered Q → (rest : List Y) → Q (flat_map f xs ++ rest) → Q (flat_map f ys ++ rest)
+pub record Reorders {X : Type 0} (xs ys : List X) : Type 1 where
+  pub parts : {Y : Type 0} (f : X → List Y) (Q : List Y → Type 0) → IsUnordered Q → (rest : List Y) → Q (flat_map f xs ++ rest) →
+      Q (flat_map f ys ++ rest)
 
 -- behind others it is so too
 pub unordered_behind : {Y : Type 0} (Q : List Y → Type 0) → IsUnordered Q → (before : List Y) → IsUnordered (λ ys. Q (before ++ ys))
@@ -26,44 +26,55 @@ unordered_behind Q front before xs part ys h =
     front part before (xs ++ ys) one
 
 pub reorders_same : {X : Type 0} {xs ys : List X} → xs ≡ ys → Reorders xs ys
-reorders_same e f Q front rest h = subst (λ zs. Q (flat_map f zs ++ rest)) e h
+reorders_same e = record { parts = λ f Q front rest h. subst (λ zs. Q (flat_map f zs ++ rest)) e h }
 
 pub reorders_then : {X : Type 0} {xs ys zs : List X} → Reorders xs ys → Reorders ys zs → Reorders xs zs
-reorders_then a b f Q front rest h = b f Q front rest (a f Q front rest h)
+reorders_then a b = record { parts = λ f Q front rest h. b.parts f Q front rest (a.parts f Q front rest h) }
+
+-- the parts of three
+joined : {X Y : Type 0} (f : X → List Y) (xs ys zs : List X) (rest : List Y) →
+    flat_map f (xs ++ (ys ++ zs)) ++ rest ≡ flat_map f xs ++ (flat_map f ys ++ (flat_map f zs ++ rest))
+joined f xs ys zs rest =
+    let A = flat_map f xs in let B = flat_map f ys in let C = flat_map f zs in
+    ap (λ ws. ws ++ rest) (flat_map-append f xs (ys ++ zs) ∙ ap (λ ws. A ++ ws) (flat_map-append f ys zs))
+    ∙ append_assoc A (B ++ C) rest ∙ ap (λ ws. A ++ ws) (append_assoc B C rest)
 
 -- a part in front of another
 pub reorders_part : {X : Type 0} (xs ys zs : List X) → Reorders (xs ++ (ys ++ zs)) (ys ++ (xs ++ zs))
-reorders_part xs ys zs f Q front rest h =
-    let A = flat_map f xs in let B = flat_map f ys in let C = flat_map f zs in
-    let whole = λ (as bs cs : List _). flat_map-append f as (bs ++ cs) ∙ ap (λ ws. flat_map f as ++ ws) (flat_map-append f bs cs) in
-    let one : Q (A ++ (B ++ (C ++ rest))) =
-    subst Q (append_assoc A (B ++ C) rest ∙ ap (λ ws. A ++ ws) (append_assoc B C rest))
-    (subst (λ ws. Q (ws ++ rest)) (whole xs ys zs) h) in
-    subst (λ ws. Q (ws ++ rest)) (sym (whole ys xs zs))
-    (subst Q (sym (append_assoc B (A ++ C) rest ∙ ap (λ ws. B ++ ws) (append_assoc A C rest))) (front A B (C ++ rest) one))
+reorders_part xs ys zs = record {
+  parts = λ f Q front rest h.
+      let A = flat_map f xs in let B = flat_map f ys in let C = flat_map f zs in
+      subst Q (sym (joined f ys xs zs rest)) (front A B (C ++ rest) (subst Q (joined f xs ys zs rest) h));
+}
 
 -- behind others, and before others
 pub reorders_behind : {X : Type 0} (before : List X) {xs ys : List X} → Reorders xs ys → Reorders (before ++ xs) (before ++ ys)
-reorders_behind before {xs} {ys} r f Q front rest h =
-    let A = flat_map f before in
-    let one : Q (A ++ (flat_map f xs ++ rest)) =
-    subst Q (append_assoc A (flat_map f xs) rest) (subst (λ ws. Q (ws ++ rest)) (flat_map-append f before xs) h) in
-    let two = r f (λ ws. Q (A ++ ws)) (unordered_behind Q front A) rest one in
-    subst (λ ws. Q (ws ++ rest)) (sym (flat_map-append f before ys)) (subst Q (sym (append_assoc A (flat_map f ys) rest)) two)
+reorders_behind before {xs} {ys} r = record {
+  parts = λ f Q front rest h.
+      let A = flat_map f before in
+      let one : Q (A ++ (flat_map f xs ++ rest)) =
+      subst Q (append_assoc A (flat_map f xs) rest) (subst (λ ws. Q (ws ++ rest)) (flat_map-append f before xs) h) in
+      let two = r.parts f (λ ws. Q (A ++ ws)) (unordered_behind Q front A) rest one in
+      subst (λ ws. Q (ws ++ rest)) (sym (flat_map-append f before ys)) (subst Q (sym (append_assoc A (flat_map f ys) rest)) two);
+}
 
 pub reorders_before : {X : Type 0} (behind : List X) {xs ys : List X} → Reorders xs ys → Reorders (xs ++ behind) (ys ++ behind)
-reorders_before behind {xs} {ys} r f Q front rest h =
-    let A = flat_map f behind in
-    let one : Q (flat_map f xs ++ (A ++ rest)) =
-    subst Q (append_assoc (flat_map f xs) A rest) (subst (λ ws. Q (ws ++ rest)) (flat_map-append f xs behind) h) in
-    subst (λ ws. Q (ws ++ rest)) (sym (flat_map-append f ys behind))
-    (subst Q (sym (append_assoc (flat_map f ys) A rest)) (r f Q front (A ++ rest) one))
+reorders_before behind {xs} {ys} r = record {
+  parts = λ f Q front rest h.
+      let A = flat_map f behind in
+      let one : Q (flat_map f xs ++ (A ++ rest)) =
+      subst Q (append_assoc (flat_map f xs) A rest) (subst (λ ws. Q (ws ++ rest)) (flat_map-append f xs behind) h) in
+      subst (λ ws. Q (ws ++ rest)) (sym (flat_map-append f ys behind))
+      (subst Q (sym (append_assoc (flat_map f ys) A rest)) (r.parts f Q front (A ++ rest) one));
+}
 
 -- of each the same
 pub reorders_map : {X Z : Type 0} (g : X → Z) {xs ys : List X} → Reorders xs ys → Reorders (map g xs) (map g ys)
-reorders_map g {xs} {ys} r f Q front rest h =
-    subst (λ ws. Q (ws ++ rest)) (sym (flat_map-map f g ys))
-    (r (λ x. f (g x)) Q front rest (subst (λ ws. Q (ws ++ rest)) (flat_map-map f g xs) h))
+reorders_map g {xs} {ys} r = record {
+  parts = λ f Q front rest h.
+      subst (λ ws. Q (ws ++ rest)) (sym (flat_map-map f g ys))
+      (r.parts (λ x. f (g x)) Q front rest (subst (λ ws. Q (ws ++ rest)) (flat_map-map f g xs) h));
+}
 
 -- one that stands between others comes to stand before them
 pub reorders_front : {X : Type 0} (before behind : List X) (x : X) → Reorders (before ++ (x ∷ behind)) (x ∷ (before ++ behind))
@@ -134,15 +145,15 @@ all_unordered P xs part ys all =
 
 pub all_reordered : {X : Type 0} (P : X → Type 0) {xs ys : List X} → Reorders xs ys → All P xs → All P ys
 all_reordered P {xs} {ys} r all =
-    subst (All P) (single ys) (r (λ x. x ∷ []) (All P) (all_unordered P) [] (subst (All P) (sym (single xs)) all))
+    subst (All P) (single ys) (r.parts (λ x. x ∷ []) (All P) (all_unordered P) [] (subst (All P) (sym (single xs)) all))
 
 -- and the sum is the same
 pub sum_reordered : {X : Type 0} (n : X → ℕ) {xs ys : List X} → Reorders xs ys → sum_by n ys ≡ sum_by n xs
 sum_reordered n {xs} {ys} r =
     subst (λ zs. sum_by n zs ≡ sum_by n xs) (single ys)
-    (r (λ x. x ∷ []) (λ zs. sum_by n zs ≡ sum_by n xs)
-    (λ as part bs e.
-    let a = sum_by-append n as (part ++ bs) in let b = sum_by-append n part bs in
-    let c = sum_by-append n part (as ++ bs) in let d = sum_by-append n as bs in
-    let z : sum_by n (part ++ (as ++ bs)) ≡ sum_by n xs = omega (arith, a, b, c, d, e) in z) []
+    (r.parts (λ x. x ∷ []) (λ zs. sum_by n zs ≡ sum_by n xs)
+    (λ us part vs e.
+    let a = sum_by-append n us (part ++ vs) in let b = sum_by-append n part vs in
+    let c = sum_by-append n part (us ++ vs) in let d = sum_by-append n us vs in
+    let z : sum_by n (part ++ (us ++ vs)) ≡ sum_by n xs = omega (arith, a, b, c, d, e) in z) []
     (subst (λ zs. sum_by n zs ≡ sum_by n xs) (sym (single xs)) refl))

@@ -77,7 +77,7 @@ pub record KeepsBundles (heap : Heap) (q : Queues) (loose : List ℕ) (room : �
   pub fits : All (λ addr. ObjectFits (b.object_at addr)) (with_loose b.rows loose)
   pub named : (acct : Acct) → AreNamed acct (bundle_extents b.object_at acct (with_loose b.rows loose)) b.sources
   pub tickets : (acct : Acct) → TellsTickets heap acct (b.tickets acct)
-  pub room : bundle_moves b.object_at (with_loose b.rows loose) + room ≤ heap.spare
+  pub spare : bundle_moves b.object_at (with_loose b.rows loose) + room ≤ heap.spare
 
 -- some bundles are kept so
 pub record SomeBundles (heap : Heap) (q : Queues) (loose : List ℕ) (room : ℕ) : Type 0 where
