@@ -1,43 +1,70 @@
 // Deadlines, and an object that is put twice.
-use crate::disks::formatted;
+ghost use Rattle.std.specs.Prelude.{◌≤◌, ◌∷◌, [], IfOk};
+ghost use Rattle.sdr_base.specs.Moves.{KeepsSome};
+ghost use Rattle.bp_queue.specs.Bundles.{HasNothing, SomeBundles};
+
+use crate::heaps::begun;
 use bp_queue::{
-    Class, EarliestFirst, HighestFirst, Orders, Queues, create, earliest, expire, length, put, take,
+    Class, EarliestFirst, HighestFirst, Orders, Queues, bundles_keep, create, earliest, expire,
+    length, put, take,
 };
 use sdr_base::{Acct, Addr, Objects, Refusal, Stop};
-use sdr_disk::MemoryDisk;
-use sdr_heap::Heap;
-use sdr_image::Image;
 use sdr_list::Collation;
-use std::alloc::Global;
+
+/// Queues, and three objects.
+#[derive(Clone, Copy, Debug, PartialEq, Eq, Drop)]
+struct Three {
+    queues: Queues,
+    first: Addr,
+    second: Addr,
+    third: Addr,
+}
 
 fn orders() -> Orders<EarliestFirst, HighestFirst> {
     Orders::new(Collation::new(EarliestFirst), Collation::new(HighestFirst))
 }
 
-// A heap over an image of a disk in memory, in a transaction.
-fn begun(alloc: Global) -> Option<Heap<Image<MemoryDisk>>> {
-    let disk = formatted(alloc)?;
-    let mut image = Image::open(alloc, disk).ok()?;
-    image.begin();
-    Heap::new(alloc, image).ok()
+fn three<O: Objects>(o: &mut O) -> Result<Three, Stop>
+    requires kept { KeepsSome (O.keeps o.old) }
+    requires nothing { HasNothing (O.heap o.old) }
+    requires spare { 31 ≤ (O.heap o.old).spare }
+    ensures kept { IfOk result (λ _. KeepsSome (O.keeps o.new)) }
+    ensures bundles { IfOk result (λ made. SomeBundles (O.heap o.new) made.queues
+        (made.third ∷ made.second ∷ made.first ∷ []) 12) }
+{
+    bundles_keep();
+    let queues = create(o)?;
+    let first = zco_obj::create(o, Acct::Outbound, 0)?;
+    let second = zco_obj::create(o, Acct::Outbound, 0)?;
+    let third = zco_obj::create(o, Acct::Outbound, 0)?;
+    Ok(Three {
+        queues,
+        first,
+        second,
+        third,
+    })
 }
 
-// Queues, and three objects.
-type Begun = (Queues, Addr, Addr, Addr);
-
-fn three<O: Objects>(o: &mut O) -> Result<Begun, Stop> {
-    let q = create(o)?;
-    let a = zco_obj::create(o, Acct::Outbound, 0)?;
-    let b = zco_obj::create(o, Acct::Outbound, 0)?;
-    let c = zco_obj::create(o, Acct::Outbound, 0)?;
-    Ok((q, a, b, c))
+// Puts the three objects; their items.
+fn put_three<O: Objects>(o: &mut O, made: &Three) -> Result<[Addr; 3], Stop>
+    requires kept { KeepsSome (O.keeps o.old) }
+    requires bundles { SomeBundles (O.heap o.old) made.now.queues
+        (made.now.third ∷ made.now.second ∷ made.now.first ∷ []) 12 }
+    ensures kept { IfOk result (λ _. KeepsSome (O.keeps o.new)) }
+    ensures bundles { IfOk result (λ _. SomeBundles (O.heap o.new) made.now.queues [] 3) }
+{
+    bundles_keep();
+    let by = orders();
+    let q = &made.queues;
+    let first = put(o, q, Class::Bulk, 0, 50, made.first, &by)?;
+    let second = put(o, q, Class::Urgent, 1, 30, made.second, &by)?;
+    let third = put(o, q, Class::Urgent, 9, 70, made.third, &by)?;
+    Ok([first, second, third])
 }
 
-// What the calls of the first row answer, in order.
-#[derive(Clone, Copy, Debug, PartialEq, Eq)]
+/// What the calls of the first row answer, in order.
+#[derive(Clone, Copy, Debug, PartialEq, Eq, Drop)]
 struct Deadlines {
-    begun: Begun,
-    items: [Addr; 3],
     urgent: u64,
     first: Option<u64>,
     early: u64,
@@ -46,23 +73,18 @@ struct Deadlines {
     last: Option<u64>,
 }
 
-fn answers<O: Objects>(o: &mut O) -> Result<Deadlines, Stop> {
-    let by = orders();
-    let (q, a, b, c) = three(o)?;
-    let items = [
-        put(o, &q, Class::Bulk, 0, 50, a, &by)?,
-        put(o, &q, Class::Urgent, 1, 30, b, &by)?,
-        put(o, &q, Class::Urgent, 9, 70, c, &by)?,
-    ];
-    let urgent = length(o, &q, Class::Urgent)?;
-    let first = earliest(o, &q)?;
-    let early = expire(o, &q, 29)?;
-    let taken = take(o, &q)?;
-    let late = expire(o, &q, 50)?;
-    let last = earliest(o, &q)?;
+fn deadlines<O: Objects>(o: &mut O, q: &Queues) -> Result<Deadlines, Stop>
+    requires kept { KeepsSome (O.keeps o.old) }
+    requires bundles { SomeBundles (O.heap o.old) q.now [] 3 }
+{
+    bundles_keep();
+    let urgent = length(o, q, Class::Urgent)?;
+    let first = earliest(o, q)?;
+    let early = expire(o, q, 29)?;
+    let taken = take(o, q)?;
+    let late = expire(o, q, 50)?;
+    let last = earliest(o, q)?;
     Ok(Deadlines {
-        begun: (q, a, b, c),
-        items,
         urgent,
         first,
         early,
@@ -72,22 +94,32 @@ fn answers<O: Objects>(o: &mut O) -> Result<Deadlines, Stop> {
     })
 }
 
+fn answers<O: Objects>(o: &mut O) -> Result<(Three, [Addr; 3], Deadlines), Stop>
+    requires kept { KeepsSome (O.keeps o.old) }
+    requires nothing { HasNothing (O.heap o.old) }
+    requires spare { 31 ≤ (O.heap o.old).spare }
+{
+    let made = three(o)?;
+    let items = put_three(o, &made)?;
+    let answers = deadlines(o, &made.queues)?;
+    Ok((made, items, answers))
+}
+
 #[test]
 fn the_first_of_the_highest_class_is_taken_and_those_that_are_overdue_go(rt: HostRuntime) {
     let mut heap = begun(rt.alloc()).unwrap();
+    let made = Three {
+        queues: Queues {
+            bulk: 2056,
+            normal: 2096,
+            urgent: 2136,
+            line: 2176,
+        },
+        first: 2216,
+        second: 2296,
+        third: 2376,
+    };
     let wanted = Deadlines {
-        begun: (
-            Queues {
-                bulk: 2056,
-                normal: 2096,
-                urgent: 2136,
-                line: 2176,
-            },
-            2216,
-            2296,
-            2376,
-        ),
-        items: [2456, 2600, 2744],
         urgent: 2,
         first: Some(30),
         early: 0,
@@ -95,25 +127,45 @@ fn the_first_of_the_highest_class_is_taken_and_those_that_are_overdue_go(rt: Hos
         late: 2,
         last: None,
     };
-    assert_eq!(rt; answers(&mut heap), Ok(wanted));
+    assert_eq!(rt; answers(&mut heap), Ok((made, [2456, 2600, 2744], wanted)));
 }
 
-// What the calls of the second row answer, in order.
-type Twice = (Addr, Result<Addr, Stop>, Addr, Addr);
+// What is taken, once and again.
+fn taken_twice<O: Objects>(o: &mut O, q: &Queues, loose: Addr, other: Addr) -> Result<(Addr, Addr), Stop>
+    requires kept { KeepsSome (O.keeps o.old) }
+    requires bundles { SomeBundles (O.heap o.old) q.now (loose ∷ other ∷ []) 6 }
+{
+    bundles_keep();
+    let taken = take(o, q)?;
+    let none = take(o, q)?;
+    Ok((taken, none))
+}
 
-fn twice<O: Objects>(o: &mut O) -> Result<Twice, Stop> {
+/// What the calls of the second row answer, in order: the item, the item that is told as it is put again, and what is taken.
+type Twice = (Addr, Addr, (Addr, Addr));
+
+// `None`: it was put again.
+fn twice<O: Objects>(o: &mut O) -> Result<Option<Twice>, Stop>
+    requires kept { KeepsSome (O.keeps o.old) }
+    requires nothing { HasNothing (O.heap o.old) }
+    requires spare { 31 ≤ (O.heap o.old).spare }
+{
+    bundles_keep();
+    let made = three(o)?;
+    let q = &made.queues;
     let by = orders();
-    let (q, a, _, _) = three(o)?;
-    let item = put(o, &q, Class::Bulk, 0, 50, a, &by)?;
-    let again = put(o, &q, Class::Bulk, 0, 50, a, &by);
-    let taken = take(o, &q)?;
-    let none = take(o, &q)?;
-    Ok((item, again, taken, none))
+    let item = put(o, q, Class::Bulk, 0, 50, made.first, &by)?;
+    let told = match put(o, q, Class::Bulk, 0, 50, made.first, &by) {
+        Err(Stop::Refused(Refusal::KeyTaken { value })) => value,
+        Err(stop) => return Err(stop),
+        Ok(_) => return Ok(None),
+    };
+    let taken = taken_twice(o, q, made.third, made.second)?;
+    Ok(Some((item, told, taken)))
 }
 
 #[test]
 fn an_object_that_waits_is_not_put_again(rt: HostRuntime) {
     let mut heap = begun(rt.alloc()).unwrap();
-    let again = Err(Stop::Refused(Refusal::KeyTaken { value: 2456 }));
-    assert_eq!(rt; twice(&mut heap), Ok((2456, again, 2216, 0)));
+    assert_eq!(rt; twice(&mut heap), Ok(Some((2456, 2456, (2216, 0)))));
 }

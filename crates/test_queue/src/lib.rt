@@ -4,10 +4,10 @@
 //! literals come from worked rows and from the rules, and not from the code. Here stands what no clause says: that the calls succeed
 //! with ample memory, and at which addresses.
 //!
-//! Proved: nothing; these are tests.
+//! Proved: nothing beside that each call has what it needs; these are tests.
 #![tactic(auto)]
 
 #[cfg(test)]
 mod deadline_tests;
 #[cfg(test)]
-mod disks;
+mod heaps;
