@@ -25,7 +25,7 @@ mod taking;
 
 pub use class::Class;
 pub use expiring::expire;
-pub use laws::queues_keep;
+pub use laws::{bundles_keep, queues_keep};
 pub use orders::{EarliestFirst, HighestFirst, Orders};
 pub use putting::{LAST_NUMBER, put};
 pub use queues::{FIRST_NUMBER, Queues, create, earliest, length};
