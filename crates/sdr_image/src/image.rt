@@ -507,10 +507,11 @@ impl<D: Disk> Cells for Image<D> {
         if self.failed {
             return Err(Stop::Failed);
         }
-        if !into.is_empty() && place % LINE + into.len() as u64 <= LINE {
+        let count = into.len() as u64;
+        if count > 0 && place % LINE + count <= LINE {
             return self.get_one(place, into);
         }
-        let (first, end) = span(place, into.len() as u64);
+        let (first, end) = span(place, count);
         self.get_all(place, into, first, end)
     }
 
