@@ -56,5 +56,5 @@ returns-in_ok-bytes-in-Logged-clause-given g c =
     let at = sym c.at.ensures ∙ c.in-Logged.is in
     let same = unbuffered f (begun_of x) o x c.requires.stands c.requires.kept c.args.line c.requires.below (ap is_buffered at) in
     c.copy-in-Logged.ensures
-    ∙ ap (part c.args.at n) (c.in_ok-bytes.ensures.given ∙ sym same)
+    ∙ ap (part c.args.at n) (c.in_ok-bytes-in-Logged.ensures.given ∙ sym same)
     ∙ part-within (64 * c.args.line) c.args.at n 64 (now_of f o x) c.requires.inside
