@@ -1,4 +1,4 @@
-use Rattle.std.proofs.Common.{◌≤◌, ◌<◌, ◌∙◌, ◌+◌, ◌*◌, [], ℕ, true, false, List, length, refl, sym, ap, subst, arith}
+use Rattle.std.proofs.Common.{◌≤◌, ◌<◌, ◌∙◌, ◌+◌, ◌*◌, [], ℕ, false, List, length, refl, sym, ap, subst, arith}
 use Rattle.std.proofs.Common.{true≢false}
 use Rattle.sdr_disk.specs.Moments.{AtEach}
 use Rattle.sdr_log.specs.Log.{first_gate}

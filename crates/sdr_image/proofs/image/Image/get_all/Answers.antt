@@ -1,11 +1,11 @@
-use Rattle.std.proofs.Common.{◌≡◌, ◌≤◌, ◌<◌, ◌∙◌, ◌+◌, ◌-◌, ◌*◌, ℕ, Bool, true, false, List, length, min, take, drop, refl, sym, ap, arith}
+use Rattle.std.proofs.Common.{◌≡◌, ◌≤◌, ◌<◌, ◌∙◌, ◌+◌, ◌-◌, ◌*◌, ℕ, true, length, min, take, drop, refl, sym, ap, arith}
 use Rattle.std.proofs.lemmas.List.{length-take-le}
 use Rattle.std.proofs.Common.{length-drop}
 use Rattle.sdr_base.specs.Parts.{part}
 use Rattle.sdr_disk.proofs.MomentsLemmas.{Reads-trans}
 use Rattle.sdr_image.specs.Opened.{Opened}
 use Rattle.sdr_image.specs.QuietLaws.{quiet_read}
-use Rattle.sdr_image.proofs.LoopsLemmas.{all_covered, piece_inside, piece_order, read_next, take_past}
+use Rattle.sdr_image.proofs.LoopsLemmas.{all_covered, piece_order, read_next, take_past}
 use Rattle.sdr_image.proofs.image.Image.get_all.Goals as goal
 
 pub piece-at-requires-clause-small : goal.piece-at-requires-clause-small

@@ -1,4 +1,4 @@
-use Rattle.std.proofs.Common.{◌≡◌, ◌<◌, ◌∙◌, [], true, false, length, sym, ap, subst, arith}
+use Rattle.std.proofs.Common.{◌≡◌, ◌<◌, ◌∙◌, [], false, length, sym, ap, subst, arith}
 use Rattle.std.proofs.Common.{Some, true≢false}
 use Rattle.sdr_disk.specs.Moments.{AtEach}
 use Rattle.sdr_log.specs.Spilled.{GivesEither}
