@@ -167,7 +167,7 @@ module _ {q : Queues} {loose : List ℕ} {most object : ℕ} {old new : Heap} (s
     keeps =
         handed_on s.keeps 3 takes.keeps (ap (λ (x : Heap). x.roots) takes.made.all) turns
         (let n = gave_spare (blocks_of (highest waiting_of waited)) takes.made in
-            let f = few_blocks (highest waiting_of waited) in omega (arith, n, f))
+        let f = few_blocks (highest waiting_of waited) in omega (arith, n, f))
         few;
   }
 
@@ -239,66 +239,66 @@ module _ (object_at : ℕ → ObjectRow) where
 
 -- those that were overdue are gone
 module _ {q : Queues} {loose : List ℕ} {room now count : ℕ} {old new : Heap} (s : SomeBundles old q loose room) (e : ExpiresAll q now old new count)
-    where
-  abbrev b : Bundles
-  b = s.bundles
+  where
+    abbrev b : Bundles
+    b = s.bundles
 
-  abbrev later : List Row
-  later = later_than waiting_of now b.rows
+    abbrev later : List Row
+    later = later_than waiting_of now b.rows
 
-  abbrev late : List Row
-  late = overdue waiting_of now b.rows
+    abbrev late : List Row
+    late = overdue waiting_of now b.rows
 
-  abbrev begun : Expiry
-  begun = record { gone = []; sources = b.sources; rest = beside_late s.keeps now; heap = old }
+    abbrev begun : Expiry
+    begun = record { gone = []; sources = b.sources; rest = beside_late s.keeps now; heap = old }
 
-  abbrev gone : Expiry
-  gone = expiry_of now b.rows b.object_at b.sources (beside_late s.keeps now) old
+    abbrev gone : Expiry
+    gone = expiry_of now b.rows b.object_at b.sources (beside_late s.keeps now) old
 
-  abbrev raws : Entries
-  raws = (raws_before b.object_at begun late).0
+    abbrev raws : Entries
+    raws = (raws_before b.object_at begun late).0
 
-  expires : Expired q now b.next b.rows b.object_at b.sources gone old new count
-  expires = e.expires b.next b.rows b.object_at b.sources (beside_late s.keeps now) (keeps_late s.keeps now)
+    expires : Expired q now b.next b.rows b.object_at b.sources gone old new count
+    expires = e.expires b.next b.rows b.object_at b.sources (beside_late s.keeps now) (keeps_late s.keeps now)
 
-  left_kept : KeepsQueues new.blocks q b.next later
-      (bundle_entries b.object_at (with_loose later loose) ++ (sources_entries gone.sources ++ (tickets_entries b.tickets ++ (raws ++ b.rest))))
-  left_kept =
-      let P : Entries → Type 0 = KeepsQueues new.blocks q b.next later in
-      let U = kept_unordered new.blocks q b.next later in
-      let B = bundle_entries b.object_at (with_loose later loose) in
-      let S = sources_entries gone.sources in
-      let T = tickets_entries b.tickets in
-      let R = b.rest in
-      let one : P (S ++ (raws ++ (B ++ (T ++ R)))) =
-      subst (λ es. P (S ++ es)) (raws_before b.object_at begun late).1 expires.keeps in
-      let two : P (B ++ ((S ++ raws) ++ (T ++ R))) = U (S ++ raws) B (T ++ R) (subst P (sym (append_assoc S raws (B ++ (T ++ R)))) one) in
-      let three : P ((B ++ S) ++ (raws ++ (T ++ R))) =
-      subst P (ap (λ es. B ++ es) (append_assoc S raws (T ++ R)) ∙ sym (append_assoc B S (raws ++ (T ++ R)))) two in
-      subst P (append_assoc B S (T ++ (raws ++ R))) (unordered_behind P U (B ++ S) raws T R three)
+    left_kept : KeepsQueues new.blocks q b.next later
+        (bundle_entries b.object_at (with_loose later loose) ++ (sources_entries gone.sources ++ (tickets_entries b.tickets ++ (raws ++ b.rest))))
+    left_kept =
+        let P : Entries → Type 0 = KeepsQueues new.blocks q b.next later in
+        let U = kept_unordered new.blocks q b.next later in
+        let B = bundle_entries b.object_at (with_loose later loose) in
+        let S = sources_entries gone.sources in
+        let T = tickets_entries b.tickets in
+        let R = b.rest in
+        let one : P (S ++ (raws ++ (B ++ (T ++ R)))) =
+        subst (λ es. P (S ++ es)) (raws_before b.object_at begun late).1 expires.keeps in
+        let two : P (B ++ ((S ++ raws) ++ (T ++ R))) = U (S ++ raws) B (T ++ R) (subst P (sym (append_assoc S raws (B ++ (T ++ R)))) one) in
+        let three : P ((B ++ S) ++ (raws ++ (T ++ R))) =
+        subst P (ap (λ es. B ++ es) (append_assoc S raws (T ++ R)) ∙ sym (append_assoc B S (raws ++ (T ++ R)))) two in
+        subst P (append_assoc B S (T ++ (raws ++ R))) (unordered_behind P U (B ++ S) raws T R three)
 
-  pub expired : SomeBundles new q loose room
-  expired = record {
-    bundles = record b { rows = later; sources = gone.sources; rest = raws ++ b.rest };
-    keeps = record {
-      queues = left_kept;
-      fits =
-          let P : ℕ → Type 0 = λ addr. ObjectFits (b.object_at addr) in
-          all_behind P (map object_in late) (with_loose later loose) (all_reordered P (overdue_first now b.rows loose) s.keeps.fits);
-      named = λ acct. expires.named acct (bundle_extents b.object_at acct (with_loose later loose)) (named_late s.keeps now acct);
-      tickets = λ acct.
-          let roots : new.roots ≡ gone.heap.roots = ap (λ (x : Heap). x.roots) expires.others in
-          tells_still (ap (λ words. words (first_word acct)) roots ∙ gone_first b.object_at begun late acct)
-          (ap (λ words. words (last_word acct)) roots ∙ gone_last b.object_at begun late acct) (s.keeps.tickets acct);
-      spare =
-          let g = gave_spare {old = gone.heap} {new = new} gone.gone (record { all = expires.others }) in
-          let h = gone_spare b.object_at begun late in
-          let n = gone_few b.object_at begun late in
-          let m = moves_late s.keeps now in
-          let r = s.keeps.spare in
-          omega (arith, g, h, n, m, r);
-    };
-  }
+    pub expired : SomeBundles new q loose room
+    expired = record {
+      bundles = record b { rows = later; sources = gone.sources; rest = raws ++ b.rest };
+      keeps = record {
+        queues = left_kept;
+        fits =
+            let P : ℕ → Type 0 = λ addr. ObjectFits (b.object_at addr) in
+            all_behind P (map object_in late) (with_loose later loose) (all_reordered P (overdue_first now b.rows loose) s.keeps.fits);
+        named = λ acct. expires.named acct (bundle_extents b.object_at acct (with_loose later loose)) (named_late s.keeps now acct);
+        tickets = λ acct.
+            let roots : new.roots ≡ gone.heap.roots = ap (λ (x : Heap). x.roots) expires.others in
+            tells_still (ap (λ words. words (first_word acct)) roots ∙ gone_first b.object_at begun late acct)
+            (ap (λ words. words (last_word acct)) roots ∙ gone_last b.object_at begun late acct) (s.keeps.tickets acct);
+        spare =
+            let g = gave_spare {old = gone.heap} {new = new} gone.gone (record { all = expires.others }) in
+            let h = gone_spare b.object_at begun late in
+            let n = gone_few b.object_at begun late in
+            let m = moves_late s.keeps now in
+            let r = s.keeps.spare in
+            omega (arith, g, h, n, m, r);
+      };
+    }
 
 -- an object comes to stand beside tickets, and other blocks
 added : {b b' : Blocks} (O T A Z : Entries) → Changes b b' T (O ++ T) → BlocksAre b (A ++ (T ++ Z)) → BlocksAre b' (O ++ (A ++ (T ++ Z)))
@@ -314,8 +314,7 @@ others_apart {b} object object_at free before (addr ∷ addrs) rest s =
     let z = object_at addr in
     let O = object_entries addr z in
     let B = bundle_entries object_at addrs in
-    let there : b addr ≡ Some (object_block z) = found b addr (object_block z) before _ s in
-    (
+    let there : b addr ≡ Some (object_block z) = found b addr (object_block z) before _ s in (
       λ same. (let n : None ≡ Some (object_block z) = sym free ∙ ap b (sym same) ∙ there in cc),
       others_apart object object_at free (before ++ O) addrs rest
           (subst (BlocksAre b) (ap (λ es. before ++ es) (append_assoc O B rest) ∙ sym (append_assoc before O (B ++ rest))) s),

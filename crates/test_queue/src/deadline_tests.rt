@@ -131,7 +131,12 @@ fn the_first_of_the_highest_class_is_taken_and_those_that_are_overdue_go(rt: Hos
 }
 
 // What is taken, once and again.
-fn taken_twice<O: Objects>(o: &mut O, q: &Queues, loose: Addr, other: Addr) -> Result<(Addr, Addr), Stop>
+fn taken_twice<O: Objects>(
+    o: &mut O,
+    q: &Queues,
+    loose: Addr,
+    other: Addr,
+) -> Result<(Addr, Addr), Stop>
     requires kept { KeepsSome (O.keeps o.old) }
     requires bundles { SomeBundles (O.heap o.old) q.now (loose ∷ other ∷ []) 6 }
 {
