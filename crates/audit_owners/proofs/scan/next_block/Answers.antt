@@ -1,4 +1,4 @@
-use Rattle.std.proofs.Common.{◌≡◌, ◌<◌, ◌*◌, ℕ, false, arith, subst, inl, inr}
+use Rattle.std.proofs.Common.{◌≡◌, ◌*◌, ℕ, false, arith, subst, inl, inr}
 use Rattle.std.specs.Prelude.{is_some}
 use Rattle.std.proofs.lemmas.Bool.{cases_lt}
 use Rattle.sdr_base.specs.Blocks.{kind_length}
