@@ -1,4 +1,4 @@
-use Rattle.std.proofs.Common.{◌≡◌, ◌+◌, ◌*◌, ◌∙◌, ◌/◌, ℕ, length, sum_by, arith, ap, sym}
+use Rattle.std.proofs.Common.{◌+◌, ◌*◌, ◌∙◌, ◌/◌, ℕ, length, sum_by, arith, ap, sym}
 use Rattle.sdr_base.specs.declared.kind.Space.{Space}
 use Rattle.audit_counts.proofs.ChargesLemmas.{charge_more, charges_over, charges_same}
 use Rattle.audit_owners.specs.Places.{places}
