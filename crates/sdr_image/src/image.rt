@@ -1,6 +1,6 @@
 // An opened disk.
 ghost use Rattle.std.specs.Prelude.{◌≡◌, ◌≤◌, ◌<◌, ◌+◌, ◌-◌, ◌*◌, ◌^◌, ◌∷◌, [], ℕ, true, false, length, min};
-ghost use Rattle.std.specs.Prelude.{IfOk, IfErr, IsPermutation, OnErr, OnOk, None};
+ghost use Rattle.std.specs.Prelude.{IfOk, IfErr, IsErrOf, IsPermutation, OnErr, OnOk, None};
 ghost use Rattle.std.specs.List.{range_with_len};
 ghost use Rattle.sdr_base.specs.Cells.{is_among, with_lines, lines_of, TouchesLines, TouchesSome};
 ghost use Rattle.sdr_base.specs.Parts.{overwrite, part};
@@ -165,6 +165,7 @@ impl<D: Disk> Image<D> {
     /// one at each moment since any state before it in the transaction.
     pub fn now(&self) -> u64
         ensures moment { result ≡ D.moment self.now.disk }
+        ensures holds { Holds D.bytes self.now }
         ensures leaves { self.now.failed ≡ false
             → Rests D.bytes D.tells_crashes D.moment D.may_hold_after self.now
             → LeavesHeap D.tells_crashes D.moment D.may_hold_after self.now.begun self.now.disk }
@@ -234,6 +235,8 @@ impl<D: Disk> Image<D> {
         // Where no batch is open, no call of the disk is made.
         ensures same { first_gate (D.bytes self.old.disk) ≡ 0
             → self.new.disk ≡ self.old.disk }
+        ensures idle { self.old.touched ≡ [] → self.new.disk ≡ self.old.disk }
+        ensures some { IsErrOf result Stop.DiskFault → 0 < length self.old.touched }
         ensures forward { D.moment self.old.disk ≤ D.moment self.new.disk }
         ensures calls { D.moment self.new.disk
             ≤ D.moment self.old.disk + 2 * calls_of (length self.old.touched) }
