@@ -1,5 +1,5 @@
 // A heap on an image as the ground of a lock.
-ghost use Rattle.std.specs.Prelude.{◌≡◌, ◌≤◌, ◌<◌, ◌+◌, ◌*◌, [], false, true, length};
+ghost use Rattle.std.specs.Prelude.{◌≡◌, ◌≢◌, ◌≤◌, ◌<◌, ◌+◌, ◌*◌, [], false, true, length};
 ghost use Rattle.std.specs.Prelude.{IfErr, IfOk, IsErrOf, OnErr, OnOk};
 ghost use Rattle.sdr_disk.specs.Moments.{AtEach, Reads};
 ghost use Rattle.sdr_disk.specs.Tells.{IfTells};
@@ -232,6 +232,7 @@ impl<D: Disk, M: Media, F: Notify + Drop> HeapGround<D, M, F> {
             (Calls (M.told self.old.media) call.now reply)) }
         ensures stopped { IfOk result (λ reply. self.new.stopped ≡ dooms call.now reply) }
         ensures gives { IfOk result (λ reply. GivesReply reply self.new) }
+        ensures other { IfOk result (λ reply. reply ≢ Reply.DiskFault) }
         ensures sound { OnOk result (self.new.heap.cells.failed ≡ false) }
         ensures gap { IfOk result (λ reply. HasLapseCause (Answer.Reply reply)
             (⟦<HeapGround<D, M, F> as HasGround>⟧.lapses self.old)
