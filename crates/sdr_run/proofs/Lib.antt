@@ -1,5 +1,6 @@
 mod GreetingExample
 pub mod DryLemmas
+pub mod EndingLemmas
 pub mod ScheduleLemmas
 pub mod StepsLemmas
 pub mod PlayingLemmas

@@ -20,7 +20,7 @@ use Rattle.sdr_machine.specs.Ground.{Ground, HasHeap}
 use Rattle.sdr_machine.specs.Serving.{Brings, Calls, KeepsGround, MeetsFault}
 use Rattle.sdr_model.specs.Fields.{FitsCall}
 use Rattle.sdr_model.specs.Pieces.{pieces_asked}
-use Rattle.sdr_model.specs.Reading.{is_reading}
+use Rattle.sdr_model.specs.Reading.{is_reading, reads_media}
 use Rattle.sdr_model.specs.Steps.{Outcome}
 use Rattle.sdr_model.specs.World.{World}
 use Rattle.sdr_model.specs.declared.answer.Answer.TheVariants as answers
@@ -61,6 +61,7 @@ pub record CameTo {D M : Type 0} (d : DiskGhosts D) (media : MediaGhosts M) (cal
 -- what a call leaves of a ground in which the disk failed
 pub record FaultsTo {D M : Type 0} (d : DiskGhosts D) (media : MediaGhosts M) (call : Call) (old new : Grounded D M) : Type 0 where
   pub fault : MeetsFault (heap_ground d.bytes d.tells_crashes d.moment d.faults d.may_hold_after media) old new
+  pub unasked : reads_media call ≡ false → new.media ≡ old.media
   pub asks : AsksMedia media call old new
   pub quiet : QuietOn d old.heap.cells new.heap.cells
   pub time : old.moment ≤ new.moment
@@ -238,14 +239,16 @@ module _ {D M : Type 0} (d : DiskGhosts D) (media : MediaGhosts M) (old : Ground
   failed_ground = record { heap = heap; media = files; shown = page; stopped = true; idle = false; moment = now; restored = old.restored }
 
   -- such a call
-  pub came_failed : (stop : Stop) → stop ≡ stops.DiskFault → WorksFrom (Err stop) → AsksBefore → FaultsTo d media call old failed_ground
-  came_failed stop is works' asked =
+  pub came_failed : (stop : Stop) → stop ≡ stops.DiskFault → WorksFrom (Err stop)
+      → (may_read call (Err stop) ≡ false → files ≡ old.media) → AsksBefore → FaultsTo d media call old failed_ground
+  came_failed stop is works' unread asked =
       let works = subst (λ (s : Stop). WorksFrom (Err s)) is works' in
       let w = works_from (Err stops.DiskFault) works some.for.now.world stands (served_in within) in
       let failed = has_failed d fresh heap (call_lines (heap_in fresh) some.for.now.world call) w in
       let quiet = quiet_from (Err stops.DiskFault) works in
       record {
         fault = record { heap = λ v at. subst (λ (b : Ground). HasHeap b) (sym at.memory.before.base) tt; cause = failed.1 };
+        unasked = subst (λ (s : Stop). may_read call (Err s) ≡ false → files ≡ old.media) is unread;
         asks = asks_media asked failed_ground refl;
         quiet = quiet;
         time = since_of failed_ground quiet seen;

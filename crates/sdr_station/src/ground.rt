@@ -14,7 +14,7 @@ ghost use Rattle.sdr_machine.specs.Standing.{GroundState};
 ghost use Rattle.sdr_log.specs.Calls.{KeepsDisk, KeepsRest};
 ghost use Rattle.sdr_log.specs.Log.{first_gate};
 ghost use Rattle.sdr_log.specs.Logged.{GivesSame};
-ghost use Rattle.sdr_model.specs.Reading.{is_reading};
+ghost use Rattle.sdr_model.specs.Reading.{is_reading, reads_media};
 ghost use Rattle.step_things.specs.Answering.{dooms};
 ghost use Rattle.sdr_station.specs.Grounded.{IsGoing, HasNoCalls, HasDiskSound, StandsInMemory, StaysInside, without_moves};
 ghost use Rattle.sdr_station.specs.Giving.{AsksMedia, GivesReply, reads_by};
@@ -241,6 +241,8 @@ impl<D: Disk, M: Media, F: Notify + Drop> HeapGround<D, M, F> {
             reads_by call.now reply ≡ false → self.new.media ≡ self.old.media) }
         ensures fault { OnErr result
             (MeetsFault ⟦<HeapGround<D, M, F> as HasGround>⟧ self.old self.new) }
+        ensures unasked { OnErr result
+            (reads_media call.now ≡ false → self.new.media ≡ self.old.media) }
         ensures restored { self.new.restored ≡ self.old.restored }
         ensures quiet { IsQuiet D.bytes D.tells_crashes D.moment D.may_hold_after
             self.old.heap.cells self.new.heap.cells }
@@ -340,6 +342,9 @@ impl<D: Disk, M: Media, F: Notify + Drop> HeapGround<D, M, F> {
         ensures media { self.new.media ≡ self.old.media }
         ensures fault { OnErr result
             (MeetsFault ⟦<HeapGround<D, M, F> as HasGround>⟧ self.old self.new) }
+        ensures untouched { OnOk result
+            (self.old.heap.cells.failed ≡ false → self.new.heap.cells.touched ≡ []) }
+        ensures begun { OnOk result (self.new.heap.cells.begun ≡ self.old.heap.cells.begun) }
         ensures seen { self.old.moment ≡ D.moment self.old.heap.cells.disk }
         ensures some { OnErr result (0 < length self.old.heap.cells.touched) }
         ensures holds { OnOk result (Holds D.bytes self.new.heap.cells) }

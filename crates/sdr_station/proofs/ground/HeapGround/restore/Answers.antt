@@ -58,6 +58,8 @@ returns-in-Ok g c =
     record {
       memory = all.memory;
       put_back = all.brings;
+      untouched = λ _. ap (λ (h : Held (Opened D)). h.cells.touched) heap;
+      begun = ap (λ (h : Held (Opened D)). h.cells.begun) heap ∙ ap (λ (o : Grounded D M). o.heap.cells.begun) c.self.view_is;
       seen = subst (λ (o : Grounded D M). o.moment ≡ m o.heap.cells.disk) c.self.view_is c.self.invariant.seen;
       going = λ _. refl;
       idle = λ _. refl;
@@ -745,6 +747,67 @@ returns-in-Err-Failed-clause-calls g c =
     let explained = subst (λ (s : Stop). Explains {T = Unit {0}} (transaction_of f old.heap.cells) (transaction_of f c.cancel.new.heap.cells) (Err s)) is
     e.cause.explained in
     subst (λ (o : Grounded D M). old.moment ≤ o.moment + 2 * calls_of (length o.heap.cells.touched)) c.self.view_is (omega arith)
+
+pub returns-in-Err-Failed-clause-begun : goal.returns-in-Err-Failed-clause-begun
+returns-in-Err-Failed-clause-begun g c =
+    let D = g.row.D.Denot in
+    let M = g.row.M.Denot in
+    let b = g.D.Disk.bytes in
+    let t = g.D.Disk.tells_crashes in
+    let m = g.D.Disk.moment in
+    let l = g.D.Disk.may_hold_after in
+    let f = g.D.Disk.faults in
+    let n = g.M.Media in
+    let e = c.in-Err-Failed.ensures in
+    let is = c.in-Err-Failed.field-0-is in
+    let old : Grounded D M = record {
+      heap = c.self.inside.heap;
+      media = c.self.inside.media;
+      shown = c.self.inside.shown;
+      stopped = c.self.inside.stopped;
+      idle = c.self.inside.idle;
+      moment = c.self.inside.moment;
+      restored = c.self.inside.restored;
+    } in
+    let same : c.cancel.new.heap.cells ≡ old.heap.cells =
+    subst (λ (s : Stop). StaysAt {T = Unit {0}} (Err s) old.heap.cells c.cancel.new.heap.cells) is e.stays in
+    let whole : c.cancel.new.heap ≡ old.heap = e.stops ∙ ap (λ (i : Opened D). record old.heap { cells = i }) same in
+    let new : Grounded D M = record old { heap = c.cancel.new.heap } in
+    let unchanged : new ≡ old = ap (λ (h : Held (Opened D)). record old { heap = h }) whole in
+    let explained = subst (λ (s : Stop). Explains {T = Unit {0}} (transaction_of f old.heap.cells) (transaction_of f c.cancel.new.heap.cells) (Err s)) is
+    e.cause.explained in
+    subst (λ (o : Grounded D M). c.cancel.new.heap.cells.begun ≡ o.heap.cells.begun) c.self.view_is (ap (λ (i : Opened D). i.begun) same)
+
+pub returns-in-Err-Failed-clause-untouched : goal.returns-in-Err-Failed-clause-untouched
+returns-in-Err-Failed-clause-untouched g c =
+    let D = g.row.D.Denot in
+    let M = g.row.M.Denot in
+    let b = g.D.Disk.bytes in
+    let t = g.D.Disk.tells_crashes in
+    let m = g.D.Disk.moment in
+    let l = g.D.Disk.may_hold_after in
+    let f = g.D.Disk.faults in
+    let n = g.M.Media in
+    let e = c.in-Err-Failed.ensures in
+    let is = c.in-Err-Failed.field-0-is in
+    let old : Grounded D M = record {
+      heap = c.self.inside.heap;
+      media = c.self.inside.media;
+      shown = c.self.inside.shown;
+      stopped = c.self.inside.stopped;
+      idle = c.self.inside.idle;
+      moment = c.self.inside.moment;
+      restored = c.self.inside.restored;
+    } in
+    let same : c.cancel.new.heap.cells ≡ old.heap.cells =
+    subst (λ (s : Stop). StaysAt {T = Unit {0}} (Err s) old.heap.cells c.cancel.new.heap.cells) is e.stays in
+    let whole : c.cancel.new.heap ≡ old.heap = e.stops ∙ ap (λ (i : Opened D). record old.heap { cells = i }) same in
+    let new : Grounded D M = record old { heap = c.cancel.new.heap } in
+    let unchanged : new ≡ old = ap (λ (h : Held (Opened D)). record old { heap = h }) whole in
+    let explained = subst (λ (s : Stop). Explains {T = Unit {0}} (transaction_of f old.heap.cells) (transaction_of f c.cancel.new.heap.cells) (Err s)) is
+    e.cause.explained in
+    subst (λ (o : Grounded D M). o.heap.cells.failed ≡ false → c.cancel.new.heap.cells.touched ≡ []) c.self.view_is
+    (λ sound. absurd (true≢false (sym explained.0 ∙ sound)))
 
 pub invariant_of-self-in-Err-Failed : goal.invariant_of-self-in-Err-Failed
 invariant_of-self-in-Err-Failed g c =

@@ -55,6 +55,7 @@ returns-in-Ok g c =
       gap = here.gap;
       unread = here.unread;
       fault = tt;
+      unasked = tt;
       restored = ap (λ (o : Grounded D M). o.restored) c.self.view_is;
       quiet = here.quiet;
       lines = λ reads. ap (λ (h : Held (Opened D)). h.cells.touched) at.ensures.same
@@ -123,6 +124,7 @@ returns-in-Err-MediaFault g c =
       gap = here.gap;
       unread = here.unread;
       fault = tt;
+      unasked = tt;
       restored = ap (λ (o : Grounded D M). o.restored) c.self.view_is;
       quiet = here.quiet;
       lines = λ reads. ap (λ (h : Held (Opened D)). h.cells.touched) at.ensures.same
@@ -194,6 +196,7 @@ returns-in-Err-Refused g c =
       gap = here.gap;
       unread = here.unread;
       fault = tt;
+      unasked = tt;
       restored = ap (λ (o : Grounded D M). o.restored) c.self.view_is;
       quiet = here.quiet;
       lines = λ reads. ap (λ (h : Held (Opened D)). h.cells.touched) left
@@ -243,7 +246,7 @@ returns-in-Err-DiskFault g c =
       restored = c.self.inside.restored;
     } in
     let came = came_failed d n _ c.self.invariant going c.args.call.now e.ensures.fits c.clear_moves.new.self c.clear_moves.ensures.none c.answer.new.o
-    c.answer.new.media e.ensures.media c.answer.new.page at.result seen e.field-0 e.field-0-is e.ensures.works e.ensures.asks in
+    c.answer.new.media e.ensures.media c.answer.new.page at.result seen e.field-0 e.field-0-is e.ensures.works e.ensures.unread e.ensures.asks in
     let here : FaultsTo d n c.args.call.now c.args.self.now (with_heap at.new.heap) =
     subst (λ (h : Held (Opened D)). FaultsTo d n c.args.call.now c.args.self.now (with_heap h)) (sym at.ensures.same)
     (subst (λ (o : Grounded D M). FaultsTo d n c.args.call.now o (with_heap c.answer.new.o)) c.self.view_is came) in
@@ -257,6 +260,7 @@ returns-in-Err-DiskFault g c =
       gap = tt;
       unread = tt;
       fault = here.fault;
+      unasked = here.unasked;
       restored = ap (λ (o : Grounded D M). o.restored) c.self.view_is;
       quiet = here.quiet;
       lines = λ reads. ap (λ (h : Held (Opened D)). h.cells.touched) at.ensures.same
@@ -288,5 +292,5 @@ invariant_of-self-in-Err-DiskFault g c =
       restored = c.self.inside.restored;
     } in
     let came = came_failed d n _ c.self.invariant going c.args.call.now e.ensures.fits c.clear_moves.new.self c.clear_moves.ensures.none c.answer.new.o
-    c.answer.new.media e.ensures.media c.answer.new.page at.result seen e.field-0 e.field-0-is e.ensures.works e.ensures.asks in
+    c.answer.new.media e.ensures.media c.answer.new.page at.result seen e.field-0 e.field-0-is e.ensures.works e.ensures.unread e.ensures.asks in
     subst (λ (h : Held (Opened D)). IsGround d.moment (with_heap h)) (sym at.ensures.same) came.is_ground
