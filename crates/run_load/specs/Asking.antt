@@ -1,5 +1,5 @@
 -- What a heap answers to a question, and what the question leaves.
-use Rattle.std.specs.Prelude.{◌≡◌, ℕ, Bool, true, false, [], OnErr, OnOk, Option, None, Result, Some}
+use Rattle.std.specs.Prelude.{◌≡◌, ℕ, Bool, true, false, [], Option, None, Some}
 use Rattle.law_steps.specs.Shows.{ShowsOnly}
 use Rattle.sdr_base.specs.Causes.{Rose}
 use Rattle.sdr_disk.specs.declared.disk.Disk.{Ghosts as DiskGhosts}
@@ -38,17 +38,17 @@ pub record ShowsOther (v v' : GroundState) : Type 0 where
   pub now : v'.now.world ≡ record v.now.world { shown = v'.now.world.shown }
   pub before : v'.before ≡ v.before
 
--- Questions were answered by a heap: whatever it stood for, it stands for the same but for the bytes shown, and others can be asked.
-pub record IsAsked {D M : Type 0} (old new : Grounded D M) : Type 0 where
+-- Questions were answered by a heap: whatever it stood for, it stands for the same but for the bytes shown, and others can be asked. The disk
+-- was only read, and no media were asked.
+pub record AsksOnly {D M : Type 0} (d : DiskGhosts D) (old new : Grounded D M) : Type 0 where
+  pub still : StaysQuiet d old new
   pub ready : IsAskable new
   pub each : (v : GroundState) → StandsInMemory old v → SomeState StandsInMemory new (ShowsOther v)
 
--- Questions were asked of a heap, by which the disk was only read, and no media were asked. They were answered, or the disk failed, whose
--- count of faults rose.
-pub record AsksOnly {D M T E : Type 0} (d : DiskGhosts D) (old new : Grounded D M) (result : Result T E) : Type 0 where
+-- The disk failed in a question of a heap, and its count of faults rose. It was only read, and no media were asked.
+pub record FailsAsked {D M : Type 0} (d : DiskGhosts D) (old new : Grounded D M) : Type 0 where
   pub still : StaysQuiet d old new
-  pub asked : OnOk result (IsAsked old new)
-  pub cause : OnErr result (Rose (d.faults old.heap.cells.disk) (d.faults new.heap.cells.disk))
+  pub cause : Rose (d.faults old.heap.cells.disk) (d.faults new.heap.cells.disk)
 
 -- the address in a reply, if it is one
 abbrev pub addr_in : Reply → Option ℕ

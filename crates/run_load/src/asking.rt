@@ -1,7 +1,7 @@
 // What is asked of a heap that was run on, by reading calls.
-ghost use Rattle.std.specs.Prelude.{◌≡◌, ◌≤◌, ◌+◌, ◌^◌, ℕ, List, IfOk, IfSome, Some, is_some, length};
+ghost use Rattle.std.specs.Prelude.{◌≡◌, ◌≤◌, ◌+◌, ◌^◌, ℕ, List, IfOk, IfSome, OnErr, OnOk, Some, is_some, length};
 ghost use Rattle.std.specs.Option.{option_map};
-ghost use Rattle.run_load.specs.Asking.{AnswersByRow, AsksOnly, IsAskable, IsQuestion};
+ghost use Rattle.run_load.specs.Asking.{AnswersByRow, AsksOnly, FailsAsked, IsAskable, IsQuestion};
 ghost use Rattle.run_load.specs.Asking.{addr_in, object_in, tells_bytes, value_in};
 ghost use Rattle.run_load.specs.Listed.{list_at, load_name, load_object, raw_bytes_at};
 ghost use Rattle.sdr_machine.specs.Standing.{GroundState};
@@ -64,7 +64,8 @@ fn ask<D: Disk, M: Media, J: HandedIn>(
     requires ready { IsAskable base.old }
     ensures answers { IfOk result (λ reply. (v : GroundState) → StandsInMemory base.old v →
         AnswersByRow v.now.world question.now reply) }
-    ensures asks { AsksOnly D.Disk base.old base.new result }
+    ensures asks { OnOk result (AsksOnly D.Disk base.old base.new) }
+    ensures fails { OnErr result (FailsAsked D.Disk base.old base.new) }
 {
     base.read(question)
 }
@@ -78,7 +79,8 @@ pub fn find<D: Disk, M: Media, J: HandedIn>(
     requires ready { IsAskable base.old }
     ensures found { IfOk result (λ found. (v : GroundState) → StandsInMemory base.old v →
         found ≡ load_object v.now.world) }
-    ensures asks { AsksOnly D.Disk base.old base.new result }
+    ensures asks { OnOk result (AsksOnly D.Disk base.old base.new) }
+    ensures fails { OnErr result (FailsAsked D.Disk base.old base.new) }
 {
     let reply = ask(base, question)?;
     Ok(object_in(reply))
@@ -94,7 +96,8 @@ pub fn count<D: Disk, M: Media, J: HandedIn>(
         counted ≡ option_map (λ (row : SdrList). length row.elements)
         (list_at v.now.world list)) }
     ensures few { IfOk result (λ counted. IfSome counted (λ count. count ≤ 2 ^ 32)) }
-    ensures asks { AsksOnly D.Disk base.old base.new result }
+    ensures asks { OnOk result (AsksOnly D.Disk base.old base.new) }
+    ensures fails { OnErr result (FailsAsked D.Disk base.old base.new) }
 {
     let reply = ask(base, &Call::ListLength(list))?;
     Ok(value_in(reply))
@@ -109,7 +112,8 @@ pub fn first<D: Disk, M: Media, J: HandedIn>(
     ensures first { IfOk result (λ first. (v : GroundState) (row : SdrList) →
         StandsInMemory base.old v → list_at v.now.world list ≡ Some row →
         first ≡ element_addr row.elements 0) }
-    ensures asks { AsksOnly D.Disk base.old base.new result }
+    ensures asks { OnOk result (AsksOnly D.Disk base.old base.new) }
+    ensures fails { OnErr result (FailsAsked D.Disk base.old base.new) }
 {
     let reply = ask(base, &Call::First(list))?;
     Ok(addr_in(reply).unwrap_or(0))
@@ -124,7 +128,8 @@ pub fn next<D: Disk, M: Media, J: HandedIn>(
     ensures next { IfOk result (λ next. (v : GroundState) (spot : Spot) →
         StandsInMemory base.old v → spot_of v.now.world element ≡ Some spot →
         next ≡ element_addr spot.row.elements (spot.place + 1)) }
-    ensures asks { AsksOnly D.Disk base.old base.new result }
+    ensures asks { OnOk result (AsksOnly D.Disk base.old base.new) }
+    ensures fails { OnErr result (FailsAsked D.Disk base.old base.new) }
 {
     let reply = ask(base, &Call::Next(element))?;
     Ok(addr_in(reply).unwrap_or(0))
@@ -139,7 +144,8 @@ pub fn datum<D: Disk, M: Media, J: HandedIn>(
     ensures datum { IfOk result (λ datum. (v : GroundState) (spot : Spot) →
         StandsInMemory base.old v → spot_of v.now.world element ≡ Some spot →
         datum ≡ datum_at spot.row.elements spot.place) }
-    ensures asks { AsksOnly D.Disk base.old base.new result }
+    ensures asks { OnOk result (AsksOnly D.Disk base.old base.new) }
+    ensures fails { OnErr result (FailsAsked D.Disk base.old base.new) }
 {
     let reply = ask(base, &Call::Datum(element))?;
     Ok(value_in(reply).unwrap_or(0))
@@ -153,7 +159,8 @@ fn is_raw<D: Disk, M: Media, J: HandedIn>(
     requires ready { IsAskable base.old }
     ensures raw { IfOk result (λ raw. (v : GroundState) → StandsInMemory base.old v →
         raw ≡ is_some (as_raw (thing_at v.now.world addr))) }
-    ensures asks { AsksOnly D.Disk base.old base.new result }
+    ensures asks { OnOk result (AsksOnly D.Disk base.old base.new) }
+    ensures fails { OnErr result (FailsAsked D.Disk base.old base.new) }
 {
     let reply = ask(base, &Call::Read(addr, 0, 0))?;
     Ok(tells_bytes(reply))
@@ -168,7 +175,8 @@ fn raw_length<D: Disk, M: Media, J: HandedIn>(
     ensures long { IfOk result (λ long. (v : GroundState) (bytes : List ℕ) →
         StandsInMemory base.old v → as_raw (thing_at v.now.world addr) ≡ Some bytes →
         long ≡ length bytes) }
-    ensures asks { AsksOnly D.Disk base.old base.new result }
+    ensures asks { OnOk result (AsksOnly D.Disk base.old base.new) }
+    ensures fails { OnErr result (FailsAsked D.Disk base.old base.new) }
 {
     let reply = ask(base, &Call::Length(addr))?;
     Ok(value_in(reply).unwrap_or(0))
@@ -183,7 +191,8 @@ pub fn raw_bytes<D: Disk, M: Media, J: HandedIn>(
     ensures bytes { IfOk result (λ bytes. (v : GroundState) → StandsInMemory base.old v →
         bytes ≡ raw_bytes_at v.now.world addr) }
     ensures few { IfOk result (λ bytes. bytes ≤ longest_raw) }
-    ensures asks { AsksOnly D.Disk base.old base.new result }
+    ensures asks { OnOk result (AsksOnly D.Disk base.old base.new) }
+    ensures fails { OnErr result (FailsAsked D.Disk base.old base.new) }
 {
     let raw = is_raw(base, addr)?;
     if raw { raw_length(base, addr) } else { Ok(0) }

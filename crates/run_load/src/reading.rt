@@ -1,6 +1,6 @@
 // The list that a load leaves, read element by element.
-ghost use Rattle.std.specs.Prelude.{◌≡◌, ◌≤◌, ◌^◌, [], IfOk, OnErr};
-ghost use Rattle.run_load.specs.Asking.{AsksOnly, IsAskable};
+ghost use Rattle.std.specs.Prelude.{◌≡◌, ◌≤◌, ◌^◌, [], IfOk, OnErr, OnOk};
+ghost use Rattle.run_load.specs.Asking.{AsksOnly, FailsAsked, IsAskable};
 ghost use Rattle.run_load.specs.Listed.{bytes_named, elements_at, load_name};
 ghost use Rattle.run_load.specs.Reading.{HasList};
 ghost use Rattle.run_load.specs.Summing.{load_list};
@@ -29,7 +29,8 @@ fn bytes_named<D: Disk, M: Media, J: HandedIn>(
     ensures bytes { IfOk result (λ bytes. (v : GroundState) → StandsInMemory base.old v →
         HasList list elements v.now.world →
         bytes ≡ bytes_named v.now.world (elements_at v.now.world list)) }
-    ensures asks { AsksOnly D.Disk base.old base.new result }
+    ensures asks { OnOk result (AsksOnly D.Disk base.old base.new) }
+    ensures fails { OnErr result (FailsAsked D.Disk base.old base.new) }
 {
     let mut bytes = 0;
     let mut element = first(base, list)?;
@@ -51,7 +52,8 @@ fn list_found<D: Disk, M: Media, J: HandedIn>(
     requires ready { IsAskable base.old }
     ensures list { IfOk result (λ list. (v : GroundState) → StandsInMemory base.old v →
         list ≡ load_list v.now.world) }
-    ensures asks { AsksOnly D.Disk base.old base.new result }
+    ensures asks { OnOk result (AsksOnly D.Disk base.old base.new) }
+    ensures fails { OnErr result (FailsAsked D.Disk base.old base.new) }
 {
     let Some(list) = find(base, question)? else {
         return Ok(ListRead::NONE);

@@ -108,3 +108,7 @@ if_ok_on (Err e) P Q more p = tt
 pub media_left : {T E Q : Type 0} (r : Result T E) (P : T → Type 0) (R : Type 0) → ((x : T) → P x → Q) → (R → Q) → IfOk r P → OnErr r R → Q
 media_left (Ok x) P R more fails p q = more x p
 media_left (Err e) P R more fails p q = fails q
+
+pub on_ok_more : {T E : Type 0} (r : Result T E) (P Q : Type 0) → (P → Q) → OnOk r P → OnOk r Q
+on_ok_more (Ok x) P Q more p = more p
+on_ok_more (Err e) P Q more p = tt

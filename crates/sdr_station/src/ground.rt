@@ -511,10 +511,10 @@ impl<D: Disk, M: Media, F: Notify + Drop> Backing for HeapGround<D, M, F> {
         ensures inside { StaysInside D.bytes D.tells_crashes self.old self.new }
         ensures any_moment { LeavesBefore ⟦<HeapGround<D, M, F> as HasGround>⟧ self.old self.new }
     {
-        match self.serve(call) {
-            Ok(reply) => Ok(reply),
-            Err(Fault) => Err(Halt::Fault),
-        }
+        let Ok(reply) = self.serve(call) else {
+            return Err(Halt::Fault);
+        };
+        Ok(reply)
     }
 
     // It never wants memory.
