@@ -1,6 +1,5 @@
 mod GreetingExample
 pub mod DryLemmas
-pub mod EndingLemmas
 pub mod ScheduleLemmas
 pub mod StepsLemmas
 pub mod PlayingLemmas

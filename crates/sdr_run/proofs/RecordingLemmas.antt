@@ -4,6 +4,7 @@ use Rattle.sdr_core.proofs.CoreRunLemmas.{core_run}
 use Rattle.sdr_core.specs.Caused.{AreCaused, from_to, media_on}
 use Rattle.sdr_core.specs.CoreKept.{BeginsOn, IsRunOf, LoggedLock, RunStart}
 use Rattle.sdr_core.specs.CoreRun.{CoreAt}
+use Rattle.sdr_core.specs.Ended.{StandsEnded}
 use Rattle.sdr_machine.specs.Core.{Core, RunsCore, first_core}
 use Rattle.sdr_machine.specs.Crash.{is_sound}
 use Rattle.sdr_machine.specs.Leaving.{AllLeave}
@@ -13,7 +14,7 @@ use Rattle.sdr_machine.specs.declared.has_ground.HasGround.{Ghosts}
 use Rattle.sdr_model.specs.declared.journal.Entry.{Entry}
 use Rattle.sdr_model.specs.declared.script.ScriptStep.{ScriptStep}
 use Rattle.sdr_run.specs.Playing.{Output, Plays, PlaysFrom, leave_of}
-use Rattle.sdr_run.specs.Recording.{PlaysOut, StandsEnded}
+use Rattle.sdr_run.specs.Recording.{PlaysOut}
 use Rattle.sdr_run.specs.declared.playing.Played.{Played}
 use Rattle.sdr_words.specs.Daemons.{daemons_of}
 

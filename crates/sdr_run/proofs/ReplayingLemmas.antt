@@ -8,6 +8,7 @@ use Rattle.sdr_disk.specs.Moments.{AtEach, Reads}
 use Rattle.sdr_disk.specs.Tells.{IfTells}
 use Rattle.sdr_disk.specs.declared.disk.Disk.{Ghosts as DiskGhosts}
 use Rattle.sdr_core.specs.Caused.{SeenMedia, from_to, seen_media}
+use Rattle.sdr_core.specs.Ended.{StandsEnded}
 use Rattle.sdr_words.specs.Daemons.{daemons_of}
 use Rattle.sdr_image.proofs.OpenedLemmas.{reads_synced}
 use Rattle.sdr_image.specs.Opened.{Holds}
@@ -26,7 +27,7 @@ use Rattle.sdr_model.specs.declared.script.ScriptStep.{ScriptStep}
 use Rattle.sdr_run.specs.Handed.{HandedDisk, StaysAsHanded, handed_as}
 use Rattle.sdr_run.specs.Opening.{OpenedSo}
 use Rattle.sdr_run.specs.Playing.{Output}
-use Rattle.sdr_run.specs.Recording.{PlaysOut, RunsScript, StandsEnded}
+use Rattle.sdr_run.specs.Recording.{PlaysOut, RunsScript}
 use Rattle.sdr_run.proofs.HandedLemmas.{open_again, stays_rest}
 use Rattle.sdr_run.proofs.QuietLemmas.{reads_same}
 use Rattle.sdr_run.proofs.SettledLemmas.{ground_where}

@@ -1,14 +1,11 @@
 -- A schedule that is played with a journal of it.
-use Rattle.std.specs.Prelude.{◌≡◌, List, length, not, true}
+use Rattle.std.specs.Prelude.{◌≡◌, List, not}
 use Rattle.sdr_core.specs.Caused.{MediaChange, from_to, media_on}
 use Rattle.sdr_core.specs.CoreKept.{IsRunOf, RunStart}
+use Rattle.sdr_core.specs.Ended.{StandsEnded}
 use Rattle.sdr_machine.specs.Crash.{is_sound}
 use Rattle.sdr_machine.specs.Ground.{State}
-use Rattle.sdr_machine.specs.Legal.{IsAfter}
-use Rattle.sdr_machine.specs.Serving.{SomeState}
-use Rattle.sdr_machine.specs.Standing.{GroundState}
 use Rattle.sdr_machine.specs.declared.has_ground.HasGround.{Ghosts}
-use Rattle.sdr_model.specs.declared.journal.Entry.{Entry}
 use Rattle.sdr_model.specs.declared.script.ScriptStep.{ScriptStep}
 use Rattle.sdr_run.specs.Playing.{IsPrinted, Output, ReplaysSteps}
 use Rattle.sdr_run.specs.declared.recording.Ran.{Ran}
@@ -16,15 +13,6 @@ use Rattle.sdr_run.specs.declared.recording.Ran.{Ran}
 -- The steps were made, the leaves tell whether memory was wanting, the journal is the one of this run, and the answers were printed.
 abbrev pub RunsScript : {T : Type 0} → MediaChange → State → List ScriptStep → Output → Output → Ran T → Type 0
 RunsScript media first script out out' ran = ReplaysSteps media first script ran.journal ran.starved (IsPrinted ran.printing out out')
-
--- A run with this journal has come to the states, and no transaction is open.
-pub record HasEnded (b : RunStart) (journal : List Entry) (v : GroundState) : Type 0 where
-  pub after : IsAfter b.told b.daemons b.first journal (length journal) v.before
-  pub closed : v.now ≡ v.before
-
--- unless the disk failed in an entry, the ground stands for what the run has come to
-abbrev pub StandsEnded : {T : Type 0} → Ghosts T → RunStart → List Entry → T → Type 0
-StandsEnded g b journal base = is_sound journal ≡ true → SomeState g.stands base (HasEnded b journal)
 
 -- A schedule was played on a ground, which was this one before.
 pub record PlaysOut {T : Type 0} (g : Ghosts T) (b : RunStart) (script : List ScriptStep) (before : T) (out out' : Output) (ran : Ran T) : Type 0 where

@@ -76,7 +76,6 @@ pub fn play_recorded<T: Tells, J: Origin, S: Steps, K: Sink>(
         Err((_, base)) => return Err(base),
     };
     let Played { starved, printing } = play(alloc, &mut core, steps, out);
-    core.roll();
     let (journal, base) = core.finish();
     let failed = !is_sound(journal.as_slice());
     Ok(Ran {

@@ -2,7 +2,6 @@ use Rattle.std.proofs.Common.{◌∙◌, ap, arith, not, sym, subst}
 use Rattle.sdr_core.specs.CoreKept.{LoggedLock}
 use Rattle.sdr_core.specs.Leaving.{LastsOn}
 use Rattle.sdr_machine.specs.Crash.{is_sound}
-use Rattle.sdr_run.proofs.EndingLemmas.{stands_ended}
 use Rattle.sdr_run.proofs.RecordingLemmas.{plays_out}
 use Rattle.sdr_run.specs.Playing.{output}
 use Rattle.sdr_run.proofs.recording.play_recorded.Goals as goal
@@ -21,5 +20,4 @@ returns-clause-ran g c =
     (output g.K.Sink.taken g.K.Sink.faults c.args.out.now) (output g.K.Sink.taken g.K.Sink.faults c.play-starved.new.out) c.finish-journal.result.0 c.finish-journal.result.1
     (not c.is_sound-failed.result) c.requires.named c.requires.begins c.in-Ok.ensures.made c.play-starved.ensures.plays c.finish-journal.ensures.journal c.finish-journal.ensures.base
     c.finish-journal.ensures.run
-    (stands_ended g.T.HasGround g.J.Origin.begins c.play-starved.new.run c.finish-journal.result.0 c.finish-journal.result.1
-    c.finish-journal.ensures.journal c.finish-journal.ensures.base c.roll.ensures.run c.roll.ensures.failed c.play-starved.ensures.none) (ap not (c.is_sound-failed.ensures ∙ ap is_sound c.as_slice.ensures))
+    (c.finish-journal.ensures.ended c.play-starved.ensures.none) (ap not (c.is_sound-failed.ensures ∙ ap is_sound c.as_slice.ensures))

@@ -1,18 +1,16 @@
 -- The ground of a run behind which no number is held.
-use Rattle.std.proofs.Common.{◌≡◌, ◌∙◌, ◌&&◌, ◌==◌, ℕ, Bool, List, [], ◌∷◌, true, false, true≢false, not, is_none, Option, None, Some, refl, sym, ap, subst}
-use Rattle.std.specs.Prelude.{is_some}
+use Rattle.std.proofs.Common.{◌≡◌, ◌∙◌, ◌&&◌, ◌==◌, ℕ, Bool, List, [], ◌∷◌, true, false, true≢false, is_none, Option, None, Some, refl, sym, ap, subst}
 use Rattle.law_runs.proofs.CurrentLemmas.{IsWorking, at_rest}
 use Rattle.law_runs.proofs.KeepLemmas.{none_held}
 use Rattle.law_runs.proofs.RunLemmas.{run_is_after, run_keeps}
-use Rattle.sdr_core.specs.CoreKept.{KeepsRun, LoggedLock, RunStart, core_at}
-use Rattle.sdr_machine.specs.Crash.{is_sound}
+use Rattle.sdr_core.specs.CoreKept.{KeepsRun, KeepsSafe, LoggedLock, RunStart, core_at}
+use Rattle.sdr_core.specs.Ended.{StandsEnded}
 use Rattle.sdr_machine.specs.Holders.{hold_none}
 use Rattle.sdr_machine.specs.Roll.{lesser_of, least_held}
 use Rattle.sdr_machine.specs.declared.daemon.Daemon.{Daemon}
 use Rattle.sdr_machine.specs.declared.daemon.Holding.{Holding}
 use Rattle.sdr_machine.specs.declared.has_ground.HasGround.{Ghosts}
 use Rattle.sdr_model.specs.declared.journal.Entry.{Entry}
-use Rattle.sdr_run.specs.Recording.{StandsEnded}
 
 -- both tests are true where the one and the other is
 both : (a b : Bool) → (a && b) ≡ true → (a ≡ true) × (b ≡ true)
@@ -30,19 +28,19 @@ least_none (d ∷ ds) none =
     by None is = refl
     by (Some h) is = absurd (true≢false (sym is))
 
--- a disk that has failed in no entry hasn't failed
-sound_none : (failed : Option ℕ) (sound : Bool) → is_some failed ≡ not sound → sound ≡ true → failed ≡ None
-sound_none None sound is so = refl
-sound_none (Some moment) sound is so = absurd (true≢false (is ∙ ap not so))
+-- a disk that hasn't failed by a test hasn't
+none_of : (failed : Option ℕ) → is_none failed ≡ true → failed ≡ None
+none_of None is = refl
+none_of (Some moment) is = absurd (true≢false (sym is))
 
 -- so it has ended, and the ground stands for what it has come to
 pub stands_ended : {T : Type 0} (g : Ghosts T) (b : RunStart) (k : LoggedLock T) (journal : List Entry) (base : T) → journal ≡ k.log.journal
-    → base ≡ k.lock.base → KeepsRun g b k → is_some k.lock.roll.failed ≡ not (is_sound k.log.journal)
+    → base ≡ k.lock.base → KeepsRun g b k → KeepsSafe g b k.log.journal k.lock.roll.failed k.lock.base
     → (k.lock.roll.failed ≡ None → hold_none k.lock.roll.daemons ≡ true) → StandsEnded g b journal base
-stands_ended {T} g b k journal base same_journal same_base run failed none =
+stands_ended {T} g b k journal base same_journal same_base run safe none =
     subst (λ (entries : List Entry). StandsEnded g b entries base) (sym same_journal)
     (subst (λ (t : T). StandsEnded g b k.log.journal t) (sym same_base) (λ sound.
-    let unfailed = sound_none k.lock.roll.failed (is_sound k.log.journal) failed sound in
+    let unfailed = none_of k.lock.roll.failed (sym safe.sound ∙ sound) in
     let c = core_at k run.for in
     let keeps = run_keeps b.told b.daemons b.first run.made c run.runs in
     let free = ap (λ (n : ℕ). n == 0) (least_none k.lock.roll.daemons (none unfailed)) in
