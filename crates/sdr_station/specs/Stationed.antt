@@ -1,5 +1,5 @@
 -- A station: what its calls and events do.
-use Rattle.std.specs.Prelude.{◌≡◌, ◌≤◌, ◌+◌, ◌*◌, ◌==◌, ℕ, Bool, true, false, [], ⊤, Option, None, Some, Result, Ok, Err, length, nat_le}
+use Rattle.std.specs.Prelude.{◌≡◌, ◌≤◌, ◌+◌, ◌*◌, ◌==◌, ℕ, Bool, true, false, List, [], ⊤, Option, None, Some, Result, Ok, Err, length, nat_le}
 use Rattle.std.specs.Prelude.{MatchBool, MatchOption}
 use Rattle.sdr_base.specs.declared.refusal.Refusal.TheVariants as refusals
 use Rattle.sdr_base.specs.declared.stop.Stop.{Stop}
