@@ -38,9 +38,10 @@ pub looks_well : {D M : Type 0} (g : Ghosts (Grounded D M)) (ticket : ℕ) (old 
 looks_well g ticket old new shown (Ok granted) told looks = looks
 looks_well g ticket old new shown (Err (stops.Refused refusal)) told looks = looks
 looks_well g ticket old new None (Err stops.DiskFault) told looks =
-    absurd (let is : Err {T = Bool} stops.DiskFault ≡ Err (stops.Refused (refusals.BadTicket ticket)) = told in cc)
+    absurd (let fault : Result Bool Stop = Err stops.DiskFault in
+    let is : fault ≡ Err (stops.Refused (refusals.BadTicket ticket)) = told in cc)
 looks_well g ticket old new (Some granted) (Err stops.DiskFault) told looks =
-    absurd (let is : Err {T = Bool} stops.DiskFault ≡ Ok granted = told in cc)
+    absurd (let fault : Result Bool Stop = Err stops.DiskFault in let is : fault ≡ Ok granted = told in cc)
 looks_well g ticket old new shown (Err stops.MediaFault) told looks = looks
 looks_well g ticket old new shown (Err stops.Failed) told looks = looks
 
