@@ -6,7 +6,6 @@ use Rattle.sdr_log.specs.Log.{heap_of}
 use Rattle.sdr_log.specs.Spilled.{Ends, Just}
 use Rattle.sdr_log.specs.declared.frame.Frame.{Frame}
 use Rattle.std.specs.Prelude.{Contains}
-use Rattle.lru.proofs.Splits.{Contains-nil}
 use Rattle.sdr_image.specs.Lines.{HasBytes, IsFresh, IsLines, IsRested, Keeps, Stands, begun_of, now_of}
 use Rattle.sdr_image.specs.Marks.{touched_in}
 use Rattle.sdr_image.specs.Opened.{HoldsBegun, IsImage, Rests, image_of}
@@ -95,7 +94,7 @@ module _ (f : Frame) (count : ℕ) (x y : List ℕ) (l : Lines) (fresh : IsFresh
       (λ e has. absurd (nothing e (subst (λ (es : List (ℕ × List ℕ)). Contains es e) fresh.cache has)))
     where
       nothing : (e : ℕ × List ℕ) → Contains {X = ℕ × List ℕ} [] e → ⊥
-      nothing e has = Contains-nil e has
+      nothing e has = absurd (omega (arith, has.1))
 
   pub opened_lines : IsLines f l
   opened_lines = rested_lines f l fresh.logged fresh.buffer fresh.marks fresh.batch
@@ -141,10 +140,13 @@ module _ (f : Frame) (x : List ℕ) (lines : Lines) (is_open failed : Bool) (i :
     limits = i.limits;
     fits = i.fits;
     lines_kept = i.lines_kept;
-    idle = λ closed. (nil_of (touched_in lines.marks) none, record {
-      regions = unspilled.rest.regions;
-      gate = unspilled.rest.gate;
-      heap = refl;
-    });
+    idle = λ closed. (
+      nil_of (touched_in lines.marks) none,
+      record {
+        regions = unspilled.rest.regions;
+        gate = unspilled.rest.gate;
+        heap = refl;
+      },
+    );
     stands = i.stands;
   }

@@ -1,6 +1,7 @@
 pub mod BufferLemmas
 pub mod CacheLemmas
 pub mod ChangedLemmas
+pub mod ClosingLemmas
 pub mod EndedLemmas
 pub mod EnteredLemmas
 pub mod FaultedLemmas

@@ -2,10 +2,11 @@
 use Rattle.std.proofs.Common.{◌≡◌, ◌≤◌, ◌<◌, ◌∙◌, ◌⊎◌, ⊎_elim, ℕ, ◌+◌, ◌-◌, ◌*◌, List, [], ◌++◌, length, take, drop, min}
 use Rattle.std.proofs.Common.{zero, suc, ◌∷◌, refl, sym, ap, append-nil, arith, length-append, length-drop}
 use Rattle.std.proofs.Math.Seq.{take-add}
-use Rattle.std.proofs.lemmas.List.{drop-drop, length-take-le, take-append-drop, take_at}
+use Rattle.std.proofs.lemmas.List.{drop-drop, length-take-le, take-append-drop}
+use Rattle.std.proofs.lemmas.Slice.{take-put_mid}
+use borrow.Rule.Slice.PartMut.{put_mid}
 use Rattle.sdr_base.specs.Parts.{overwrite, part}
-use Rattle.sdr_base.proofs.PartsLemmas.{length-overwrite, overwrite-behind}
-use Rattle.sdr_log.proofs.BatchesLemmas.{part-within}
+use Rattle.sdr_base.proofs.PartsLemmas.{length-part, overwrite-behind}
 
 -- all of the bytes
 pub take_past : (n : ℕ) (xs : List ℕ) → length xs ≤ n → take n xs ≡ xs
@@ -46,6 +47,12 @@ nothing_put place n from x none =
     ∙ take-append-drop place x in
     ap (λ (k : ℕ). overwrite place (take k from) x) none ∙ last
 
+-- no byte is read
+pub nothing_read : (place n count : ℕ) (into x : List ℕ) → n ≡ 0 → take n into ≡ part place (min n count) x
+nothing_read place n count into x none =
+    let few : min n count ≡ 0 = omega (arith, none) in
+    ap (λ (k : ℕ). take k into) none ∙ ap (λ (k : ℕ). part place k x) (sym few)
+
 -- One line of a call from a place on over so many bytes: from which of the line's bytes on, and which of the call's bytes.
 module _ (place count line at start stop : ℕ) (at_is : at ≡ place + start - 64 * line) (start_is : start ≡ 64 * line - place)
     (stop_is : stop ≡ min (64 * line + 64 - place) count) (begins : place < 64 * line + 64)
@@ -85,30 +92,37 @@ module _ (place count line at start stop : ℕ) (at_is : at ≡ place + start - 
   part-both p a b x = take-add a b (drop p x) ∙ ap (λ (l : List ℕ). part p a x ++ take b l) (drop-drop a p x)
 
   -- bytes of a line more are read
-  pub read_next : (into bytes line_bytes x : List ℕ) → length into ≡ count → length line_bytes ≡ 64 →
-      bytes ≡ take (stop - start) (drop at line_bytes) → line_bytes ≡ part (64 * line) 64 x →
-      take start into ≡ part place start x →
-      take (64 * (line + 1) - place) (overwrite start bytes into) ≡ part place stop x
-  read_next into bytes line_bytes x long whole is of_line before =
+  pub read_next : (into bytes x : List ℕ) → length into ≡ count → place + count ≤ length x →
+      bytes ≡ part (64 * line + at) (stop - start) x → take start into ≡ part place start x →
+      take (64 * (line + 1) - place) (put_mid start (stop - start) into bytes)
+      ≡ part place (min (64 * (line + 1) - place) count) x
+  read_next into bytes x long wide is before =
       let m = stop - start in
+      let after = put_mid start m into bytes in
+      let rest = drop m (drop start into) in
+      let le : start ≤ length into = omega (arith, long, piece_order, stop_is) in
       let size : length bytes ≡ m =
-      ap length is ∙ length-take-le m (drop at line_bytes) (omega (arith, length-drop at line_bytes, whole, piece_inside)) in
-      let front : length (take start into) ≡ start =
-      length-take-le start into (omega (arith, long, piece_order, stop_is)) in
-      let all : length (overwrite start bytes into) ≡ count =
-      length-overwrite start bytes into (omega (arith, size, long, piece_order, stop_is)) ∙ long in
-      let up_to : min (64 * (line + 1) - place) (length (overwrite start bytes into)) ≡ stop =
-      omega (arith, all, stop_is, begins, ends) in
-      let both : length (take start into ++ bytes) ≡ stop =
-      omega (arith, length-append (take start into) bytes, front, size, piece_order) in
+      ap length is ∙ length-part (64 * line + at) m x (omega (arith, piece_place, piece_order, stop_is, wide)) in
+      let all : length after ≡ count =
+      omega (
+        arith,
+        length-append (take start into) (bytes ++ rest),
+        length-append bytes rest,
+        length-take-le start into le,
+        length-drop m (drop start into),
+        length-drop start into,
+        size,
+        long,
+        piece_order,
+        stop_is,
+      ) in
+      let up_to : min (64 * (line + 1) - place) count ≡ stop = omega (arith, stop_is) in
       let sum : start + m ≡ stop = omega (arith, piece_order) in
-      take-min (64 * (line + 1) - place) (overwrite start bytes into)
-      ∙ ap (λ (k : ℕ). take k (overwrite start bytes into)) up_to
-      ∙ take_at (take start into ++ bytes) (drop (start + length bytes) into) stop both
+      take-min (64 * (line + 1) - place) after
+      ∙ ap (λ (k : ℕ). take (min (64 * (line + 1) - place) k) after) all
+      ∙ ap (λ (k : ℕ). take k after) up_to
+      ∙ take-put_mid start m into bytes stop (omega (arith, size, sum)) le
       ∙ ap (λ (l : List ℕ). l ++ bytes) before
-      ∙ ap (λ (l : List ℕ). part place start x ++ l) (is
-      ∙ ap (λ (l : List ℕ). take m (drop at l)) of_line
-      ∙ part-within (64 * line) at m 64 x piece_inside
-      ∙ ap (λ (k : ℕ). part k m x) piece_place)
+      ∙ ap (λ (l : List ℕ). part place start x ++ l) (is ∙ ap (λ (k : ℕ). part k m x) piece_place)
       ∙ sym (part-both place start m x)
-      ∙ ap (λ (k : ℕ). part place k x) sum
+      ∙ ap (λ (k : ℕ). part place k x) (sum ∙ sym up_to)

@@ -106,6 +106,15 @@ is_among-touched first (s ∷ marks) (suc line) =
           grind (arith, nat_tests, other, here)
     ]
 
+-- no more are touched than there are
+pub length-touched : (first : ℕ) (marks : List Stand) → length (touched_from first marks) ≤ length marks
+unfolding touched_from
+length-touched first [] = omega arith
+length-touched first (s ∷ marks) =
+    let more = length-touched (suc first) marks in
+    elim (is_clean s) as (λ b. length (cond b (touched_from (suc first) marks) (first ∷ touched_from (suc first) marks))
+    ≤ length (s ∷ marks)) [ true ↦ omega (arith, more) | false ↦ omega (arith, more) ]
+
 -- where all are clean, none is touched
 pub touched-clean : (first n : ℕ) → touched_from first (replicate n Clean) ≡ []
 unfolding touched_from

@@ -1,5 +1,5 @@
 -- What stands of a transaction whose lines may be spilled.
-use Rattle.std.proofs.Common.{◌≡◌, ◌≢◌, ◌≤◌, ◌<◌, ◌∙◌, ℕ, zero, suc, ◌+◌, ◌*◌, ◌/◌, Bool, true, false, ◌||◌, ◌==◌, cond, List, [], ◌∷◌, ◌++◌}
+use Rattle.std.proofs.Common.{◌≡◌, ◌≤◌, ◌<◌, ◌∙◌, ℕ, zero, suc, ◌+◌, ◌*◌, ◌/◌, Bool, true, false, ◌||◌, ◌==◌, cond, List, [], ◌∷◌, ◌++◌}
 use Rattle.std.proofs.Common.{drop, length, get_or, refl, sym, ap, subst, arith, true≢false, append-nil, length-append}
 use Rattle.std.specs.Prelude.{IfOk, OnOk, Result, Ok, Err, unwrap_or, IsPermutation, Contains}
 use Rattle.std.specs.List.{All}

@@ -1,5 +1,5 @@
 -- What is told of the answer of a write.
-use Rattle.std.proofs.Common.{◌≡◌, ℕ, Bool, true, false, List, sym, ◌∙◌, true≢false}
+use Rattle.std.proofs.Common.{◌≡◌, ℕ, Bool, false, List, sym, ◌∙◌, true≢false}
 use Rattle.std.specs.Prelude.{Result, Ok, Err, OnErr}
 use Rattle.sdr_base.specs.Transaction.{HasReason, IfRefused}
 use Rattle.sdr_base.specs.declared.refusal.Refusal.{Refusal}

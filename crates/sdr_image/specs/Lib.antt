@@ -1,4 +1,5 @@
 pub mod Buffer
+pub mod Cache
 pub mod Changed
 pub mod Format
 pub mod Lines

@@ -25,7 +25,7 @@ use crate::opening::load;
 use crate::span::span;
 use crate::writing::write_line;
 use crate::{ImageError, ImageShut};
-use sdr_base::{Cells, LINE, Refusal, Stop, put_at};
+use sdr_base::{Cells, LINE, Refusal, Stop};
 use sdr_disk::Disk;
 use sdr_log::Frame;
 use std::alloc::Global;
@@ -176,11 +176,13 @@ impl<D: Disk> Image<D> {
         self.disk.now()
     }
 
-    // The bytes now of a line.
-    fn line(&mut self, line: u64) -> Result<[u8; 64], Stop>
+    // Fills a buffer with bytes of a line, from a place of it on.
+    fn get(&mut self, line: u64, at: usize, into: &mut [u8]) -> Result<(), Stop>
         requires sound { self.old.failed ≡ false }
         requires below { line < self.old.frame.heap_lines }
-        ensures given { IfOk result (λ bytes. bytes ≡ part (LINE * line) LINE self.old.bytes) }
+        requires inside { at + length into.old ≤ LINE }
+        ensures given { OnOk result
+            (into.new ≡ part (LINE * line + at) (length into.old) self.old.bytes) }
         ensures same { OnOk result (self.new ≡ record self.old { disk = self.new.disk }) }
         ensures failed { OnErr result (self.new ≡ record self.old {
           disk = self.new.disk;
@@ -196,7 +198,37 @@ impl<D: Disk> Image<D> {
             self.failed = true;
             return Err(Stop::DiskFault);
         };
-        Ok(bytes)
+        into.copy_from_slice(&bytes[at..at + into.len()]);
+        Ok(())
+    }
+
+    // Fills a buffer with the bytes from a place on.
+    fn get_all(&mut self, place: u64, into: &mut [u8], first: u64, end: u64) -> Result<(), Stop>
+        requires sound { self.old.failed ≡ false }
+        requires inside { place + length into.old ≤ length self.old.bytes }
+        requires small { place + length into.old < 2 ^ 60 }
+        requires span { IsSpan place (length into.old) first end }
+        requires below { end ≤ self.old.frame.heap_lines }
+
+        ensures given { OnOk result (into.new ≡ part place (length into.old) self.old.bytes) }
+
+        ensures same { self.new.bytes ≡ self.old.bytes }
+        ensures room { TouchesNone (transaction_of D.faults self.old)
+            (transaction_of D.faults self.new) result }
+        ensures cause { HasReason (transaction_of D.faults self.old)
+            (transaction_of D.faults self.new) result }
+        ensures quiet { IsQuiet D.bytes D.tells_crashes D.moment D.may_hold_after self.old
+            self.new }
+
+        ensures still_open { self.new.is_open ≡ self.old.is_open }
+        ensures reads { Reads D.bytes D.tells_crashes D.moment D.may_hold_after self.old.disk
+            self.new.disk }
+    {
+        for line in first..end {
+            let (at, start, stop) = piece(place, into.len(), line);
+            self.get(line, at, &mut into[start..stop])?;
+        }
+        Ok(())
     }
 
     // How many lines are touched with those from the first to the one before the end.
@@ -453,12 +485,7 @@ impl<D: Disk> Cells for Image<D> {
             return Err(Stop::Failed);
         }
         let (first, end) = span(place, into.len() as u64);
-        for line in first..end {
-            let (at, start, stop) = piece(place, into.len(), line);
-            let bytes = self.line(line)?;
-            put_at(into, start, &bytes[at..at + (stop - start)]);
-        }
-        Ok(())
+        self.get_all(place, into, first, end)
     }
 
     fn write(&mut self, place: u64, from: &[u8]) -> Result<(), Stop>

@@ -31,8 +31,10 @@
 //! commit change no byte outside the regions (`inside`), and a cancel none at all where no batch is open (`same`). `peek` gives the heap that
 //! the disk gives, put back in memory (`heap`), and only reads the disk (`reads`).
 //!
-//! Only tested: what opening makes of each image of a crash in a commit; a fault at each of its calls; the calls
-//! of `format` on a real file (once).
+//! Only tested: that calls succeed with ample memory; which calls of the disk a commit and a cancel make, of three
+//! lines and of seventy; what opening makes of each tear of a crash at each moment of them, behind a fault at each of
+//! their calls, and behind a stop at each write and sync, and the same of opening; that a clean line is read once; the
+//! calls of `format` on a real file (once).
 #![tactic(auto)]
 
 mod buffer;

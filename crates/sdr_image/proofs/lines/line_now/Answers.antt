@@ -1,4 +1,4 @@
-use Rattle.std.proofs.Common.{◌∙◌, ◌*◌, ◌⊎◌, ⊎_elim, sym, ap, ℕ}
+use Rattle.std.proofs.Common.{◌∙◌, ◌*◌, ⊎_elim, sym, ap, ℕ}
 use Rattle.sdr_base.specs.Parts.{part}
 use Rattle.sdr_image.specs.Lines.{begun_of, now_of}
 use Rattle.sdr_image.specs.Marks.{is_buffered, is_clean, stand_at}

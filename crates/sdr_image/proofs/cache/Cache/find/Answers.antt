@@ -1,16 +1,16 @@
-use Rattle.std.proofs.Common.{nat_eq, sym, ap, subst, List, ℕ, Contains, IfSome, ◌∙◌}
-use Rattle.lru.specs.LruCache.{LruCache}
-use Rattle.lru.proofs.CallerLemmas.{Contains-promoted}
-use Rattle.sdr_image.proofs.CacheLemmas.{found_kept}
+use Rattle.std.proofs.Common.{◌≡◌, ◌∙◌, ℕ, List, get_or, Contains, None, Some, sym, subst, arith}
+use Rattle.std.proofs.lemmas.List.{get_or_read}
+use Rattle.sdr_image.specs.Cache.{entries_of}
+use Rattle.sdr_image.proofs.CacheLemmas.{place_entry}
 use Rattle.sdr_image.proofs.cache.Cache.find.Goals as goal
 
-pub returns-clause-found : goal.returns-clause-found
-returns-clause-found c =
-    subst (λ (es : List (ℕ × List ℕ)). IfSome c.copied-found.result (λ bytes. Contains es (c.args.line, bytes))) c.self.view_is
-    (found_kept c.args.line c.self.inside.lines.entries c.copied-found.result (c.copied-found.ensures ∙ c.peek.ensures))
-
-pub returns-clause-kept : goal.returns-clause-kept
-returns-clause-kept c e has =
-    subst (λ (es : List (ℕ × List ℕ)). Contains es e) c.self.view_is
-    (Contains-promoted (nat_eq c.args.line) c.self.inside.lines.entries e
-    (subst (λ (l : LruCache ℕ (List ℕ)). Contains l.entries e) c.promote.ensures.entries has))
+pub returns-in-Some : goal.returns-in-Some
+returns-in-Some c =
+    let places = c.self.inside.places.items in
+    let place = c.place_of.result in
+    let r = c.in-Some.record in
+    let read = get_or_read places place c.index.result.now
+    (omega (arith, c.place_of.ensures.below, c.self.invariant.long)) c.index.ensures None in
+    let there : get_or places place None ≡ Some r = sym read ∙ c.in-Some.is in
+    subst (λ (es : List (ℕ × List ℕ)). Contains es (c.args.line, r.bytes)) c.self.view_is
+    (subst (λ (n : ℕ). Contains (entries_of places) (n, r.bytes)) c.if-record-line.true (place_entry places place r there))

@@ -1,10 +1,8 @@
-use Rattle.std.proofs.Common.{nat_eq, subst, List, ℕ, Contains, ◌≢◌}
-use Rattle.lru.specs.LruCache.{LruCache}
-use Rattle.sdr_image.proofs.CacheLemmas.{removed_gone}
+use Rattle.std.proofs.Common.{◌≢◌, ℕ, List, Contains, subst}
+use Rattle.sdr_image.proofs.CacheLemmas.{entry_forgotten}
 use Rattle.sdr_image.proofs.cache.Cache.forget.Goals as goal
 
 pub returns : goal.returns
 returns c e has =
     subst (λ (es : List (ℕ × List ℕ)). Contains es e × (e.0 ≢ c.args.line)) c.self.view_is
-    (removed_gone c.args.line c.self.inside.lines.entries e c.len-count.ensures.valid.0
-    (subst (λ (l : LruCache ℕ (List ℕ)). Contains l.entries e) c.pop.ensures.entries has))
+    (entry_forgotten c.self.inside.places.items c.place_of.result c.args.line e c.self.invariant c.place_of.ensures.is has)

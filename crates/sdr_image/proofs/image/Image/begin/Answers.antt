@@ -1,4 +1,4 @@
-use Rattle.std.proofs.Common.{◌∙◌, ap, true, false, true≢false}
+use Rattle.std.proofs.Common.{◌∙◌, ap, true≢false}
 use Rattle.sdr_image.specs.Opened.{Opened}
 use Rattle.sdr_image.proofs.ImageLemmas.{idle_begun}
 use Rattle.sdr_image.proofs.image.Image.begin.Goals as goal

@@ -1,4 +1,4 @@
-use Rattle.std.proofs.Common.{◌≤◌, ◌<◌, ◌∙◌, ◌+◌, ◌*◌, [], ℕ, true, false, List, length, refl, sym, ap, subst, arith}
+use Rattle.std.proofs.Common.{◌≤◌, ◌<◌, ◌∙◌, ◌+◌, ◌*◌, [], ℕ, false, List, length, refl, sym, ap, subst, arith}
 use Rattle.std.proofs.Common.{true≢false}
 use Rattle.sdr_disk.specs.Moments.{AtEach}
 use Rattle.sdr_log.specs.Log.{first_gate}
@@ -98,8 +98,8 @@ returns-in_default-clause-calls g c =
     (calls_of-lines d.moment o.disk c.take_back.new.disk o.lines.logged (length (touched_in o.lines.marks))
     (omega (arith, inv.lines_kept.counted)) e.same e.calls)
 
-pub invariant_of-self-in_default : goal.invariant_of-self-in_default
-invariant_of-self-in_default g c =
+pub invariant_of-self : goal.invariant_of-self
+invariant_of-self g c =
     let d = g.D.Disk in
     let o = c.self.inside in
     let f = o.frame in
@@ -112,8 +112,8 @@ invariant_of-self-in_default g c =
     let some : 0 < length (touched_in o.lines.marks) = omega (arith, inv.lines_kept.counted, c.in_default.ensures.some) in
     image_failed f x y o.lines l o.is_open o.failed inv (touched_open f x o.lines o.is_open o.failed inv some) e.disk.size e.lines
 
-pub invariant_of-self : goal.invariant_of-self
-invariant_of-self g c =
+pub invariant_of-self-2 : goal.invariant_of-self-2
+invariant_of-self-2 g c =
     let d = g.D.Disk in
     let o = c.self.inside in
     let f = o.frame in
@@ -222,3 +222,24 @@ returns-clause-calls g c =
     c.self.view_is
     (calls_of-lines d.moment o.disk c.take_back.new.disk o.lines.logged (length (touched_in o.lines.marks))
     (omega (arith, inv.lines_kept.counted)) e.same e.calls)
+
+pub returns-in_default-clause-idle : goal.returns-in_default-clause-idle
+returns-in_default-clause-idle g c none =
+    let touched = ap (λ (v : Opened g.row.D.Denot). length v.touched) c.self.view_is in
+    c.take_back.ensures.same (omega (arith, c.self.invariant.lines_kept.counted, touched, ap length none))
+    ∙ ap (λ (v : Opened g.row.D.Denot). v.disk) c.self.view_is
+
+pub returns-in_default-clause-some : goal.returns-in_default-clause-some
+returns-in_default-clause-some g c is =
+    omega (
+      arith,
+      c.self.invariant.lines_kept.counted,
+      c.in_default.ensures.some,
+      ap (λ (v : Opened g.row.D.Denot). length v.touched) c.self.view_is,
+    )
+
+pub returns-clause-idle : goal.returns-clause-idle
+returns-clause-idle g c none =
+    let touched = ap (λ (v : Opened g.row.D.Denot). length v.touched) c.self.view_is in
+    c.take_back.ensures.same (omega (arith, c.self.invariant.lines_kept.counted, touched, ap length none))
+    ∙ ap (λ (v : Opened g.row.D.Denot). v.disk) c.self.view_is

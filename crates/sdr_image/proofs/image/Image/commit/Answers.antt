@@ -22,7 +22,7 @@ returns-then-touched-ne0-clause-calls g c =
       arith,
       c.save.ensures.calls,
       calls_of-some (length c.args.self.now.touched)
-      (omega (arith, c.touched.ensures, positive c.touched.result c.if-touched-ne0.true)),
+          (omega (arith, c.touched.ensures, positive c.touched.result c.if-touched-ne0.true)),
     )
 
 pub returns-then-touched-ne0-clause-idle : goal.returns-then-touched-ne0-clause-idle

@@ -1,8 +1,16 @@
 use Rattle.std.proofs.Common.{◌∙◌, ap, false, refl, sym, Some}
 use Rattle.sdr_log.specs.Log.{heap_of}
-use Rattle.sdr_image.proofs.EndedLemmas.{opened_rested, rested_rests}
+use Rattle.sdr_image.proofs.EndedLemmas.{opened_image, opened_rested, rested_rests}
 use Rattle.sdr_image.proofs.StandsLemmas.{stands_begun}
 use Rattle.sdr_image.proofs.image.Image.open.Goals as goal
+
+pub invariant_of-result : goal.invariant_of-result
+invariant_of-result g c =
+    let d = g.D.Disk in
+    let loaded = c.in-Ok.loaded in
+    let e = c.in-Ok.ensures in
+    opened_image loaded.frame loaded.restored (d.bytes c.args.disk) (d.bytes c.load.new.disk) loaded.lines e.fresh e.back e.found
+    e.disk.size
 
 pub returns-in-Ok-clause-opened : goal.returns-in-Ok-clause-opened
 returns-in-Ok-clause-opened g c =

@@ -1,4 +1,4 @@
-use Rattle.std.proofs.Common.{◌<◌, ◌∙◌, [], true, false, length, sym, ap, subst, arith}
+use Rattle.std.proofs.Common.{◌≡◌, ◌<◌, ◌∙◌, [], false, length, sym, ap, subst, arith}
 use Rattle.std.proofs.Common.{Some, true≢false}
 use Rattle.sdr_disk.specs.Moments.{AtEach}
 use Rattle.sdr_log.specs.Spilled.{GivesEither}
@@ -61,8 +61,8 @@ returns-in_default-clause-any_moment g c rests told =
     (subst (λ (v : Opened g.row.D.Denot). Rests d.bytes d.tells_crashes d.moment d.may_hold_after v) (sym c.self.view_is) rests sound
     (sym (ap (λ (v : Opened g.row.D.Denot). d.tells_crashes v.disk) (sym c.self.view_is)) ∙ told)))
 
-pub invariant_of-self-in_default : goal.invariant_of-self-in_default
-invariant_of-self-in_default g c =
+pub invariant_of-self : goal.invariant_of-self
+invariant_of-self g c =
     let d = g.D.Disk in
     let o = c.self.inside in
     let inv = c.self.invariant in
@@ -75,8 +75,8 @@ invariant_of-self-in_default g c =
     image_failed o.frame x y o.lines l o.is_open o.failed inv (touched_open o.frame x o.lines o.is_open o.failed inv some)
     c.end.ensures.disk.size c.end.ensures.lines
 
-pub invariant_of-self : goal.invariant_of-self
-invariant_of-self g c =
+pub invariant_of-self-2 : goal.invariant_of-self-2
+invariant_of-self-2 g c =
     let d = g.D.Disk in
     let o = c.self.inside in
     let inv = c.self.invariant in

@@ -1,8 +1,7 @@
-use Rattle.std.proofs.Common.{◌≡◌, ◌∙◌, ap, arith, List, length, sym, vec_len, ℕ}
+use Rattle.std.proofs.Common.{◌≡◌, ◌∙◌, ap, arith, length, sym, vec_len, ℕ}
 use Rattle.std.specs.Prelude.{map, replicate}
 use Rattle.std.proofs.lemmas.List.{length-map}
 use Rattle.sdr_image.specs.Marks.{stand_of}
-use Rattle.sdr_image.specs.declared.marks.Stand.{Stand}
 use Rattle.sdr_image.specs.declared.marks.Stand.TheVariants.{Clean}
 use Rattle.sdr_image.proofs.MarksLemmas.{clean_bytes}
 use Rattle.sdr_image.proofs.marks.Marks.clear.Goals as goal

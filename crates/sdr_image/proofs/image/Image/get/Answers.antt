@@ -1,8 +1,14 @@
-use Rattle.std.proofs.Common.{◌∙◌, ◌*◌, ap, subst, arith, Bool, true, false}
+use Rattle.std.proofs.Common.{◌≡◌, ◌≤◌, ◌<◌, ◌∙◌, ◌+◌, ◌-◌, ◌*◌, ap, subst, arith, Bool, true, false, ℕ, List, length, take, drop}
 use Rattle.sdr_base.specs.Parts.{part}
+use Rattle.sdr_base.proofs.PartsLemmas.{length-part}
+use Rattle.sdr_log.specs.Frame.{disk_bytes}
+use Rattle.sdr_log.specs.declared.frame.Frame.{Frame}
+use Rattle.sdr_log.proofs.BatchesLemmas.{part-within}
+use Rattle.sdr_image.specs.Lines.{IsLines, now_of}
 use Rattle.sdr_image.specs.Opened.{IsImage, Opened}
-use Rattle.sdr_image.proofs.ImageLemmas.{image_read, read_ended}
-use Rattle.sdr_image.proofs.image.Image.line.Goals as goal
+use Rattle.sdr_image.specs.declared.lines.Lines.{Lines}
+use Rattle.sdr_image.proofs.ImageLemmas.{image_read, now_long, read_ended}
+use Rattle.sdr_image.proofs.image.Image.get.Goals as goal
 
 pub line_now-requires-clause-regions : goal.line_now-requires-clause-regions
 line_now-requires-clause-regions g c = record { limits = c.self.invariant.limits; inside = c.self.invariant.fits }
@@ -58,19 +64,35 @@ invariant_of-self g c =
     subst (λ (b : Bool). IsImage x o.frame o.lines o.is_open b) sound c.self.invariant in
     image_read o.frame x y o.lines l o.is_open o.failed was e.reads.same e.same e.clean
 
+-- a line has 64 bytes
+whole : (f : Frame) (lines : Lines) (x : List ℕ) (line : ℕ) → IsLines f lines → disk_bytes f ≤ length x → line < f.heap_lines →
+    length (part (64 * line) 64 (now_of f lines x)) ≡ 64
+whole f lines x line k fits below =
+    length-part (64 * line) 64 (now_of f lines x) (omega (arith, now_long f lines x k fits, below))
+
+pub slice_bounds-copy_from_slice-end : goal.slice_bounds-copy_from_slice-end
+slice_bounds-copy_from_slice-end g c =
+    let o = c.self.inside in
+    let inv = c.self.invariant in
+    let below = ap (λ (v : Opened g.row.D.Denot). v.frame.heap_lines) c.self.view_is in
+    omega (
+      arith,
+      c.requires.inside,
+      ap length c.in-Ok.ensures.given,
+      whole o.frame o.lines (g.D.Disk.bytes o.disk) c.args.line inv.lines_kept inv.fits (omega (arith, c.requires.below, below)),
+    )
+
 pub returns-clause-given : goal.returns-clause-given
 returns-clause-given g c =
-    let d = g.D.Disk in
     let o = c.self.inside in
-    let sound = ap (λ (v : Opened g.row.D.Denot). v.failed) c.self.view_is ∙ c.requires.sound in
-    let x = d.bytes o.disk in
-    let y = d.bytes c.line_now.new.disk in
-    let l = c.line_now.new.lines in
-    let e = c.line_now.ensures in
-    let was : IsImage x o.frame o.lines o.is_open false =
-    subst (λ (b : Bool). IsImage x o.frame o.lines o.is_open b) sound c.self.invariant in
-    c.in-Ok.ensures.given
-    ∙ ap (λ (v : Opened g.row.D.Denot). part (64 * c.args.line) 64 v.bytes) c.self.view_is
+    let n = length c.args.into.now in
+    let now = now_of o.frame o.lines (g.D.Disk.bytes o.disk) in
+    let count : c.args.at + n - c.args.at ≡ n = omega arith in
+    c.copy_from_slice.ensures.after
+    ∙ ap (λ (k : ℕ). take k (drop c.args.at c.in-Ok.bytes)) count
+    ∙ ap (part c.args.at n) c.in-Ok.ensures.given
+    ∙ part-within (64 * c.args.line) c.args.at n 64 now c.requires.inside
+    ∙ ap (λ (v : Opened g.row.D.Denot). part (64 * c.args.line + c.args.at) n v.bytes) c.self.view_is
 
 pub returns-clause-same : goal.returns-clause-same
 returns-clause-same g c =
