@@ -95,7 +95,11 @@ fn wrong_fault(alloc: Global, begun: u64, script: &[u8], texts: &[&[u8]]) -> Opt
             .iter()
             .position(|text| output.taken() == *text)
             .unwrap_or(0);
-        if came.status != DISK_FAULT || !came.faulted || place < at || output.taken() != *texts.get(place)? {
+        if came.status != DISK_FAULT
+            || !came.faulted
+            || place < at
+            || output.taken() != *texts.get(place)?
+        {
             return Some(Some(call));
         }
         at = place;

@@ -204,7 +204,7 @@ returns-in-Err-DiskFault-clause-some g c =
     e.cause.explained in
     let sound : old.heap.cells.failed ≡ false = explained.0 in
     let since : old.moment ≤ at.result = omega (arith, at_now, c.self.invariant.seen, e.forward) in
-    subst (λ (o : Grounded D M). 0 < length o.heap.cells.touched) c.self.view_is 
+    subst (λ (o : Grounded D M). 0 < length o.heap.cells.touched) c.self.view_is
     (let stopped : Stop → Result (Unit {0}) Stop = λ s. Err s in e.some (ap stopped is))
 
 pub returns-in-Err-DiskFault-clause-seen : goal.returns-in-Err-DiskFault-clause-seen
