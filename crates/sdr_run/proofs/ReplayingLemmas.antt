@@ -1,10 +1,11 @@
 -- A run that begins on a heap that was just opened, and what it leaves of the disk.
-use Rattle.std.proofs.Common.{◌≡◌, ◌∙◌, ◌≤◌, ℕ, List, [], Option, length, refl, sym, ap, subst, inl, arith}
+use Rattle.std.proofs.Common.{◌≡◌, ◌∙◌, ◌≤◌, ℕ, List, [], true, Option, length, refl, sym, ap, subst, inl, arith}
 use Rattle.std.specs.Prelude.{◌↔◌}
 use Rattle.sdr_base.specs.Media.{Told}
 use Rattle.sdr_base.specs.declared.media.Media.{Ghosts as MediaGhosts}
 use Rattle.sdr_core.specs.CoreKept.{AreMadeBetween, BeginsOn, IsRunOf}
 use Rattle.sdr_disk.specs.Moments.{AtEach, Reads}
+use Rattle.sdr_disk.specs.Pending.{IsSynced}
 use Rattle.sdr_disk.specs.Tells.{IfTells}
 use Rattle.sdr_disk.specs.declared.disk.Disk.{Ghosts as DiskGhosts}
 use Rattle.sdr_core.specs.Caused.{SeenMedia, from_to, seen_media}
@@ -13,6 +14,7 @@ use Rattle.sdr_words.specs.Daemons.{daemons_of}
 use Rattle.sdr_image.proofs.OpenedLemmas.{reads_synced}
 use Rattle.sdr_image.specs.Opened.{Holds}
 use Rattle.sdr_image.specs.Opening.{MayBeOpened}
+use Rattle.sdr_machine.specs.Crash.{is_sound}
 use Rattle.sdr_machine.specs.Ground.{State}
 use Rattle.sdr_machine.specs.Legal.{IsLegal}
 use Rattle.sdr_machine.specs.Standing.{GroundState, standing_at}
