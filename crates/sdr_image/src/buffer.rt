@@ -79,11 +79,11 @@ impl Buffer {
     }
 
     /// The bytes now of the line at a place.
-    pub fn at(&self, place: u8) -> [u8; 64]
+    pub fn at(&self, place: u8) -> &[u8; 64]
         requires { place < length self.now.news }
-        ensures { (d : Record) → result ≡ (get_or self.now.news place d).bytes }
+        ensures { (d : Record) → result.now ≡ (get_or self.now.news place d).bytes }
     {
-        self.news[place as usize].bytes
+        &self.news[place as usize].bytes
     }
 
     /// Puts bytes into the line at a place, from a place of it on.

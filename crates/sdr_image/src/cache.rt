@@ -71,11 +71,11 @@ impl Cache {
     }
 
     /// The bytes of a line, where it is kept.
-    pub fn find(&self, line: u32) -> Option<[u8; 64]>
-        ensures { IfSome result (λ bytes. Contains self.now (line, bytes)) }
+    pub fn find(&self, line: u32) -> Option<&[u8; 64]>
+        ensures { IfSome result (λ bytes. Contains self.now (line, bytes.now)) }
     {
         match &self.places[place_of(line)] {
-            Some(record) if record.line == line => Some(record.bytes),
+            Some(record) if record.line == line => Some(&record.bytes),
             _ => None,
         }
     }

@@ -1,5 +1,5 @@
 // An opened disk.
-ghost use Rattle.std.specs.Prelude.{◌≡◌, ◌≤◌, ◌<◌, ◌+◌, ◌-◌, ◌*◌, ◌^◌, ◌∷◌, [], ℕ, true, false, length, min};
+ghost use Rattle.std.specs.Prelude.{◌≡◌, ◌≤◌, ◌<◌, ◌+◌, ◌-◌, ◌*◌, ◌/◌, ◌%◌, ◌^◌, ◌∷◌, [], ℕ, true, false, length, min};
 ghost use Rattle.std.specs.Prelude.{IfOk, IfErr, IsErrOf, IsPermutation, OnErr, OnOk, None};
 ghost use Rattle.std.specs.List.{range_with_len};
 ghost use Rattle.sdr_base.specs.Cells.{is_among, with_lines, lines_of, TouchesLines, TouchesSome};
@@ -20,7 +20,7 @@ ghost use Rattle.sdr_image.specs.Opening.{MayBeOpened, OnNotFormatted, UnlessFau
 ghost use Rattle.sdr_image.specs.Saved.{Saves, calls_of};
 
 use crate::closing::{end, take_back};
-use crate::lines::{Lines, line_now};
+use crate::lines::{Lines, copy_now};
 use crate::opening::load;
 use crate::span::span;
 use crate::writing::write_line;
@@ -194,11 +194,34 @@ impl<D: Disk> Image<D> {
         ensures cause { HasReason (transaction_of D.faults self.old)
             (transaction_of D.faults self.new) result }
     {
-        let Ok(bytes) = line_now(&mut self.disk, self.frame, &mut self.lines, line) else {
+        let Ok(()) = copy_now(&mut self.disk, self.frame, &mut self.lines, line, at, into) else {
             self.failed = true;
             return Err(Stop::DiskFault);
         };
-        into.copy_from_slice(&bytes[at..at + into.len()]);
+        Ok(())
+    }
+
+    // Fills a buffer with the bytes from a place on, which lie in one line.
+    fn get_one(&mut self, place: u64, into: &mut [u8]) -> Result<(), Stop>
+        requires sound { self.old.failed ≡ false }
+        requires one { place % LINE + length into.old ≤ LINE }
+        requires below { place / LINE < self.old.frame.heap_lines }
+
+        ensures given { OnOk result (into.new ≡ part place (length into.old) self.old.bytes) }
+
+        ensures same { self.new.bytes ≡ self.old.bytes }
+        ensures room { TouchesNone (transaction_of D.faults self.old)
+            (transaction_of D.faults self.new) result }
+        ensures cause { HasReason (transaction_of D.faults self.old)
+            (transaction_of D.faults self.new) result }
+        ensures quiet { IsQuiet D.bytes D.tells_crashes D.moment D.may_hold_after self.old
+            self.new }
+
+        ensures still_open { self.new.is_open ≡ self.old.is_open }
+        ensures reads { Reads D.bytes D.tells_crashes D.moment D.may_hold_after self.old.disk
+            self.new.disk }
+    {
+        self.get(place / LINE, (place % LINE) as usize, into)?;
         Ok(())
     }
 
@@ -484,7 +507,11 @@ impl<D: Disk> Cells for Image<D> {
         if self.failed {
             return Err(Stop::Failed);
         }
-        let (first, end) = span(place, into.len() as u64);
+        let count = into.len() as u64;
+        if count > 0 && place % LINE + count <= LINE {
+            return self.get_one(place, into);
+        }
+        let (first, end) = span(place, count);
         self.get_all(place, into, first, end)
     }
 

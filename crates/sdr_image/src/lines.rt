@@ -65,34 +65,82 @@ pub fn clean_line<D: Disk>(
     ensures reads { Reads D.bytes D.tells_crashes D.moment D.may_hold_after disk.old disk.new }
 {
     if let Some(bytes) = cache.find(line as u32) {
-        return Ok(bytes);
+        return Ok(*bytes);
     }
     let bytes = read_line(disk, frame, line)?;
     cache.keep(line as u32, bytes);
     Ok(bytes)
 }
 
-/// The bytes now of a line.
-pub fn line_now<D: Disk>(
+// Copies bytes of a line, from a place of it on.
+fn copy(line: &[u8], at: usize, into: &mut [u8])
+    requires { at + length into.old ≤ length line.now }
+    ensures { into.new ≡ part at (length into.old) line.now }
+{
+    into.copy_from_slice(&line[at..at + into.len()]);
+}
+
+// Fills a buffer with bytes of a clean line, from a place of it on.
+fn copy_clean<D: Disk>(
+    disk: &mut D,
+    frame: Frame,
+    cache: &mut Cache,
+    line: u64,
+    at: usize,
+    into: &mut [u8],
+) -> Result<(), DiskFault>
+    requires regions { LieInside frame (length (D.bytes disk.old)) }
+    requires below { line < frame.heap_lines }
+    requires inside { at + length into.old ≤ LINE }
+    requires clean { (e : ℕ × List ℕ) → Contains cache.old e
+        → IsLineOf frame (D.bytes disk.old) e }
+    ensures given { OnOk result (into.new ≡ part (LINE * line + at) (length into.old)
+        (heap_of frame (D.bytes disk.old))) }
+    ensures kept { (e : ℕ × List ℕ) → Contains cache.new e
+        → Contains cache.old e ⊎ ((e.0 ≡ line) × IsLineOf frame (D.bytes disk.old) e) }
+    ensures cause { HasCause (D.faults disk.old) (D.faults disk.new) result }
+    ensures reads { Reads D.bytes D.tells_crashes D.moment D.may_hold_after disk.old disk.new }
+{
+    if let Some(bytes) = cache.find(line as u32) {
+        copy(bytes, at, into);
+        return Ok(());
+    }
+    let bytes = clean_line(disk, frame, cache, line)?;
+    copy(&bytes, at, into);
+    Ok(())
+}
+
+/// Fills a buffer with bytes of a line as they are now, from a place of it on.
+pub fn copy_now<D: Disk>(
     disk: &mut D,
     frame: Frame,
     lines: &mut Lines,
     line: u64,
-) -> Result<[u8; 64], DiskFault>
+    at: usize,
+    into: &mut [u8],
+) -> Result<(), DiskFault>
     requires regions { LieInside frame (length (D.bytes disk.old)) }
     requires below { line < frame.heap_lines }
+    requires inside { at + length into.old ≤ LINE }
     requires kept { IsLines frame lines.old }
     requires stands { Stands frame (begun_of (D.bytes disk.old)) lines.old (D.bytes disk.old) }
-    ensures given { IfOk result (λ bytes. bytes
-        ≡ part (LINE * line) LINE (now_of frame lines.old (D.bytes disk.old))) }
+    ensures given { OnOk result (into.new ≡ part (LINE * line + at) (length into.old)
+        (now_of frame lines.old (D.bytes disk.old))) }
     ensures same { lines.new ≡ record lines.old { cache = lines.new.cache } }
     ensures clean { AreClean frame (D.bytes disk.old) lines.old.marks lines.new.cache }
     ensures cause { HasCause (D.faults disk.old) (D.faults disk.new) result }
     ensures reads { Reads D.bytes D.tells_crashes D.moment D.may_hold_after disk.old disk.new }
 {
     match lines.marks.at(line) {
-        Stand::Buffered(place) => Ok(lines.buffer.at(place)),
-        Stand::Clean => clean_line(disk, frame, &mut lines.cache, line),
-        Stand::Logged => read_line(disk, frame, line),
+        Stand::Buffered(place) => {
+            copy(lines.buffer.at(place), at, into);
+            Ok(())
+        }
+        Stand::Clean => copy_clean(disk, frame, &mut lines.cache, line, at, into),
+        Stand::Logged => {
+            let bytes = read_line(disk, frame, line)?;
+            copy(&bytes, at, into);
+            Ok(())
+        }
     }
 }

@@ -7,21 +7,21 @@ use Rattle.sdr_log.proofs.BatchesLemmas.{part-within}
 use Rattle.sdr_image.specs.Lines.{IsLines, now_of}
 use Rattle.sdr_image.specs.Opened.{IsImage, Opened}
 use Rattle.sdr_image.specs.declared.lines.Lines.{Lines}
-use Rattle.sdr_image.proofs.ImageLemmas.{image_read, now_long, read_ended}
+use Rattle.sdr_image.proofs.ImageLemmas.{image_read, read_ended}
 use Rattle.sdr_image.proofs.image.Image.get.Goals as goal
 
-pub line_now-requires-clause-regions : goal.line_now-requires-clause-regions
-line_now-requires-clause-regions g c = record { limits = c.self.invariant.limits; inside = c.self.invariant.fits }
+pub copy_now-requires-clause-regions : goal.copy_now-requires-clause-regions
+copy_now-requires-clause-regions g c = record { limits = c.self.invariant.limits; inside = c.self.invariant.fits }
 
-pub line_now-requires-clause-below : goal.line_now-requires-clause-below
-line_now-requires-clause-below g c =
+pub copy_now-requires-clause-below : goal.copy_now-requires-clause-below
+copy_now-requires-clause-below g c =
     omega (arith, c.requires.below, ap (λ (v : Opened g.row.D.Denot). v.frame.heap_lines) c.self.view_is)
 
-pub line_now-requires-clause-kept : goal.line_now-requires-clause-kept
-line_now-requires-clause-kept g c = c.self.invariant.lines_kept
+pub copy_now-requires-clause-kept : goal.copy_now-requires-clause-kept
+copy_now-requires-clause-kept g c = c.self.invariant.lines_kept
 
-pub line_now-requires-clause-stands : goal.line_now-requires-clause-stands
-line_now-requires-clause-stands g c =
+pub copy_now-requires-clause-stands : goal.copy_now-requires-clause-stands
+copy_now-requires-clause-stands g c =
     c.self.invariant.stands (ap (λ (v : Opened g.row.D.Denot). v.failed) c.self.view_is ∙ c.requires.sound)
 
 pub invariant_of-self-in_default : goal.invariant_of-self-in_default
@@ -30,9 +30,9 @@ invariant_of-self-in_default g c =
     let o = c.self.inside in
     let sound = ap (λ (v : Opened g.row.D.Denot). v.failed) c.self.view_is ∙ c.requires.sound in
     let x = d.bytes o.disk in
-    let y = d.bytes c.line_now.new.disk in
-    let l = c.line_now.new.lines in
-    let e = c.line_now.ensures in
+    let y = d.bytes c.copy_now.new.disk in
+    let l = c.copy_now.new.lines in
+    let e = c.copy_now.ensures in
     let was : IsImage x o.frame o.lines o.is_open false =
     subst (λ (b : Bool). IsImage x o.frame o.lines o.is_open b) sound c.self.invariant in
     image_read o.frame x y o.lines l o.is_open true was e.reads.same e.same e.clean
@@ -43,13 +43,13 @@ returns-in_default-clause-failed g c =
     let o = c.self.inside in
     let sound = ap (λ (v : Opened g.row.D.Denot). v.failed) c.self.view_is ∙ c.requires.sound in
     let x = d.bytes o.disk in
-    let y = d.bytes c.line_now.new.disk in
-    let l = c.line_now.new.lines in
-    let e = c.line_now.ensures in
+    let y = d.bytes c.copy_now.new.disk in
+    let l = c.copy_now.new.lines in
+    let e = c.copy_now.ensures in
     let was : IsImage x o.frame o.lines o.is_open false =
     subst (λ (b : Bool). IsImage x o.frame o.lines o.is_open b) sound c.self.invariant in
-    read_ended d.bytes o.disk c.line_now.new.disk o.frame o.lines l o.is_open o.failed true o.restored e.reads.same e.same
-    ∙ ap (λ (v : Opened g.row.D.Denot). record v { disk = c.line_now.new.disk; failed = true }) c.self.view_is
+    read_ended d.bytes o.disk c.copy_now.new.disk o.frame o.lines l o.is_open o.failed true o.restored e.reads.same e.same
+    ∙ ap (λ (v : Opened g.row.D.Denot). record v { disk = c.copy_now.new.disk; failed = true }) c.self.view_is
 
 pub invariant_of-self : goal.invariant_of-self
 invariant_of-self g c =
@@ -57,41 +57,17 @@ invariant_of-self g c =
     let o = c.self.inside in
     let sound = ap (λ (v : Opened g.row.D.Denot). v.failed) c.self.view_is ∙ c.requires.sound in
     let x = d.bytes o.disk in
-    let y = d.bytes c.line_now.new.disk in
-    let l = c.line_now.new.lines in
-    let e = c.line_now.ensures in
+    let y = d.bytes c.copy_now.new.disk in
+    let l = c.copy_now.new.lines in
+    let e = c.copy_now.ensures in
     let was : IsImage x o.frame o.lines o.is_open false =
     subst (λ (b : Bool). IsImage x o.frame o.lines o.is_open b) sound c.self.invariant in
     image_read o.frame x y o.lines l o.is_open o.failed was e.reads.same e.same e.clean
 
--- a line has 64 bytes
-whole : (f : Frame) (lines : Lines) (x : List ℕ) (line : ℕ) → IsLines f lines → disk_bytes f ≤ length x → line < f.heap_lines →
-    length (part (64 * line) 64 (now_of f lines x)) ≡ 64
-whole f lines x line k fits below =
-    length-part (64 * line) 64 (now_of f lines x) (omega (arith, now_long f lines x k fits, below))
-
-pub slice_bounds-copy_from_slice-end : goal.slice_bounds-copy_from_slice-end
-slice_bounds-copy_from_slice-end g c =
-    let o = c.self.inside in
-    let inv = c.self.invariant in
-    let below = ap (λ (v : Opened g.row.D.Denot). v.frame.heap_lines) c.self.view_is in
-    omega (
-      arith,
-      c.requires.inside,
-      ap length c.in-Ok.ensures.given,
-      whole o.frame o.lines (g.D.Disk.bytes o.disk) c.args.line inv.lines_kept inv.fits (omega (arith, c.requires.below, below)),
-    )
-
 pub returns-clause-given : goal.returns-clause-given
 returns-clause-given g c =
-    let o = c.self.inside in
     let n = length c.args.into.now in
-    let now = now_of o.frame o.lines (g.D.Disk.bytes o.disk) in
-    let count : c.args.at + n - c.args.at ≡ n = omega arith in
-    c.copy_from_slice.ensures.after
-    ∙ ap (λ (k : ℕ). take k (drop c.args.at c.in-Ok.bytes)) count
-    ∙ ap (part c.args.at n) c.in-Ok.ensures.given
-    ∙ part-within (64 * c.args.line) c.args.at n 64 now c.requires.inside
+    c.in-Ok.ensures.given
     ∙ ap (λ (v : Opened g.row.D.Denot). part (64 * c.args.line + c.args.at) n v.bytes) c.self.view_is
 
 pub returns-clause-same : goal.returns-clause-same
@@ -100,10 +76,10 @@ returns-clause-same g c =
     let o = c.self.inside in
     let sound = ap (λ (v : Opened g.row.D.Denot). v.failed) c.self.view_is ∙ c.requires.sound in
     let x = d.bytes o.disk in
-    let y = d.bytes c.line_now.new.disk in
-    let l = c.line_now.new.lines in
-    let e = c.line_now.ensures in
+    let y = d.bytes c.copy_now.new.disk in
+    let l = c.copy_now.new.lines in
+    let e = c.copy_now.ensures in
     let was : IsImage x o.frame o.lines o.is_open false =
     subst (λ (b : Bool). IsImage x o.frame o.lines o.is_open b) sound c.self.invariant in
-    read_ended d.bytes o.disk c.line_now.new.disk o.frame o.lines l o.is_open o.failed o.failed o.restored e.reads.same e.same
-    ∙ ap (λ (v : Opened g.row.D.Denot). record v { disk = c.line_now.new.disk }) c.self.view_is
+    read_ended d.bytes o.disk c.copy_now.new.disk o.frame o.lines l o.is_open o.failed o.failed o.restored e.reads.same e.same
+    ∙ ap (λ (v : Opened g.row.D.Denot). record v { disk = c.copy_now.new.disk }) c.self.view_is

@@ -39,3 +39,15 @@ get_all-requires-clause-below g c =
       ap (λ (v : Opened g.row.D.Denot). length v.bytes) c.self.view_is,
       ap (λ (v : Opened g.row.D.Denot). v.frame.heap_lines) c.self.view_is,
     )
+
+pub get_one-requires-clause-below : goal.get_one-requires-clause-below
+get_one-requires-clause-below g c =
+    let o = c.self.inside in
+    let inv = c.self.invariant in
+    omega (
+      arith,
+      c.requires.inside,
+      now_long o.frame o.lines (g.D.Disk.bytes o.disk) inv.lines_kept inv.fits,
+      ap (λ (v : Opened g.row.D.Denot). length v.bytes) c.self.view_is,
+      ap (λ (v : Opened g.row.D.Denot). v.frame.heap_lines) c.self.view_is,
+    )
