@@ -1,5 +1,5 @@
 -- A run of daemons on a heap that was just opened: how it begins, and what it has come to.
-use Rattle.std.proofs.Common.{◌≡◌, ◌∙◌, ℕ, List, [], sym, ap, subst}
+use Rattle.std.proofs.Common.{◌≡◌, ◌∙◌, ℕ, List, [], sym, ap, subst, arith}
 use Rattle.std.specs.Prelude.{◌↔◌}
 use Rattle.sdr_base.specs.declared.media.Media.{Ghosts as MediaGhosts}
 use Rattle.sdr_core.specs.Caused.{EntriesAreCaused, SeenMedia, from_to, seen_media}
@@ -17,6 +17,7 @@ use Rattle.sdr_model.specs.declared.script.ScriptStep.{ScriptStep}
 use Rattle.sdr_run.specs.Handed.{HandedDisk, StaysAsHanded, handed_as}
 use Rattle.sdr_run.specs.Opening.{OpenedSo}
 use Rattle.sdr_run.specs.Replaying.{IsSettled, begins_on}
+use Rattle.sdr_run.proofs.QuietLemmas.{reads_same}
 use Rattle.sdr_run.proofs.ReplayingLemmas.{ground_of, ran_opened}
 use Rattle.sdr_station.specs.Grounded.{Grounded}
 use Rattle.sdr_station.specs.Opening.{first_on}
@@ -44,7 +45,7 @@ daemons_ran {D} {M} d m disk files script g condition met o was handed ran now o
     record {
       on_heap = ran_opened d m disk files script g condition met o was handed ran.journal ran.base now.0
           (λ first. RunsDaemons (from_to (shows files) (shows now.1)) first script ran.journal ran.starved)
-          out.run on holds told stays seen
+          out.run out.ended (reads_same d ran.base.heap.cells.disk now.0 on) (let is = ap d.faults on in omega (arith, is)) holds told stays seen
           (record {
             keeps = subst (λ (x : M). KeepsToScripts (m.told x) (first_on g) script ran.journal) o.with_media out.keeps;
             caused = subst (λ (x : M). EntriesAreCaused ran.journal (from_to (shows x) (shows now.1))) o.with_media

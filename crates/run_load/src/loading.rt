@@ -1,7 +1,9 @@
 // A load that runs on the heap of a disk.
-ghost use Rattle.std.specs.Prelude.{◌≡◌, ◌≤◌, ◌↔◌, IfErr, IfOk, false, filter, length, nat_le};
+ghost use Rattle.std.specs.Prelude.{◌≡◌, ◌≤◌, ◌↔◌, [], IfErr, IfOk, false, filter, length, nat_le};
 ghost use Rattle.run_load.specs.Listed.{load_name};
 ghost use Rattle.run_load.specs.Loading.{LoadsOn, TellsEnd, load_daemons};
+ghost use Rattle.sdr_base.specs.Causes.{Rose};
+ghost use Rattle.sdr_disk.specs.Moments.{Reads};
 ghost use Rattle.sdr_image.specs.Opened.{Holds};
 ghost use Rattle.sdr_load.specs.Schedule.{script_for};
 ghost use Rattle.sdr_run.specs.Handed.{StaysAsHanded, handed_as};
@@ -14,6 +16,7 @@ use crate::{Summary, read_list};
 use sdr_base::{Bytes, IdleSink, Media, NoMemory};
 use sdr_disk::Disk;
 use sdr_load::{LoadSteps, MOST_ROUNDS, daemons_of_loads};
+use sdr_machine::Fault;
 use sdr_model::{Call, Journal};
 use sdr_run::{HandedGround, HandedIn, Ran, open_handed, play_recorded, shut_unrun};
 use sdr_station::Shut;
@@ -29,6 +32,8 @@ pub enum LoadEnd {
     Starved,
     /// The disk failed in an entry.
     Failed,
+    /// All of its steps were made, and the disk failed in no entry, but as the list was read.
+    Unread,
 }
 
 /// What a load has come to.
@@ -104,8 +109,12 @@ fn end_of<D: Disk, M: Media, J: HandedIn>(
 ) -> LoadEnd
     requires finds { question.now ≡ Call.Find load_name }
     requires stands { ran.old.failed ≡ false → StandsSome ran.old.base }
+    requires untouched { ran.old.failed ≡ false → ran.old.base.heap.cells.touched ≡ [] }
     ensures end { TellsEnd ran.old result }
-    ensures still { StaysQuiet ran.old.base ran.new.base }
+    ensures cause { result ≡ LoadEnd.Unread → Rose (D.faults ran.old.base.heap.cells.disk)
+        (D.faults ran.new.base.heap.cells.disk) }
+    ensures still { StaysQuiet D.Disk ran.old.base ran.new.base }
+    ensures holds { Holds D.bytes ran.new.base.heap.cells → Holds D.bytes ran.old.base.heap.cells }
     ensures others { ran.new ≡ record ran.old { base = ran.new.base } }
     ensures seen { D.moment ran.new.base.heap.cells.disk ≡ ran.new.base.moment
         → D.moment ran.new.base.heap.cells.disk ≡ ran.old.base.moment }
@@ -116,8 +125,10 @@ fn end_of<D: Disk, M: Media, J: HandedIn>(
     if ran.starved {
         return LoadEnd::Starved;
     }
-    let list = read_list(&mut ran.base, question);
-    LoadEnd::Summed(Summary::of(ran.journal.as_slice(), list))
+    match read_list(&mut ran.base, question) {
+        Ok(list) => LoadEnd::Summed(Summary::of(ran.journal.as_slice(), list)),
+        Err(Fault) => LoadEnd::Unread,
+    }
 }
 
 // What a load has come to that was run, by how it ended.
@@ -127,9 +138,14 @@ fn sum_up<D: Disk, M: Media, J: HandedIn>(
 ) -> Loaded<D, M>
     requires finds { question.now ≡ Call.Find load_name }
     requires stands { ran.failed ≡ false → StandsSome ran.base }
+    requires untouched { ran.failed ≡ false → ran.base.heap.cells.touched ≡ [] }
     ensures journal { result.journal ≡ ran.journal }
     ensures end { TellsEnd ran result.end }
-    ensures disk { result.disk ≡ ran.base.heap.cells.disk }
+    ensures cause { result.end ≡ LoadEnd.Unread → Rose (D.faults ran.base.heap.cells.disk)
+        (D.faults result.disk) }
+    ensures reads { Reads D.bytes D.tells_crashes D.moment D.may_hold_after
+        ran.base.heap.cells.disk result.disk }
+    ensures later { D.faults ran.base.heap.cells.disk ≤ D.faults result.disk }
     ensures media { result.media ≡ ran.base.media }
     ensures tells { D.tells_crashes result.disk ≡ J.was.tells }
     ensures stays { StaysAsHanded J.was.bytes (D.bytes result.disk) ran.base.heap.cells.frame }

@@ -3,6 +3,7 @@ use Rattle.std.proofs.Common.{◌≡◌, ◌∙◌, ℕ, Bool, List, [], ◌∷�
 use Rattle.sdr_disk.proofs.RangesLemmas.{Agrees-trans}
 use Rattle.sdr_disk.specs.declared.disk.Disk.{Ghosts as DiskGhosts}
 use Rattle.sdr_image.proofs.OutsideLemmas.{rest_outside}
+use Rattle.sdr_log.proofs.LoggedLemmas.{closed_only}
 use Rattle.sdr_log.specs.Calls.{KeepsRest, regions_of}
 use Rattle.sdr_log.specs.declared.frame.Frame.{Frame}
 use Rattle.sdr_run.specs.Handed.{HandedDisk, StaysAsHanded, handed_as}
@@ -42,4 +43,7 @@ pub open_again : {D M : Type 0} (d : DiskGhosts D) (disk : D) (g : Grounded D M)
     → MayBeAgain d.bytes d.tells_crashes d.moment d.may_hold_after disk g.heap.cells.disk why
 open_again d disk g why opened same =
     synced_again d.bytes d.tells_crashes d.moment d.may_hold_after disk g.heap.cells.disk why same
-    (λ may told. ((opened.stands may).rests opened.sound told).rest.only)
+    (λ may told.
+    let now = g.heap.cells.disk in
+    closed_only g.heap.cells.frame (d.bytes now) (d.may_hold_after now (d.moment now)) ((opened.stands may).rests opened.sound told).keeps.logged
+    opened.back.gate)

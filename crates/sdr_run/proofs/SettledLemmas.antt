@@ -98,3 +98,17 @@ on_ok_both (Err e) P Q R join p q = tt
 pub on_err_more : {T E : Type 0} (r : Result T E) (P Q : Type 0) → (P → Q) → OnErr r P → OnErr r Q
 on_err_more (Ok x) P Q more p = tt
 on_err_more (Err e) P Q more p = more p
+
+-- so where it holds whatever the value is
+pub if_ok_on : {T E : Type 0} (r : Result T E) (P : T → Type 0) (Q : Type 0) → ((x : T) → P x → Q) → IfOk r P → OnOk r Q
+if_ok_on (Ok x) P Q more p = more x p
+if_ok_on (Err e) P Q more p = tt
+
+-- and where it holds on both outcomes
+pub media_left : {T E Q : Type 0} (r : Result T E) (P : T → Type 0) (R : Type 0) → ((x : T) → P x → Q) → (R → Q) → IfOk r P → OnErr r R → Q
+media_left (Ok x) P R more fails p q = more x p
+media_left (Err e) P R more fails p q = fails q
+
+pub on_ok_more : {T E : Type 0} (r : Result T E) (P Q : Type 0) → (P → Q) → OnOk r P → OnOk r Q
+on_ok_more (Ok x) P Q more p = more p
+on_ok_more (Err e) P Q more p = tt

@@ -27,12 +27,13 @@ impl<D: Disk, M: Media, J: HandedIn> Model for HandedGround<D, M, J> {
 }
 
 impl<D: Disk, M: Media, J: HandedIn> HandedGround<D, M, J> {
-    ghost use Rattle.std.specs.Prelude.{◌≡◌, false, true};
+    ghost use Rattle.std.specs.Prelude.{◌≡◌, [], IfOk, OnErr, OnOk, false, true};
+    ghost use Rattle.sdr_base.specs.Causes.{Rose};
     ghost use Rattle.sdr_image.specs.Opened.{Holds};
     ghost use Rattle.sdr_machine.specs.Serving.{Brings, Calls, RollsBack};
     ghost use Rattle.sdr_model.specs.Reading.{is_reading, reads_media};
     ghost use Rattle.sdr_run.specs.Handed.{StaysAsHanded};
-    ghost use Rattle.sdr_run.specs.Quiet.{StaysQuiet};
+    ghost use Rattle.sdr_run.specs.Quiet.{IsSame, StaysQuiet};
     ghost use Rattle.sdr_station.specs.Grounded.{StandsInMemory};
 
     pub fn new(ground: HeapGround<Handed<D, J>, M, Compares>) -> HandedGround<D, M, J>
@@ -42,11 +43,15 @@ impl<D: Disk, M: Media, J: HandedIn> HandedGround<D, M, J> {
         HandedGround { ground }
     }
 
-    /// Rolls the open transaction back. It makes no call of the disk, and doesn't fail.
+    /// Rolls back a transaction that has touched no line. It makes no call of the disk, and doesn't fail.
     pub fn restore(&mut self)
+        requires untouched { self.old.heap.cells.touched ≡ [] }
+        requires sound { self.old.heap.cells.failed ≡ false }
         ensures back { Brings StandsInMemory self.old self.new RollsBack }
-        ensures going { self.old.heap.cells.failed ≡ false → self.new.stopped ≡ false }
-        ensures still { StaysQuiet self.old self.new }
+        ensures going { self.new.stopped ≡ false }
+        ensures untouched { self.new.heap.cells.touched ≡ [] }
+        ensures same { IsSame self.old self.new }
+        ensures holds { Holds D.bytes self.old.heap.cells }
         ensures seen { self.old.moment ≡ D.moment self.old.heap.cells.disk }
     {
         match self.ground.restore() {
@@ -55,15 +60,20 @@ impl<D: Disk, M: Media, J: HandedIn> HandedGround<D, M, J> {
         }
     }
 
-    /// Makes a call that reads, and asks no media, in a transaction in which none was stopped. It makes no call of the disk.
-    pub fn read(&mut self, call: &Call) -> Reply
+    /// Makes a call that reads, and asks no media, in a transaction that has touched no line and in which none was stopped.
+    /// The disk is only read.
+    pub fn read(&mut self, call: &Call) -> Result<Reply, Fault>
         requires reads { is_reading call.now ≡ true }
         requires unasked { reads_media call.now ≡ false }
         requires going { self.old.stopped ≡ false }
-        ensures answered { Brings StandsInMemory self.old self.new
-            (Calls (M.told self.old.media) call.now result) }
-        ensures going { self.new.stopped ≡ false }
-        ensures still { StaysQuiet self.old self.new }
+        requires untouched { self.old.heap.cells.touched ≡ [] }
+        ensures answered { IfOk result (λ reply. Brings StandsInMemory self.old self.new
+            (Calls (M.told self.old.media) call.now reply)) }
+        ensures going { OnOk result (self.new.stopped ≡ false) }
+        ensures untouched { self.new.heap.cells.touched ≡ [] }
+        ensures cause { OnErr result (Rose (D.faults self.old.heap.cells.disk)
+            (D.faults self.new.heap.cells.disk)) }
+        ensures still { StaysQuiet D.Disk self.old self.new }
     {
         self.ground.serve(call)
     }
@@ -143,7 +153,7 @@ impl<D: Disk, M: Media, J: HandedIn> Backing for HandedGround<D, M, J> {
     }
 
     fn look(&mut self, ticket: u64) -> Result<Option<bool>, Fault> {
-        Ok(HeapGround::look(&mut self.ground, ticket))
+        HeapGround::look(&mut self.ground, ticket)
     }
 }
 

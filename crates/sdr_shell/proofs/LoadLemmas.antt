@@ -66,16 +66,18 @@ module _ {D M : Type 0} (d : DiskGhosts D) (m : MediaGhosts M) (rounds : ℕ) (d
   }
 
   -- by how it ended
-  load_comes : (starved : Bool) (end : LoadEnd) (status : ℕ) → Ran end starved → TellsLoad rounds end status sink sink'
-      → LoadComesTo d m rounds status disk disk' files files' journal sink sink'
-  load_comes starved (ends.Summed summary) status ran (inl tells) =
+  load_comes : (starved : Bool) (end : LoadEnd) (status : ℕ) → Ran end starved → (end ≡ ends.Unread → Rose (d.faults disk) (d.faults disk'))
+      → TellsLoad rounds end status sink sink' → LoadComesTo d m rounds status disk disk' files files' journal sink sink'
+  load_comes starved (ends.Summed summary) status ran cause (inl tells) =
       LoadComesTo.done tells.0 (whole_of starved summary (Appends sink.bytes sink'.bytes) tells.1 ran)
-  load_comes starved (ends.Summed summary) status ran (inr tells) =
+  load_comes starved (ends.Summed summary) status ran cause (inr tells) =
       LoadComesTo.unwritten tells.0 tells.1 (whole_of starved summary _ tells.2 ran)
-  load_comes starved ends.Starved status ran tells =
+  load_comes starved ends.Starved status ran cause tells =
       LoadComesTo.starved tells.0 ran.runs.1.0 (had_of starved true _ (λ first. ⊤) ran.runs.1.1 (λ first so. tt) ran) tells.1
-  load_comes starved ends.Failed status ran tells =
+  load_comes starved ends.Failed status ran cause tells =
       LoadComesTo.failed tells.0 ran.runs.1 starved (had_of starved starved _ (λ first. ⊤) refl (λ first so. tt) ran) tells.1
+  load_comes starved ends.Unread status ran cause tells =
+      LoadComesTo.unread tells.0 ran.runs.1.0 (cause refl) (had_of starved false _ (λ first. ⊤) ran.runs.1.1 (λ first so. tt) ran) tells.1
 
   completes : (status : ℕ) → ¬ Rose sink.faults sink'.faults → ¬ Rose (d.faults disk) (d.faults disk')
       → LoadComesTo d m rounds status disk disk' files files' journal sink sink'
@@ -83,6 +85,7 @@ module _ {D M : Type 0} (d : DiskGhosts D) (m : MediaGhosts M) (rounds : ℕ) (d
   completes status no_output no_disk (LoadComesTo.done is whole) = inl is
   completes status no_output no_disk (LoadComesTo.unwritten is rose whole) = absurd (no_output rose)
   completes status no_output no_disk (LoadComesTo.failed is broken starved had none) = absurd (no_disk (had.ran.leaves.cause broken))
+  completes status no_output no_disk (LoadComesTo.unread is sound rose had none) = absurd (no_disk rose)
   completes status no_output no_disk (LoadComesTo.starved is sound had wrote) = inr (inr (inr is))
   completes status no_output no_disk (LoadComesTo.shut why is was) = shut_status why status _ _ _ no_disk is was.not_run.why
 
@@ -93,6 +96,7 @@ module _ {D M : Type 0} (d : DiskGhosts D) (m : MediaGhosts M) (rounds : ℕ) (d
   takes_standing status heap w P gives stands no_output no_disk (LoadComesTo.unwritten is rose whole) = absurd (no_output rose)
   takes_standing status heap w P gives stands no_output no_disk (LoadComesTo.failed is broken starved had none) =
       absurd (no_disk (had.ran.leaves.cause broken))
+  takes_standing status heap w P gives stands no_output no_disk (LoadComesTo.unread is sound rose had none) = absurd (no_disk rose)
   takes_standing status heap w P gives stands no_output no_disk (LoadComesTo.starved is sound had wrote) = inr is
   takes_standing status heap w P gives stands no_output no_disk (LoadComesTo.shut why is was) =
       (by_shut why status _ _ (d.bytes disk) no_disk is was.not_run.why).taken heap w P gives stands
@@ -102,6 +106,7 @@ module _ {D M : Type 0} (d : DiskGhosts D) (m : MediaGhosts M) (rounds : ℕ) (d
   never_usage status (LoadComesTo.done is whole) usage = omega (arith, is, usage)
   never_usage status (LoadComesTo.unwritten is rose whole) usage = omega (arith, is, usage)
   never_usage status (LoadComesTo.failed is broken starved had none) usage = omega (arith, is, usage)
+  never_usage status (LoadComesTo.unread is sound rose had none) usage = omega (arith, is, usage)
   never_usage status (LoadComesTo.starved is sound had wrote) usage = omega (arith, is, usage)
   never_usage status (LoadComesTo.shut errors.NotFormatted is was) usage = omega (arith, is, usage)
   never_usage status (LoadComesTo.shut (errors.Damaged place why) is was) usage = omega (arith, is, usage)
@@ -123,7 +128,7 @@ pub answers_loaded : {D M : Type 0} (d : DiskGhosts D) (m : MediaGhosts M) (roun
     → AnswersLoad rounds d m status disk ran.disk files ran.media ran.journal sink sink'
 answers_loaded d m rounds disk files ran status sink sink' on tells =
     load_answers d m rounds disk ran.disk files ran.media ran.journal sink sink' status
-    (load_comes d m rounds disk ran.disk files ran.media ran.journal sink sink' on.starved ran.end status on.on_heap tells)
+    (load_comes d m rounds disk ran.disk files ran.media ran.journal sink sink' on.starved ran.end status on.on_heap on.cause tells)
 
 -- a load that was not run, and why
 pub answers_unloaded : {D M : Type 0} (d : DiskGhosts D) (m : MediaGhosts M) (rounds : ℕ) (disk disk' : D) (files files' : M) (journal : List Entry)

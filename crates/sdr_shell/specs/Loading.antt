@@ -30,6 +30,7 @@ TellsLoad rounds (ends.Summed summary) status sink sink' =
     ⊎ ((status ≡ OUTPUT_FAULT) × Rose sink.faults sink'.faults × AppendsPart sink.bytes sink'.bytes (summary_text rounds summary))
 TellsLoad rounds ends.Starved status sink sink' = (status ≡ NO_MEMORY) × Wrote sink sink' (codes "no memory\n")
 TellsLoad rounds ends.Failed status sink sink' = (status ≡ DISK_FAULT) × (sink' ≡ sink)
+TellsLoad rounds ends.Unread status sink sink' = (status ≡ DISK_FAULT) × (sink' ≡ sink)
 
 -- A load of so many rounds was run on the heap of the disk with these media, and memory was wanting in it or not. P tells of the state that it
 -- began with.
@@ -66,6 +67,10 @@ pub data LoadComesTo {D M : Type 0} (d : DiskGhosts D) (m : MediaGhosts M) (roun
       → LoadComesTo d m rounds status disk disk' files files' journal sink sink'
   -- the disk failed in an entry, and nothing was written
   failed : status ≡ DISK_FAULT → is_sound journal ≡ false → (starved : Bool) → HadLoad d m rounds disk disk' files files' journal starved (λ first. ⊤)
+      → sink' ≡ sink → LoadComesTo d m rounds status disk disk' files files' journal sink sink'
+  -- memory sufficed, the disk failed in no entry but as the list was read, and nothing was written
+  unread : status ≡ DISK_FAULT → is_sound journal ≡ true → Rose (d.faults disk) (d.faults disk')
+      → HadLoad d m rounds disk disk' files files' journal false (λ first. ⊤)
       → sink' ≡ sink → LoadComesTo d m rounds status disk disk' files files' journal sink sink'
   -- memory was wanting in the run, the disk failed in no entry, and the last line tells so
   starved : status ≡ NO_MEMORY → is_sound journal ≡ true → HadLoad d m rounds disk disk' files files' journal true (λ first. ⊤)

@@ -31,7 +31,7 @@ fn tell_load<K: Sink>(rounds: u64, end: LoadEnd, output: &mut K) -> u8
             last_line(output, b"no memory\n");
             NO_MEMORY
         }
-        LoadEnd::Failed => DISK_FAULT,
+        LoadEnd::Failed | LoadEnd::Unread => DISK_FAULT,
     }
 }
 

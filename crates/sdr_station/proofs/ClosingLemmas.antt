@@ -13,7 +13,6 @@ use Rattle.sdr_disk.specs.Moments.{AtEach}
 use Rattle.sdr_disk.specs.Tells.{IfTells}
 use Rattle.sdr_heap.proofs.FewLemmas.{block_in-few}
 use Rattle.sdr_heap.specs.Noted.{Held, marked_in}
-use Rattle.sdr_image.specs.Changed.{GivesEither}
 use Rattle.sdr_image.specs.Opened.{Opened, Rests, transaction_of}
 use Rattle.sdr_machine.specs.Crash.{LeavesBefore, LeavesEither, LeavesOr}
 use Rattle.sdr_machine.specs.Demand.{most_lines}
@@ -22,6 +21,7 @@ use Rattle.sdr_machine.specs.Serving.{Brings, Commits, KeepsGround, MeetsFault, 
 use Rattle.sdr_machine.specs.Standing.{GroundState}
 use Rattle.sdr_log.specs.Frame.{room_of}
 use Rattle.sdr_log.specs.Logged.{GivesHeap}
+use Rattle.sdr_log.specs.Spilled.{GivesEither}
 use Rattle.sdr_station.specs.Closing as closing
 use Rattle.sdr_station.specs.Grounded.{Grounded, IsGround, OpensAs, StandsAtRest, StandsForBoth, StandsInMemory, StandsWithin, heap_in}
 use Rattle.sdr_station.proofs.GroundLemmas.{ground_brought, heap_ground, keeps_later, unmarked}
@@ -105,6 +105,7 @@ memory_kept old disk now going = record {
           stood = stood_of within;
           now = λ _. within;
           idle = λ _. refl;
+          untouched = λ _. refl;
           moves = at.moves;
         };
         tells = (refl, refl);
@@ -131,6 +132,7 @@ memory_back old disk now = record {
           stood = stood_of within;
           now = λ _. within;
           idle = λ _. refl;
+          untouched = λ _. refl;
           moves = at.moves;
         };
         tells = (refl, refl);

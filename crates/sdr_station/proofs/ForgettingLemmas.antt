@@ -3,6 +3,7 @@ use Rattle.std.proofs.Common.{◌≡◌, ℕ, Bool, List, [], refl, sym, ap, sub
 use Rattle.sdr_base.specs.declared.media.Media.{Ghosts as MediaGhosts}
 use Rattle.sdr_heap.specs.Noted.{Held}
 use Rattle.sdr_image.specs.Opened.{IsQuiet, Opened}
+use Rattle.sdr_image.specs.QuietLaws.{quiet_same}
 use Rattle.sdr_machine.proofs.GroundLemmas.{leaves_same}
 use Rattle.sdr_machine.specs.Crash.{LeavesBefore}
 use Rattle.sdr_machine.specs.Ground.{State}
@@ -41,6 +42,7 @@ stands_unmoved g spare v at = record {
   stood = at.stood;
   now = λ going. within_unmoved g.heap spare g.shown v.now (at.now going);
   idle = at.idle;
+  untouched = at.untouched;
   moves = refl;
 }
 
@@ -59,10 +61,11 @@ module _ {D M : Type 0} (old new : Stationed D M) (is : IsUnmade old new) where
   left = record old { ground = without_moves old.ground new.ground.heap.spare }
 
   -- no call of the disk is made
-  pub unmade_quiet : IsQuiet old.ground.heap.cells new.ground.heap.cells
-  unmade_quiet =
-      subst (λ (s : Stationed D M). IsQuiet old.ground.heap.cells s.ground.heap.cells) (sym is)
-      (record { disk = refl; frame = refl; begun = refl; failed = refl; restored = refl; still_open = λ yes. yes })
+  pub unmade_quiet : (bytes : D → List ℕ) (tells : D → Bool) (moment : D → ℕ) (may_hold_after : D → ℕ → List ℕ → Type 0)
+      → IsQuiet bytes tells moment may_hold_after old.ground.heap.cells new.ground.heap.cells
+  unmade_quiet bytes tells moment may_hold_after =
+      subst (λ (s : Stationed D M). IsQuiet bytes tells moment may_hold_after old.ground.heap.cells s.ground.heap.cells) (sym is)
+      (quiet_same bytes tells moment may_hold_after old.ground.heap.cells)
 
   -- no line is touched
   pub unmade_lines : new.ground.heap.cells.touched ≡ old.ground.heap.cells.touched

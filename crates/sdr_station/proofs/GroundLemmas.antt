@@ -93,6 +93,6 @@ keeps_later {M = M} bytes tells moment faults may_hold_after media old new unrea
 
 -- where it was put back, no transaction is open on it
 pub restored_idle : {D M T E : Type 0} (r : Result T E) (old new : Grounded D M) → HasDiskSound old → OnOk r (HasDiskSound old → new.stopped ≡ false)
-    → OnOk r (HasDiskSound old → new.idle ≡ true) → new.heap.cells.failed ≡ old.heap.cells.failed → OnOk r (HasNoCalls new)
+    → OnOk r (HasDiskSound old → new.idle ≡ true) → OnOk r (new.heap.cells.failed ≡ old.heap.cells.failed) → OnOk r (HasNoCalls new)
 restored_idle (Ok x) old new sound going idle still = record { going = record { sound = still ∙ sound; going = going sound }; idle = idle sound }
 restored_idle (Err e) old new sound going idle still = tt

@@ -12,7 +12,7 @@ use Rattle.sdr_station.specs.Grounded.{Grounded, StaysInside}
 -- a call that was stopped leaves the regions
 pub stays_frame : {D : Type 0} (stop : Stop) (old new : Opened D) → StaysAt {T = Unit {0}} (Err stop) old new → new.frame ≡ old.frame
 stays_frame {D} (stops.Refused refusal) old new same = ap (λ (i : Opened D). i.frame) same
-stays_frame {D} stops.DiskFault old new same = ap (λ (i : Opened D). i.frame) same
+stays_frame {D} stops.DiskFault old new fails = fails.frame
 stays_frame {D} stops.MediaFault old new same = ap (λ (i : Opened D). i.frame) same
 stays_frame {D} stops.Failed old new same = ap (λ (i : Opened D). i.frame) same
 
@@ -36,9 +36,10 @@ module _ {D M : Type 0} (bytes : D → List ℕ) (tells : D → Bool) where
       (subst (λ (d : D). KeepsOutside old.heap.cells.frame (bytes old.heap.cells.disk) (bytes d)) (sym disk)
       (Agrees-refl (regions_of old.heap.cells.frame ∷ []) (bytes old.heap.cells.disk)))
 
-  -- where the disk is quiet
-  pub inside_quiet : (old new : Grounded D M) → IsQuiet old.heap.cells new.heap.cells → StaysInside bytes tells old new
-  inside_quiet old new q = inside_same old new new.heap refl q.frame q.disk
+  -- in a call within a transaction
+  pub inside_quiet : (moment : D → ℕ) (may_hold_after : D → ℕ → List ℕ → Type 0) (old new : Grounded D M)
+      → IsQuiet bytes tells moment may_hold_after old.heap.cells new.heap.cells → StaysInside bytes tells old new
+  inside_quiet moment may_hold_after old new q = record { frame = q.frame; tells = q.disk.tells; outside = q.inside }
 
   -- over no call
   pub inside_refl : (old new : Grounded D M) → new ≡ old → StaysInside bytes tells old new

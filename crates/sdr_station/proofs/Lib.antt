@@ -8,6 +8,7 @@ pub mod MediaLemmas
 pub mod OpeningLemmas
 pub mod RestLemmas
 pub mod RoomLemmas
+pub mod SayingLemmas
 pub mod ServingLemmas
 pub mod StationLemmas
 pub mod StoodLemmas

@@ -1,5 +1,5 @@
 -- What a station does with its ground.
-use Rattle.std.proofs.Common.{◌≡◌, ◌≢◌, ◌∙◌, ◌&&◌, nat_le, is_none, Bool, true, false, true≢false, not, if◌then◌else◌, Option, None, Some, refl, sym, ap, subst, arith}
+use Rattle.std.proofs.Common.{◌≡◌, ◌≢◌, ◌∙◌, ◌&&◌, nat_le, is_none, Bool, true, false, true≢false, not, if◌then◌else◌, Option, None, Some, refl, sym, ap, subst}
 use Rattle.std.specs.Option.{option_map_or}
 use Rattle.sdr_machine.specs.Closing.{close_of}
 use Rattle.sdr_machine.specs.Crash.{LeavesBefore, LeavesOr, is_kept, commits_in}
@@ -19,7 +19,6 @@ use Rattle.sdr_model.specs.declared.answer.Reply.TheVariants as replies
 use Rattle.sdr_model.specs.declared.call.Call.{Call}
 use Rattle.sdr_model.specs.declared.event.Event.TheVariants as events
 use Rattle.sdr_station.specs.Grounded.{Grounded}
-use Rattle.sdr_station.specs.Stationed.{AsksDisk}
 use Rattle.step_things.specs.Answering.{dooms}
 
 -- no close but an end is kept
@@ -40,11 +39,6 @@ settles_back closes.Faulted unkept brings = brings
 pub leaves_unkept : {T : Type 0} (g : Ghosts T) (close : Close) (old new : T) → is_kept close ≡ false → LeavesBefore g old new
     → LeavesOr (is_kept close) g old new
 leaves_unkept g close old new unkept leaves = subst (λ b. LeavesOr b g old new) (sym unkept) leaves
-
--- nor is anything asked of the disk
-pub asks_nothing : {D M : Type 0} (g : Ghosts (Grounded D M)) (close : Close) (old new : Grounded D M) → new.heap.cells.disk ≡ old.heap.cells.disk
-    → g.moment new ≡ g.moment old → AsksDisk g (is_kept close) old new
-asks_nothing g close old new same time = record { unkept = λ _. same; still = λ _. same; calls = omega (arith, time) }
 
 -- an outermost end keeps what was done, unless the transaction is doomed
 pub keeps_outermost : (n : Nesting) → nat_le n.depth 1 ≡ true → is_kept (closing n events.End) ≡ commits_in n events.End

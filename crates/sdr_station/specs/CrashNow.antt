@@ -1,6 +1,6 @@
 -- What a crash now leaves of a heap on an image.
 use Rattle.std.proofs.Common.{ℕ, Bool, List, subst}
-use Rattle.sdr_image.proofs.OpenedLemmas.{rests_leaves}
+use Rattle.sdr_image.specs.QuietLaws.{rests_leaves}
 use Rattle.sdr_machine.specs.Standing.{GroundState}
 use Rattle.sdr_log.specs.Frame.{room_of}
 use Rattle.sdr_station.specs.Grounded.{Grounded, Leaves, OpensAs, StandsForBoth}

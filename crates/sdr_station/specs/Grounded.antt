@@ -90,7 +90,7 @@ pub record HasStood (size : ℕ) (w : World) : Type 0 where
 -- The heap in memory, whose disk hasn't failed, stands for the states before the transaction and now: the bytes at begin stand
 -- for the one, and for the other the heap does, unless a call was stopped on its way. The moves are the heap's, and the bytes
 -- that are shown are those that stand here. A heap of this size has stood for the world now. Where no call was made in the
--- transaction, both states are the same.
+-- transaction, both states are the same; and where nothing was asked in it, no line is touched.
 pub record StandsInMemory {D M : Type 0} (g : Grounded D M) (v : GroundState) : Type 0 where
   pub sound : g.heap.cells.failed ≡ false
   pub size : length g.heap.cells.begun ≡ g.heap.size
@@ -100,6 +100,7 @@ pub record StandsInMemory {D M : Type 0} (g : Grounded D M) (v : GroundState) : 
   pub stood : HasStood g.heap.size v.now.world
   pub now : g.stopped ≡ false → StandsWithin g.heap g.shown v.now
   pub idle : g.idle ≡ true → v.now ≡ v.before
+  pub untouched : v.now.demand ≡ no_demand → g.heap.cells.touched ≡ []
   pub moves : v.moves ≡ g.heap.moves
 
 -- A heap on an image stands for the states before the transaction and now: it does so in memory, and the disk rests, where it tells

@@ -1,5 +1,5 @@
 // A heap on an image as the ground of a lock.
-ghost use Rattle.std.specs.Prelude.{◌≡◌, ◌≤◌, ◌+◌, ◌*◌, [], false, true, length};
+ghost use Rattle.std.specs.Prelude.{◌≡◌, ◌≢◌, ◌≤◌, ◌<◌, ◌+◌, ◌*◌, [], false, true, length};
 ghost use Rattle.std.specs.Prelude.{IfErr, IfOk, IsErrOf, OnErr, OnOk};
 ghost use Rattle.sdr_disk.specs.Moments.{AtEach, Reads};
 ghost use Rattle.sdr_disk.specs.Tells.{IfTells};
@@ -14,7 +14,7 @@ ghost use Rattle.sdr_machine.specs.Standing.{GroundState};
 ghost use Rattle.sdr_log.specs.Calls.{KeepsDisk, KeepsRest};
 ghost use Rattle.sdr_log.specs.Log.{first_gate};
 ghost use Rattle.sdr_log.specs.Logged.{GivesSame};
-ghost use Rattle.sdr_model.specs.Reading.{is_reading};
+ghost use Rattle.sdr_model.specs.Reading.{is_reading, reads_media};
 ghost use Rattle.step_things.specs.Answering.{dooms};
 ghost use Rattle.sdr_station.specs.Grounded.{IsGoing, HasNoCalls, HasDiskSound, StandsInMemory, StaysInside, without_moves};
 ghost use Rattle.sdr_station.specs.Giving.{AsksMedia, GivesReply, reads_by};
@@ -221,23 +221,31 @@ impl<D: Disk, M: Media, F: Notify + Drop> HeapGround<D, M, F> {
 
     /// Makes a call, in a transaction in which none was stopped. Where a changing call is refused, the
     /// transaction can only be put back; one that media fail, or that gets too few bytes of them, changes nothing.
-    /// It makes no call of the disk, and a reading call touches no line.
+    /// A reading call touches no line. Where the disk fails, nothing stands any more.
     /// Media are asked at most once for each extent that lies with them and of which the call needs bytes.
-    pub fn serve(&mut self, call: &Call) -> Reply
+    pub fn serve(&mut self, call: &Call) -> Result<Reply, Fault>
         requires going { self.old.stopped ≡ false }
-        ensures memory { Brings StandsInMemory self.old self.new
-            (Calls (M.told self.old.media) call.now result) }
-        ensures answered { Brings ⟦<HeapGround<D, M, F> as HasGround>⟧.stands self.old self.new
-            (Calls (M.told self.old.media) call.now result) }
-        ensures stopped { self.new.stopped ≡ dooms call.now result }
-        ensures gives { GivesReply result self.new }
-        ensures sound { self.new.heap.cells.failed ≡ false }
-        ensures restored { self.new.restored ≡ self.old.restored }
-        ensures gap { HasLapseCause (Answer.Reply result)
+        ensures memory { IfOk result (λ reply.
+            Brings StandsInMemory self.old self.new (Calls (M.told self.old.media) call.now reply)) }
+        ensures answered { IfOk result (λ reply.
+            Brings ⟦<HeapGround<D, M, F> as HasGround>⟧.stands self.old self.new
+            (Calls (M.told self.old.media) call.now reply)) }
+        ensures stopped { IfOk result (λ reply. self.new.stopped ≡ dooms call.now reply) }
+        ensures gives { IfOk result (λ reply. GivesReply reply self.new) }
+        ensures other { IfOk result (λ reply. reply ≢ Reply.DiskFault) }
+        ensures sound { OnOk result (self.new.heap.cells.failed ≡ false) }
+        ensures gap { IfOk result (λ reply. HasLapseCause (Answer.Reply reply)
             (⟦<HeapGround<D, M, F> as HasGround>⟧.lapses self.old)
-            (⟦<HeapGround<D, M, F> as HasGround>⟧.lapses self.new) }
-        ensures unread { reads_by call.now result ≡ false → self.new.media ≡ self.old.media }
-        ensures quiet { IsQuiet self.old.heap.cells self.new.heap.cells }
+            (⟦<HeapGround<D, M, F> as HasGround>⟧.lapses self.new)) }
+        ensures unread { IfOk result (λ reply.
+            reads_by call.now reply ≡ false → self.new.media ≡ self.old.media) }
+        ensures fault { OnErr result
+            (MeetsFault ⟦<HeapGround<D, M, F> as HasGround>⟧ self.old self.new) }
+        ensures unasked { OnErr result
+            (reads_media call.now ≡ false → self.new.media ≡ self.old.media) }
+        ensures restored { self.new.restored ≡ self.old.restored }
+        ensures quiet { IsQuiet D.bytes D.tells_crashes D.moment D.may_hold_after
+            self.old.heap.cells self.new.heap.cells }
         ensures lines { is_reading call.now ≡ true
             → self.new.heap.cells.touched ≡ self.old.heap.cells.touched }
         ensures asks { AsksMedia M.Media call.now self.old self.new }
@@ -255,14 +263,25 @@ impl<D: Disk, M: Media, F: Notify + Drop> HeapGround<D, M, F> {
             &self.notice,
             &mut self.shown,
         ) {
-            Ok(reply) => reply,
+            Ok(reply) => {
+                self.moment = moment_of(&mut self.heap);
+                Ok(reply)
+            }
             Err(Stop::Refused(refusal)) => {
                 forget_moves(&mut self.heap, &refusal);
+                self.moment = moment_of(&mut self.heap);
                 self.stopped = !call.is_reading();
-                Reply::Refused(refusal)
+                Ok(Reply::Refused(refusal))
             }
-            Err(Stop::MediaFault) => Reply::MediaFault,
-            Err(Stop::DiskFault) => unreachable!(),
+            Err(Stop::MediaFault) => {
+                self.moment = moment_of(&mut self.heap);
+                Ok(Reply::MediaFault)
+            }
+            Err(Stop::DiskFault) => {
+                self.moment = moment_of(&mut self.heap);
+                self.stopped = true;
+                Err(Fault)
+            }
             Err(Stop::Failed) => unreachable!(),
         }
     }
@@ -307,25 +326,34 @@ impl<D: Disk, M: Media, F: Notify + Drop> HeapGround<D, M, F> {
         }
     }
 
-    /// Puts back what was before the open transaction. It makes no call of the disk, and doesn't fail.
+    /// Puts back what was before the open transaction. Where it touched no line, or no batch is open on the disk, it makes
+    /// no call of it, else at most a write for each line and seven writes and syncs more. Where the disk had failed, it
+    /// changes nothing.
     pub fn restore(&mut self) -> Result<(), Fault>
         ensures memory { OnOk result (Brings StandsInMemory self.old self.new RollsBack) }
         ensures put_back { OnOk result
             (Brings ⟦<HeapGround<D, M, F> as HasGround>⟧.stands self.old self.new RollsBack) }
-        ensures disk { self.new.heap.cells.disk ≡ self.old.heap.cells.disk }
-        ensures begun { self.new.heap.cells.begun ≡ self.old.heap.cells.begun }
-        ensures moment { self.new.moment ≡ self.old.moment }
-        ensures seen { self.old.moment ≡ D.moment self.old.heap.cells.disk }
         ensures going { OnOk result
             (self.old.heap.cells.failed ≡ false → self.new.stopped ≡ false) }
         ensures idle { OnOk result
             (self.old.heap.cells.failed ≡ false → self.new.idle ≡ true) }
-        ensures sound { self.new.heap.cells.failed ≡ self.old.heap.cells.failed }
+        ensures sound { OnOk result (self.new.heap.cells.failed ≡ self.old.heap.cells.failed) }
         ensures restored { self.new.restored ≡ self.old.restored }
         ensures media { self.new.media ≡ self.old.media }
-        ensures never { OnErr result ⊥ }
         ensures fault { OnErr result
             (MeetsFault ⟦<HeapGround<D, M, F> as HasGround>⟧ self.old self.new) }
+        ensures untouched { OnOk result
+            (self.old.heap.cells.failed ≡ false → self.new.heap.cells.touched ≡ []) }
+        ensures begun { OnOk result (self.new.heap.cells.begun ≡ self.old.heap.cells.begun) }
+        ensures seen { self.old.moment ≡ D.moment self.old.heap.cells.disk }
+        ensures some { OnErr result (0 < length self.old.heap.cells.touched) }
+        ensures holds { OnOk result (Holds D.bytes self.new.heap.cells) }
+        ensures closed { first_gate (D.bytes self.old.heap.cells.disk) ≡ 0
+            → self.new.heap.cells.disk ≡ self.old.heap.cells.disk }
+        ensures still { self.old.heap.cells.touched ≡ []
+            → self.new.heap.cells.disk ≡ self.old.heap.cells.disk }
+        ensures calls { self.new.moment
+            ≤ self.old.moment + 2 * calls_of (length self.old.heap.cells.touched) }
         ensures time { self.old.moment ≤ self.new.moment }
         ensures keeps { KeepsGround ⟦<HeapGround<D, M, F> as HasGround>⟧ false self.old self.new }
         ensures inside { StaysInside D.bytes D.tells_crashes self.old self.new }
@@ -339,8 +367,13 @@ impl<D: Disk, M: Media, F: Notify + Drop> HeapGround<D, M, F> {
                 self.idle = true;
                 Ok(())
             }
+            Err(Stop::DiskFault) => {
+                self.moment = moment_of(&mut self.heap);
+                self.stopped = true;
+                self.idle = false;
+                Err(Fault)
+            }
             Err(Stop::Failed) => Ok(()),
-            Err(Stop::DiskFault) => unreachable!(),
             Err(Stop::MediaFault) => unreachable!(),
             Err(Stop::Refused(_)) => unreachable!(),
         }
@@ -353,22 +386,39 @@ impl<D: Disk, M: Media, F: Notify + Drop> HeapGround<D, M, F> {
         self.heap.clear_moves();
     }
 
-    /// Whether the ticket is there, and granted, where no transaction is open.
-    pub fn look(&mut self, ticket: u64) -> Option<bool>
+    /// Whether the ticket is there, and granted, where no transaction is open. The disk is only read.
+    pub fn look(&mut self, ticket: u64) -> Result<Option<bool>, Fault>
         requires idle { self.old.idle ≡ true }
-        ensures memory { Brings StandsInMemory self.old self.new (Shows ticket result) }
-        ensures shown { Brings ⟦<HeapGround<D, M, F> as HasGround>⟧.stands self.old self.new
-            (Shows ticket result) }
-        ensures same { self.new ≡ record self.old { heap = self.new.heap } }
-        ensures quiet { IsQuiet self.old.heap.cells self.new.heap.cells }
+        ensures memory { IfOk result (λ granted.
+            Brings StandsInMemory self.old self.new (Shows ticket granted)) }
+        ensures shown { IfOk result (λ granted.
+            Brings ⟦<HeapGround<D, M, F> as HasGround>⟧.stands self.old self.new
+            (Shows ticket granted)) }
+        ensures same { OnOk result (self.new ≡ record self.old { heap = self.new.heap }) }
+        ensures sound { OnOk result (self.new.heap.cells.failed ≡ false) }
+        ensures fault { OnErr result
+            (MeetsFault ⟦<HeapGround<D, M, F> as HasGround>⟧ self.old self.new) }
+        ensures failed { OnErr result (self.new ≡ record self.old {
+          heap = self.new.heap;
+          stopped = true;
+          idle = false;
+        }) }
+        ensures quiet { IsQuiet D.bytes D.tells_crashes D.moment D.may_hold_after
+            self.old.heap.cells self.new.heap.cells }
+        ensures reads { Reads D.bytes D.tells_crashes D.moment D.may_hold_after
+            self.old.heap.cells.disk self.new.heap.cells.disk }
         ensures time { self.old.moment ≤ self.new.moment }
         ensures keeps { KeepsGround ⟦<HeapGround<D, M, F> as HasGround>⟧ false self.old self.new }
         ensures inside { StaysInside D.bytes D.tells_crashes self.old self.new }
         ensures any_moment { LeavesBefore ⟦<HeapGround<D, M, F> as HasGround>⟧ self.old self.new }
     {
         match look(&mut self.heap, ticket) {
-            Ok(granted) => granted,
-            Err(_) => unreachable!(),
+            Ok(granted) => Ok(granted),
+            Err(_) => {
+                self.stopped = true;
+                self.idle = false;
+                Err(Fault)
+            }
         }
     }
 
@@ -447,7 +497,8 @@ impl<D: Disk, M: Media, F: Notify + Drop> Backing for HeapGround<D, M, F> {
         ensures dooms { IfOk result (λ reply. self.new.stopped ≡ dooms call.now reply) }
         ensures unread { IfOk result (λ reply.
             reads_by call.now reply ≡ false → self.new.media ≡ self.old.media) }
-        ensures quiet { IsQuiet self.old.heap.cells self.new.heap.cells }
+        ensures quiet { IsQuiet D.bytes D.tells_crashes D.moment D.may_hold_after
+            self.old.heap.cells self.new.heap.cells }
         ensures lines { is_reading call.now ≡ true
             → self.new.heap.cells.touched ≡ self.old.heap.cells.touched }
         ensures asks { AsksMedia M.Media call.now self.old self.new }
@@ -460,7 +511,10 @@ impl<D: Disk, M: Media, F: Notify + Drop> Backing for HeapGround<D, M, F> {
         ensures inside { StaysInside D.bytes D.tells_crashes self.old self.new }
         ensures any_moment { LeavesBefore ⟦<HeapGround<D, M, F> as HasGround>⟧ self.old self.new }
     {
-        Ok(self.serve(call))
+        let Ok(reply) = self.serve(call) else {
+            return Err(Halt::Fault);
+        };
+        Ok(reply)
     }
 
     // It never wants memory.
@@ -495,6 +549,6 @@ impl<D: Disk, M: Media, F: Notify + Drop> Backing for HeapGround<D, M, F> {
     }
 
     fn look(&mut self, ticket: u64) -> Result<Option<bool>, Fault> {
-        Ok(HeapGround::look(self, ticket))
+        HeapGround::look(self, ticket)
     }
 }

@@ -128,16 +128,23 @@ impl<D: Disk, M: Media, F: Notify + Drop> Station<D, M, F> {
         }
     }
 
-    /// Whether a ticket is granted, outside a transaction. No line is touched.
+    /// Whether a ticket is granted, outside a transaction. The disk is only read. Where it fails, the look answers `DiskFault`.
     pub fn look(&mut self, ticket: u64) -> Result<bool, Stop>
         requires outside { self.old.nesting.depth ≡ 0 }
-        ensures looks { LooksAt ticket self.old result }
-        ensures still { StaysLooked self.old self.new }
+        ensures looks { LooksAt ⟦<HeapGround<D, M, F> as HasGround>⟧ ticket self.old self.new
+            result }
+        ensures still { StaysLooked D.Disk self.old self.new }
     {
         if self.failed.is_some() {
             return Err(Stop::Failed);
         }
-        Self::ticket_told(ticket, self.ground.look(ticket))
+        match self.ground.look(ticket) {
+            Ok(shown) => Self::ticket_told(ticket, shown),
+            Err(Fault) => {
+                self.failed = Some(self.ground.moment());
+                Err(Stop::DiskFault)
+            }
+        }
     }
 
     // What is told of a ticket that is shown so.
@@ -204,7 +211,8 @@ impl<D: Disk, M: Media, F: Notify + Drop> Station<D, M, F> {
     /// In a doomed transaction it is refused `Doomed`, and after a disk fault it answers `Failed`, both without moves. Else it is refused as its
     /// row has it, or for want of a block (`NoBlock`) or of log room (`LogFull`), which dooms where it is a change. A fault of
     /// media, or too few bytes of them (`SourceShort`), dooms nothing. Media are asked at most once for each extent that
-    /// lies with them and of which the call needs bytes. It makes no call of the disk, and a reading call touches no line.
+    /// lies with them and of which the call needs bytes. A reading call touches no line. Where the disk fails, it answers
+    /// `DiskFault`, and the transaction is as deep as before.
     pub fn call(&mut self, call: &Call, into: &mut [u8; PAGE]) -> Reply
         requires begun { 0 < self.old.nesting.depth }
         ensures says { SaysOr ⟦<HeapGround<D, M, F> as HasGround>⟧ call.now result
@@ -212,7 +220,8 @@ impl<D: Disk, M: Media, F: Notify + Drop> Station<D, M, F> {
         ensures asks { AsksMedia M.Media call.now self.old.ground self.new.ground }
         ensures depth { self.new.nesting.depth ≡ self.old.nesting.depth }
         ensures fills { Fills self.new.ground result into.old into.new }
-        ensures quiet { IsQuiet self.old.ground.heap.cells self.new.ground.heap.cells }
+        ensures quiet { IsQuiet D.bytes D.tells_crashes D.moment D.may_hold_after
+            self.old.ground.heap.cells self.new.ground.heap.cells }
         ensures lines { is_reading call.now ≡ true
             → self.new.ground.heap.cells.touched ≡ self.old.ground.heap.cells.touched }
         ensures any_moment { LeavesBefore ⟦<HeapGround<D, M, F> as HasGround>⟧
@@ -249,7 +258,8 @@ impl<D: Disk, M: Media, F: Notify + Drop> Station<D, M, F> {
         ensures asks { AsksMedia M.Media call.now self.old.ground self.new.ground }
         ensures depth { self.new.nesting.depth ≡ self.old.nesting.depth }
         ensures gives { GivesReply result self.new.ground }
-        ensures quiet { IsQuiet self.old.ground.heap.cells self.new.ground.heap.cells }
+        ensures quiet { IsQuiet D.bytes D.tells_crashes D.moment D.may_hold_after
+            self.old.ground.heap.cells self.new.ground.heap.cells }
         ensures lines { is_reading call.now ≡ true
             → self.new.ground.heap.cells.touched ≡ self.old.ground.heap.cells.touched }
         ensures any_moment { LeavesBefore ⟦<HeapGround<D, M, F> as HasGround>⟧
@@ -263,9 +273,16 @@ impl<D: Disk, M: Media, F: Notify + Drop> Station<D, M, F> {
             self.leave_unmade();
             return Reply::Refused(Refusal::Doomed { by });
         }
-        let reply = self.ground.serve(call);
-        self.nesting.note(call, reply);
-        reply
+        match self.ground.serve(call) {
+            Ok(reply) => {
+                self.nesting.note(call, reply);
+                reply
+            }
+            Err(Fault) => {
+                self.failed = Some(self.ground.moment());
+                Reply::DiskFault
+            }
+        }
     }
 
     /// The moves of the last call. One that is refused `Doomed` or answered `Failed` has none.
@@ -293,7 +310,8 @@ impl<D: Disk, M: Media, F: Notify + Drop> Station<D, M, F> {
     fn keep(&mut self) -> Result<Closed, Stop>
         requires sound { self.old.failed ≡ None }
         requires undoomed { self.old.nesting.doom ≡ None }
-        ensures { Closes ⟦<HeapGround<D, M, F> as HasGround>⟧ Close.Ended self.old self.new result }
+        ensures { Closes D.bytes ⟦<HeapGround<D, M, F> as HasGround>⟧ Close.Ended self.old self.new
+            result }
     {
         match self.ground.save() {
             Ok(()) => {
@@ -312,7 +330,7 @@ impl<D: Disk, M: Media, F: Notify + Drop> Station<D, M, F> {
     fn roll_back(&mut self, close: Close) -> Result<Closed, Stop>
         requires sound { self.old.failed ≡ None }
         requires unkept { is_kept close ≡ false }
-        ensures { Closes ⟦<HeapGround<D, M, F> as HasGround>⟧ close self.old self.new result }
+        ensures { Closes D.bytes ⟦<HeapGround<D, M, F> as HasGround>⟧ close self.old self.new result }
     {
         match self.ground.restore() {
             Ok(()) => {
@@ -330,7 +348,7 @@ impl<D: Disk, M: Media, F: Notify + Drop> Station<D, M, F> {
     // Closes the transaction.
     fn close(&mut self, event: &Event) -> Result<Closed, Stop>
         requires sound { self.old.failed ≡ None }
-        ensures { Closes ⟦<HeapGround<D, M, F> as HasGround>⟧ (closing self.old.nesting event.now)
+        ensures { Closes D.bytes ⟦<HeapGround<D, M, F> as HasGround>⟧ (closing self.old.nesting event.now)
             self.old self.new result }
     {
         match self.nesting.closing(event) {
@@ -353,7 +371,7 @@ impl<D: Disk, M: Media, F: Notify + Drop> Station<D, M, F> {
     /// doomed.
     pub fn end(&mut self) -> Result<Closed, Stop>
         requires begun { 0 < self.old.nesting.depth }
-        ensures closes { ClosesBy ⟦<HeapGround<D, M, F> as HasGround>⟧ Event.End ended
+        ensures closes { ClosesBy D.bytes ⟦<HeapGround<D, M, F> as HasGround>⟧ Event.End ended
             self.old self.new result }
         ensures any_moment { LeavesOr (commits_in self.old.nesting Event.End)
             ⟦<HeapGround<D, M, F> as HasGround>⟧ self.old.ground self.new.ground }
@@ -370,7 +388,7 @@ impl<D: Disk, M: Media, F: Notify + Drop> Station<D, M, F> {
     /// Cancels the transaction. An inner cancel dooms it.
     pub fn cancel(&mut self) -> Result<Closed, Stop>
         requires begun { 0 < self.old.nesting.depth }
-        ensures closes { ClosesBy ⟦<HeapGround<D, M, F> as HasGround>⟧ Event.Cancel cancelled
+        ensures closes { ClosesBy D.bytes ⟦<HeapGround<D, M, F> as HasGround>⟧ Event.Cancel cancelled
             self.old self.new result }
         ensures any_moment { LeavesBefore ⟦<HeapGround<D, M, F> as HasGround>⟧
             self.old.ground self.new.ground }
@@ -387,7 +405,7 @@ impl<D: Disk, M: Media, F: Notify + Drop> Station<D, M, F> {
     /// Ends the transaction, which was to change nothing.
     pub fn exit(&mut self) -> Result<Closed, Stop>
         requires begun { 0 < self.old.nesting.depth }
-        ensures closes { ClosesBy ⟦<HeapGround<D, M, F> as HasGround>⟧ Event.Exit ended
+        ensures closes { ClosesBy D.bytes ⟦<HeapGround<D, M, F> as HasGround>⟧ Event.Exit ended
             self.old self.new result }
         ensures any_moment { LeavesBefore ⟦<HeapGround<D, M, F> as HasGround>⟧
             self.old.ground self.new.ground }

@@ -3,7 +3,7 @@
 use crate::disks::{HEAP, answered, bytes_of, formatted};
 use sdr_base::{MemorySink, NoMedia};
 use sdr_disk::{MemoryDisk, Torn};
-use sdr_model::Entry;
+use sdr_model::{Close, Entry, What};
 use sdr_shell::{DISK_FAULT, DONE, RunOutcome};
 use std::alloc::Global;
 use std::ops::Range;
@@ -13,8 +13,28 @@ const SCRIPT: &[u8] = b"1: begin\n1: string \"hello\"\n1: end\n1: begin\n";
 
 const KEPT: &[u8] = b"1 1 lock 1\n2 1 at 2056\n3 1 ended\n4 1 lock 2\n";
 
-// The same where the disk fails in the end.
-const FAILED: &[u8] = b"1 1 lock 1\n2 1 at 2056\n3 1 disk fault\n4 1 failed\n";
+// The same where the disk fails as it is opened, in the string, and in the end.
+const FAILED: [&[u8]; 3] = [
+    b"disk fault\n",
+    b"1 1 lock 1\n2 1 disk fault\n3 1 failed\n4 1 failed\n",
+    b"1 1 lock 1\n2 1 at 2056\n3 1 disk fault\n4 1 failed\n",
+];
+
+// An object of 4,480 bytes whose bytes are written: 73 lines are touched, of which 64 are spilled.
+const LONG: &[u8] =
+    b"1: begin\n1: p = malloc 4480\n1: write p 0 f01*4096\n1: write p 4096 f01*384\n1: end\n";
+
+// The same, cancelled.
+const LONG_CANCELLED: &[u8] =
+    b"1: begin\n1: p = malloc 4480\n1: write p 0 f01*4096\n1: write p 4096 f01*384\n1: cancel\n";
+
+// Where the disk fails in each event of the transaction but its begin.
+const LONG_FAILED: [&[u8]; 4] = [
+    b"1 1 lock 1\n2 1 disk fault\n3 1 failed\n4 1 failed\n5 1 failed\n",
+    b"1 1 lock 1\n2 1 at 61032\n3 1 disk fault\n4 1 failed\n5 1 failed\n",
+    b"1 1 lock 1\n2 1 at 61032\n3 1 ok\n4 1 disk fault\n5 1 failed\n",
+    b"1 1 lock 1\n2 1 at 61032\n3 1 ok\n4 1 ok\n5 1 disk fault\n",
+];
 
 // Two transactions, of which the second waits for the first.
 const TWO: &[u8] = b"1: begin\n2: begin\n1: string \"hello\"\n1: end\n2: end\n";
@@ -30,43 +50,84 @@ fn replayed(
     answered(alloc, &["replay"], bytes, failing, script, output)
 }
 
-// The status of a script on a formatted disk whose call of this number fails, 0 for none, and whether this is printed.
-fn status_of(alloc: Global, call: u64, script: &[u8], text: &[u8]) -> Option<(u8, bool, u64)> {
-    let mut output = MemorySink::new(alloc, Vec::new(alloc));
-    let failing = vec![in alloc; call; 1].ok()?;
-    let outcome = replayed(alloc, formatted(alloc)?, failing, script, &mut output)?;
-    Some((outcome.status, output.taken() == text, outcome.disk.calls()))
+// What a script came to on a disk whose call fails: its status, whether the journal is empty or ends with a fault, and how many calls were made.
+struct Came {
+    status: u8,
+    faulted: bool,
+    calls: u64,
 }
 
-// The first call of a disk after these whose failure comes to something else than this text and a disk fault.
-fn wrong_fault(alloc: Global, begun: u64, end: u64, text: &[u8]) -> Option<Option<u64>> {
-    for call in begun..end {
-        let (status, printed, _) = status_of(alloc, call, SCRIPT, text)?;
-        if status != DISK_FAULT || !printed {
+// Whether there is no entry, or the disk failed in the last one.
+fn is_faulted(journal: &[Entry]) -> bool {
+    match journal.last() {
+        None => true,
+        Some(entry) => matches!(
+            &entry.what,
+            What::Work {
+                close: Close::Faulted,
+                ..
+            }
+        ),
+    }
+}
+
+// What a script comes to on a formatted disk whose call of this number fails, 0 for none.
+fn came(alloc: Global, call: u64, script: &[u8], output: &mut MemorySink) -> Option<Came> {
+    let failing = vec![in alloc; call; 1].ok()?;
+    let outcome = replayed(alloc, formatted(alloc)?, failing, script, output)?;
+    Some(Came {
+        status: outcome.status,
+        faulted: is_faulted(outcome.journal.as_slice()),
+        calls: outcome.disk.calls(),
+    })
+}
+
+// The first call, beginning with this one, whose failure comes to something else than a disk fault and one of these texts, each of which
+// may stand where those before it don't any more; and behind the last call the script is done.
+fn wrong_fault(alloc: Global, begun: u64, script: &[u8], texts: &[&[u8]]) -> Option<Option<u64>> {
+    let mut whole = MemorySink::new(alloc, Vec::new(alloc));
+    let all = came(alloc, 0, script, &mut whole)?;
+    let mut at = 0usize;
+    for call in begun..all.calls.checked_add(1)? {
+        let mut output = MemorySink::new(alloc, Vec::new(alloc));
+        let came = came(alloc, call, script, &mut output)?;
+        let place = texts
+            .iter()
+            .position(|text| output.taken() == *text)
+            .unwrap_or(0);
+        if came.status != DISK_FAULT
+            || !came.faulted
+            || place < at
+            || output.taken() != *texts.get(place)?
+        {
             return Some(Some(call));
         }
+        at = place;
     }
-    Some(None)
-}
-
-// The calls of an opening fail, then the ten of an end, of which the second is its first sync, and behind those none.
-fn faults(alloc: Global) -> Option<([Option<u64>; 2], (u8, bool))> {
-    let (_, _, opening) = status_of(alloc, 0, b"", b"")?;
-    let first = opening.checked_add(1)?;
-    let last = first.checked_add(10)?;
-    let (status, printed, _) = status_of(alloc, last, SCRIPT, KEPT)?;
-    Some((
-        [
-            wrong_fault(alloc, 1, first, b"disk fault\n")?,
-            wrong_fault(alloc, first, last, FAILED)?,
-        ],
-        (status, printed),
-    ))
+    if all.status == DONE && at + 1 == texts.len() {
+        Some(None)
+    } else {
+        Some(Some(0))
+    }
 }
 
 #[test]
 fn a_replay_tells_a_disk_that_fails_at_any_call(rt: HostRuntime) {
-    assert_eq!(rt; faults(rt.alloc()), Some(([None; 2], (DONE, true))));
+    assert_eq!(rt; wrong_fault(rt.alloc(), 1, SCRIPT, &FAILED), Some(None));
+}
+
+// The same of a script of this transaction, behind the opening.
+fn wrong_long_fault(alloc: Global, script: &[u8]) -> Option<Option<u64>> {
+    let mut output = MemorySink::new(alloc, Vec::new(alloc));
+    let opening = came(alloc, 0, b"", &mut output)?.calls;
+    wrong_fault(alloc, opening.checked_add(1)?, script, &LONG_FAILED)
+}
+
+#[test]
+fn a_replay_tells_a_disk_that_fails_at_any_call_of_a_transaction_that_spills(rt: HostRuntime) {
+    for script in [LONG, LONG_CANCELLED] {
+        assert_eq!(rt; wrong_long_fault(rt.alloc(), script), Some(None));
+    }
 }
 
 // Whether an empty script puts back this heap of the disk that a crash leaves.

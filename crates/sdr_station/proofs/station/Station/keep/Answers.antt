@@ -13,7 +13,7 @@ returns-in-Ok g c =
     let h = heap_ground g.D.Disk.bytes g.D.Disk.tells_crashes g.D.Disk.moment g.D.Disk.faults g.D.Disk.may_hold_after g.M.Media in
     let old : Stationed D M = record { ground = c.self.inside.ground; nesting = c.self.inside.nesting; failed = c.self.inside.failed } in
     let new : Stationed D M = record { ground = c.save.new.self; nesting = c.none-self-inside.result; failed = c.self.inside.failed } in
-    subst (λ (o : Stationed D M). Closes h closes.Ended o new (Ok closed.Ended)) c.self.view_is (record {
+    subst (λ (o : Stationed D M). Closes g.D.Disk.bytes h closes.Ended o new (Ok closed.Ended)) c.self.view_is (record {
       closes = record {
         is_told = refl;
         memory = c.in-Ok.ensures.memory;
@@ -35,7 +35,7 @@ returns-in-Err g c =
     let h = heap_ground g.D.Disk.bytes g.D.Disk.tells_crashes g.D.Disk.moment g.D.Disk.faults g.D.Disk.may_hold_after g.M.Media in
     let old : Stationed D M = record { ground = c.self.inside.ground; nesting = c.self.inside.nesting; failed = c.self.inside.failed } in
     let new : Stationed D M = record { ground = c.save.new.self; nesting = c.none-self-inside-in-Err.result; failed = Some c.moment.result } in
-    subst (λ (o : Stationed D M). Closes h closes.Ended o new (Err stops.DiskFault)) c.self.view_is (record {
+    subst (λ (o : Stationed D M). Closes g.D.Disk.bytes h closes.Ended o new (Err stops.DiskFault)) c.self.view_is (record {
       closes = record { is_fault = refl; fault = c.in-Err.ensures.fault; failed = ap (λ (m : ℕ). Some m) c.moment.ensures };
       nesting = c.none-self-inside-in-Err.ensures;
       restored = c.in-Err.ensures.restored;
