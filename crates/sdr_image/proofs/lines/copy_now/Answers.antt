@@ -1,4 +1,4 @@
-use Rattle.std.proofs.Common.{◌∙◌, ◌*◌, ◌⊎◌, ⊎_elim, sym, ap, length, ℕ}
+use Rattle.std.proofs.Common.{◌∙◌, ◌*◌, ⊎_elim, sym, ap, length, ℕ}
 use Rattle.sdr_base.specs.Parts.{part}
 use Rattle.sdr_log.specs.Log.{heap_of}
 use Rattle.sdr_log.proofs.BatchesLemmas.{part-within}

@@ -1,12 +1,6 @@
-use Rattle.std.proofs.Common.{◌≡◌, ◌≤◌, ◌<◌, ◌∙◌, ◌+◌, ◌-◌, ◌*◌, ap, subst, arith, Bool, true, false, ℕ, List, length, take, drop}
+use Rattle.std.proofs.Common.{◌∙◌, ◌+◌, ◌*◌, ap, subst, arith, Bool, true, false, length}
 use Rattle.sdr_base.specs.Parts.{part}
-use Rattle.sdr_base.proofs.PartsLemmas.{length-part}
-use Rattle.sdr_log.specs.Frame.{disk_bytes}
-use Rattle.sdr_log.specs.declared.frame.Frame.{Frame}
-use Rattle.sdr_log.proofs.BatchesLemmas.{part-within}
-use Rattle.sdr_image.specs.Lines.{IsLines, now_of}
 use Rattle.sdr_image.specs.Opened.{IsImage, Opened}
-use Rattle.sdr_image.specs.declared.lines.Lines.{Lines}
 use Rattle.sdr_image.proofs.ImageLemmas.{image_read, read_ended}
 use Rattle.sdr_image.proofs.image.Image.get.Goals as goal
 

@@ -1,4 +1,4 @@
-use Rattle.std.proofs.Common.{◌≡◌, ◌∙◌, ◌+◌, ◌*◌, ◌/◌, ◌%◌, ℕ, Bool, true, length, ap, arith}
+use Rattle.std.proofs.Common.{◌≡◌, ◌∙◌, ◌+◌, ◌*◌, ◌/◌, ◌%◌, ℕ, length, ap, arith}
 use Rattle.sdr_base.specs.Parts.{part}
 use Rattle.sdr_image.specs.Opened.{Opened}
 use Rattle.sdr_image.specs.QuietLaws.{quiet_read}
