@@ -138,7 +138,7 @@ fn taken_twice<O: Objects>(
     other: Addr,
 ) -> Result<(Addr, Addr), Stop>
     requires kept { KeepsSome (O.keeps o.old) }
-    requires bundles { SomeBundles (O.heap o.old) q.now (loose ∷ other ∷ []) 6 }
+    requires bundles { SomeBundles (O.heap o.old) q.now (loose ∷ other ∷ []) 9 }
 {
     bundles_keep();
     let taken = take(o, q)?;
