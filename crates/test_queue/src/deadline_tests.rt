@@ -13,7 +13,7 @@ use sdr_list::Collation;
 
 /// Queues, and three objects.
 #[derive(Clone, Copy, Debug, PartialEq, Eq, Drop)]
-struct Three {
+struct Begun {
     queues: Queues,
     first: Addr,
     second: Addr,
@@ -24,7 +24,7 @@ fn orders() -> Orders<EarliestFirst, HighestFirst> {
     Orders::new(Collation::new(EarliestFirst), Collation::new(HighestFirst))
 }
 
-fn three<O: Objects>(o: &mut O) -> Result<Three, Stop>
+fn three<O: Objects>(o: &mut O) -> Result<Begun, Stop>
     requires kept { KeepsSome (O.keeps o.old) }
     requires nothing { HasNothing (O.heap o.old) }
     requires spare { 31 ≤ (O.heap o.old).spare }
@@ -37,7 +37,7 @@ fn three<O: Objects>(o: &mut O) -> Result<Three, Stop>
     let first = zco_obj::create(o, Acct::Outbound, 0)?;
     let second = zco_obj::create(o, Acct::Outbound, 0)?;
     let third = zco_obj::create(o, Acct::Outbound, 0)?;
-    Ok(Three {
+    Ok(Begun {
         queues,
         first,
         second,
@@ -46,7 +46,7 @@ fn three<O: Objects>(o: &mut O) -> Result<Three, Stop>
 }
 
 // Puts the three objects; their items.
-fn put_three<O: Objects>(o: &mut O, made: &Three) -> Result<[Addr; 3], Stop>
+fn put_three<O: Objects>(o: &mut O, made: &Begun) -> Result<[Addr; 3], Stop>
     requires kept { KeepsSome (O.keeps o.old) }
     requires bundles { SomeBundles (O.heap o.old) made.now.queues
         (made.now.third ∷ made.now.second ∷ made.now.first ∷ []) 12 }
@@ -64,7 +64,7 @@ fn put_three<O: Objects>(o: &mut O, made: &Three) -> Result<[Addr; 3], Stop>
 
 /// What the calls of the first row answer, in order.
 #[derive(Clone, Copy, Debug, PartialEq, Eq, Drop)]
-struct Deadlines {
+struct Told {
     urgent: u64,
     first: Option<u64>,
     early: u64,
@@ -73,7 +73,7 @@ struct Deadlines {
     last: Option<u64>,
 }
 
-fn deadlines<O: Objects>(o: &mut O, q: &Queues) -> Result<Deadlines, Stop>
+fn deadlines<O: Objects>(o: &mut O, q: &Queues) -> Result<Told, Stop>
     requires kept { KeepsSome (O.keeps o.old) }
     requires bundles { SomeBundles (O.heap o.old) q.now [] 3 }
 {
@@ -84,7 +84,7 @@ fn deadlines<O: Objects>(o: &mut O, q: &Queues) -> Result<Deadlines, Stop>
     let taken = take(o, q)?;
     let late = expire(o, q, 50)?;
     let last = earliest(o, q)?;
-    Ok(Deadlines {
+    Ok(Told {
         urgent,
         first,
         early,
@@ -94,7 +94,7 @@ fn deadlines<O: Objects>(o: &mut O, q: &Queues) -> Result<Deadlines, Stop>
     })
 }
 
-fn answers<O: Objects>(o: &mut O) -> Result<(Three, [Addr; 3], Deadlines), Stop>
+fn answers<O: Objects>(o: &mut O) -> Result<(Begun, [Addr; 3], Told), Stop>
     requires kept { KeepsSome (O.keeps o.old) }
     requires nothing { HasNothing (O.heap o.old) }
     requires spare { 31 ≤ (O.heap o.old).spare }
@@ -108,7 +108,7 @@ fn answers<O: Objects>(o: &mut O) -> Result<(Three, [Addr; 3], Deadlines), Stop>
 #[test]
 fn the_first_of_the_highest_class_is_taken_and_those_that_are_overdue_go(rt: HostRuntime) {
     let mut heap = begun(rt.alloc()).unwrap();
-    let made = Three {
+    let made = Begun {
         queues: Queues {
             bulk: 2056,
             normal: 2096,
@@ -119,7 +119,7 @@ fn the_first_of_the_highest_class_is_taken_and_those_that_are_overdue_go(rt: Hos
         second: 2296,
         third: 2376,
     };
-    let wanted = Deadlines {
+    let wanted = Told {
         urgent: 2,
         first: Some(30),
         early: 0,
