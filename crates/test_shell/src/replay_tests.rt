@@ -51,6 +51,7 @@ fn replayed(
 }
 
 // What a script came to on a disk whose call fails: its status, whether the journal is empty or ends with a fault, and how many calls were made.
+#[derive(Drop)]
 struct Came {
     status: u8,
     faulted: bool,
