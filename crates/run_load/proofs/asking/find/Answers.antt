@@ -4,8 +4,8 @@ use Rattle.run_load.specs.Asking.{AnswersByRow, IsQuestion}
 use Rattle.sdr_model.specs.declared.call.Call.{Call}
 use Rattle.run_load.proofs.asking.find.Goals as goal
 
-pub ask-reply-requires-clause-question : goal.ask-reply-requires-clause-question
-ask-reply-requires-clause-question g c =
+pub ask-requires-clause-question : goal.ask-requires-clause-question
+ask-requires-clause-question g c =
     subst (λ (call : Call). IsQuestion call) (sym c.requires.finds) (record { reads = refl; unasked = refl; shows = λ w w' s. s })
 
 pub returns-clause-found : goal.returns-clause-found

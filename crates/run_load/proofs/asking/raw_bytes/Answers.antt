@@ -24,11 +24,11 @@ returns-then-raw-clause-few g c =
 
 pub returns-then-raw-clause-asks : goal.returns-then-raw-clause-asks
 returns-then-raw-clause-asks g c =
-    on_ok_more c.raw_length.result _ _ (asks_then c.args.base.now c.is_raw-raw.new.base c.raw_length.new.base c.in_ok-raw.ensures.asks) c.raw_length.ensures.asks
+    on_ok_more c.raw_length.result _ _ (asks_then c.args.base.now c.is_raw.new.base c.raw_length.new.base c.in_ok-raw.ensures.asks) c.raw_length.ensures.asks
 
 pub returns-then-raw-clause-fails : goal.returns-then-raw-clause-fails
 returns-then-raw-clause-fails g c =
-    on_err_more c.raw_length.result _ _ (fails_then c.args.base.now c.is_raw-raw.new.base c.raw_length.new.base c.in_ok-raw.ensures.asks) c.raw_length.ensures.fails
+    on_err_more c.raw_length.result _ _ (fails_then c.args.base.now c.is_raw.new.base c.raw_length.new.base c.in_ok-raw.ensures.asks) c.raw_length.ensures.fails
 
 pub returns-else-raw-clause-bytes : goal.returns-else-raw-clause-bytes
 returns-else-raw-clause-bytes g c v at = sym (no_raw v.now.world c.args.addr (sym (c.in_ok-raw.ensures.raw v at) ∙ c.if-raw.false))
