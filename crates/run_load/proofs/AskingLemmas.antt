@@ -166,3 +166,8 @@ pub fails_cause : {D M T E : Type 0} (d : DiskGhosts D) (result : Result T E) (o
 fails_cause d (Ok x) old mid new same fails = tt
 fails_cause {D} d (Err e) old mid new same fails =
     subst (λ (x : D). Rose (d.faults x) (d.faults new.heap.cells.disk)) same.disk fails.cause
+
+-- what holds in any case holds where a call was stopped
+pub on_err : {T E P : Type 0} (result : Result T E) → P → OnErr result P
+on_err (Ok x) holds = tt
+on_err (Err e) holds = holds

@@ -1,7 +1,7 @@
 use Rattle.std.proofs.Common.{◌∙◌, sym, ap}
 use Rattle.std.specs.Option.{option_map}
 use Rattle.std.specs.Prelude.{length}
-use Rattle.run_load.proofs.AskingLemmas.{asks_then, fails_then, shows_twice}
+use Rattle.run_load.proofs.AskingLemmas.{asks_then, fails_then, on_err, shows_twice}
 use Rattle.run_load.proofs.FoundLemmas.{list_read, list_there, no_list, no_object}
 use Rattle.run_load.specs.Listed.{list_at}
 use Rattle.sdr_model.specs.World.{World}
@@ -23,12 +23,14 @@ returns-in_default-2-clause-asks g c =
 
 pub returns-in_err-elements-clause-fails : goal.returns-in_err-elements-clause-fails
 returns-in_err-elements-clause-fails g c =
-    fails_then c.args.base.now c.find.new.base c.count.new.base c.in_ok-list.ensures.asks c.in_err-elements.ensures.fails
+    on_err c.from_residual-in_err-elements.result
+    (fails_then c.args.base.now c.find.new.base c.count.new.base c.in_ok-list.ensures.asks c.in_err-elements.ensures.fails)
 
 pub returns-in_err-bytes-clause-fails : goal.returns-in_err-bytes-clause-fails
 returns-in_err-bytes-clause-fails g c =
-    fails_then c.args.base.now c.count.new.base c.bytes_named.new.base
-    (asks_then c.args.base.now c.find.new.base c.count.new.base c.in_ok-list.ensures.asks c.in_ok-elements.ensures.asks) c.in_err-bytes.ensures.fails
+    on_err c.from_residual-in_err-bytes.result
+    (fails_then c.args.base.now c.count.new.base c.bytes_named.new.base
+    (asks_then c.args.base.now c.find.new.base c.count.new.base c.in_ok-list.ensures.asks c.in_ok-elements.ensures.asks) c.in_err-bytes.ensures.fails)
 
 pub returns-clause-list : goal.returns-clause-list
 returns-clause-list g c v at =
