@@ -1,5 +1,5 @@
 -- A disk that was just formatted gives a heap without a block or a ticket.
-use Rattle.std.proofs.Common.{◌≡◌, ◌≤◌, lit≤, ℕ, List, [], length, Some, sym, ap, ◌∙◌, refl, subst}
+use Rattle.std.proofs.Common.{◌≡◌, ◌≤◌, ◌+◌, ◌/◌, lit≤, arith, ℕ, List, [], length, Some, sym, ap, ◌∙◌, refl, subst}
 use Rattle.std.proofs.lemmas.List.Elements.{All-nil}
 use Rattle.sdr_base.specs.Entries.{BlocksAre}
 use Rattle.sdr_base.specs.KeptHeap.{KeepsRegion, block_in, root_in}
@@ -39,6 +39,10 @@ nothing bytes blocks roots k = record {
   };
 }
 
+-- and room for moves
+roomy : (bytes : List ℕ) → KeepsNothing 1024 bytes → 31 ≤ length bytes / 4 + 4
+roomy bytes k = let s = k.region.size in omega (arith, s)
+
 -- the regions of the disk
 abbrev frame : Frame
 frame = record { log_lines = 256; heap_lines = 1024 }
@@ -59,3 +63,10 @@ returns-clause-nothing c =
     let back = c.in-Ok-open.ensures.opened.heap in
     let k = c.formatted_keeps.ensures.nothing frame _ _ (gives frame _ _ _ limits disk.cause.explained disk.formatted back) in
     rw (c.in-Ok-new.ensures.made, c.begin.ensures.begun) (nothing _ refl refl k)
+
+pub returns-clause-spare : goal.returns-clause-spare
+returns-clause-spare c =
+    let disk = c.in-Ok-format.ensures in
+    let back = c.in-Ok-open.ensures.opened.heap in
+    let k = c.formatted_keeps.ensures.nothing frame _ _ (gives frame _ _ _ limits disk.cause.explained disk.formatted back) in
+    rw (c.in-Ok-new.ensures.made, c.begin.ensures.begun) (roomy _ k)
