@@ -10,6 +10,7 @@ use bp_queue::{
 };
 use sdr_base::{Acct, Addr, Objects, Refusal, Stop};
 use sdr_list::Collation;
+use std::alloc::Global;
 
 /// Queues, and three objects.
 #[derive(Clone, Copy, Debug, PartialEq, Eq, Drop)]
@@ -105,9 +106,16 @@ fn answers<O: Objects>(o: &mut O) -> Result<(Begun, [Addr; 3], Told), Stop>
     Ok((made, items, answers))
 }
 
+// The first row, on a heap of its own. `None`: there is no heap.
+fn first_row(alloc: Global) -> Option<Result<(Begun, [Addr; 3], Told), Stop>> {
+    let Some(mut heap) = begun(alloc) else {
+        return None;
+    };
+    Some(answers(&mut heap))
+}
+
 #[test]
 fn the_first_of_the_highest_class_is_taken_and_those_that_are_overdue_go(rt: HostRuntime) {
-    let mut heap = begun(rt.alloc()).unwrap();
     let made = Begun {
         queues: Queues {
             bulk: 2056,
@@ -127,7 +135,10 @@ fn the_first_of_the_highest_class_is_taken_and_those_that_are_overdue_go(rt: Hos
         late: 2,
         last: None,
     };
-    assert_eq!(rt; answers(&mut heap), Ok((made, [2456, 2600, 2744], wanted)));
+    assert_eq!(rt;
+        first_row(rt.alloc()),
+        Some(Ok((made, [2456, 2600, 2744], wanted)))
+    );
 }
 
 // What is taken, once and again.
@@ -169,8 +180,18 @@ fn twice<O: Objects>(o: &mut O) -> Result<Option<Twice>, Stop>
     Ok(Some((item, told, taken)))
 }
 
+// The second row, on a heap of its own.
+fn second_row(alloc: Global) -> Option<Result<Option<Twice>, Stop>> {
+    let Some(mut heap) = begun(alloc) else {
+        return None;
+    };
+    Some(twice(&mut heap))
+}
+
 #[test]
 fn an_object_that_waits_is_not_put_again(rt: HostRuntime) {
-    let mut heap = begun(rt.alloc()).unwrap();
-    assert_eq!(rt; twice(&mut heap), Ok(Some((2456, 2456, (2216, 0)))));
+    assert_eq!(rt;
+        second_row(rt.alloc()),
+        Some(Ok(Some((2456, 2456, (2216, 0)))))
+    );
 }
