@@ -11,8 +11,8 @@ ghost use Rattle.audit_blocks.specs.Walked.{AreEdges};
 use crate::error::{Check, Damage};
 use crate::number::number_at;
 use sdr_base::control::{
-    BULK_MAXIMUM, CONTROL_WORDS, FILE_MAXIMUM, HEAP_MAXIMUM, HIGH, INBOUND, LAST_NAME, LOW,
-    NEXT_TICKET, OUTBOUND, SIZE, START,
+    BULK_MAXIMUM, CONTROL_WORDS, FILE_MAXIMUM, HEAP_MAXIMUM, HIGH, INBOUND, LOW, NEXT_TICKET,
+    OUTBOUND, SIZE, START, VERSION,
 };
 use sdr_base::{LINE, START_BITS, WORD};
 use sdr_model::MOST_AMOUNT;
@@ -71,7 +71,7 @@ fn may_be(heap: &[u8], word: u64, value: u64) -> bool
         value <= MOST_AMOUNT
     } else if word == NEXT_TICKET {
         1 <= value && value <= MOST_AMOUNT
-    } else if word == LAST_NAME + 1 || word > NEXT_TICKET {
+    } else if word == VERSION || word > NEXT_TICKET {
         value == 0
     } else {
         true

@@ -1,5 +1,6 @@
 -- Sums of charges.
-use Rattle.std.proofs.Common.{◌≡◌, ◌<◌, ◌+◌, ◌*◌, ◌-◌, ◌^◌, ℕ, List, get_or, length, sum_by, take, arith, ap, ◌∙◌}
+use Rattle.std.proofs.Common.{◌≡◌, ◌≤◌, ◌<◌, ◌+◌, ◌*◌, ◌-◌, ◌^◌, ℕ, Bool, List, cond, get_or, length, sum_by, take, arith, ap, sym, ◌∙◌}
+use Rattle.std.specs.Prelude.{None}
 use Rattle.std.proofs.lemmas.List.FromFn.{sum_by-map-range_with_len_more}
 use Rattle.std.proofs.lemmas.List.Sums.{sum_by_more}
 use Rattle.sdr_base.specs.Cells.{IsRegionSize}
@@ -8,10 +9,13 @@ use Rattle.sdr_base.specs.declared.account.Acct.{Acct}
 use Rattle.sdr_base.specs.declared.kind.Space.{Space}
 use Rattle.sdr_base.specs.declared.kind.Space.TheVariants as spaces
 use Rattle.audit_owners.specs.Places.{places}
-use Rattle.audit_counts.specs.Occupied.{capsule_charge_at, charge_at, charges_by, extent_charge_at, left_at, medium_space}
+use Rattle.audit_counts.specs.Occupied.{capsule_charge_at, charge_at, charges_by, extent_charge_at, left_at, medium_space, object_charge_at}
 use Rattle.sdr_model.specs.Amounts.{in_space}
 use Rattle.audit_owners.proofs.BlockLemmas.{few_bytes}
-use Rattle.audit_owners.specs.View.{View, length_of, word_of}
+use Rattle.audit_owners.proofs.PlacesLemmas.{sum_over}
+use Rattle.audit_owners.specs.Scan.{HasNoBlocks}
+use Rattle.audit_owners.specs.View.{View, length_of, view_in, word_of}
+use Rattle.audit_counts.proofs.CountsLemmas.{no_object}
 
 -- the same amounts have the same sums
 pub charges_same : (f g : Space → ℕ) → ((space : Space) → f space ≡ g space) → charges_by f ≡ charges_by g
@@ -59,6 +63,19 @@ pub charge_more : (heap : View) (words : ℕ) (account : Acct) (number : ℕ) (s
     ≡ sum_by (charge_at heap words account space) (places number) + charge_at heap words account space (8 * number)
 charge_more heap words account number space =
     sum_by-map-range_with_len_more (charge_at heap words account space) (λ word. 8 * word) 0 number number (omega arith)
+
+-- and words without blocks charge nothing
+pub charges_over : (bytes : List ℕ) (words : ℕ) (account : Acct) (from to : ℕ) → from ≤ to → HasNoBlocks bytes from to →
+    charges_by (λ space. sum_by (charge_at (view_in bytes) words account space) (places from))
+    ≡ charges_by (λ space. sum_by (charge_at (view_in bytes) words account space) (places to))
+charges_over bytes words account from to onward none =
+    charges_same (λ space. sum_by (charge_at (view_in bytes) words account space) (places from))
+    (λ space. sum_by (charge_at (view_in bytes) words account space) (places to))
+    (λ space. sym (sum_over bytes (charge_at (view_in bytes) words account space) from to (unused space) onward none))
+  where
+    unused : (space : Space) (addr : ℕ) → block_in bytes addr ≡ None → charge_at (view_in bytes) words account space addr ≡ 0
+    unused space addr here =
+        ap (λ (t : Bool). cond t (object_charge_at (view_in bytes) words space addr) 0) (no_object (view_in bytes) account addr here)
 
 -- the words for its text fit a number
 pub few_text : (x : List ℕ) (addr bytes text : ℕ) → IsRegionSize (length x) → bytes ≡ length_of (block_in x addr) → text ≡ bytes - 8 → 15 + text < 2 ^ 61

@@ -26,7 +26,7 @@ use Rattle.audit_owners.specs.View.{View, is_kind, length_of, view_in, word_of}
 use Rattle.audit_owners.specs.declared.owner.Owner.TheVariants as owners
 
 -- where no block is, no source is
-none_counts : (heap : View) (words addr : ℕ) → heap.blocks addr ≡ None → keeps_counts heap words addr ≡ true
+pub none_counts : (heap : View) (words addr : ℕ) → heap.blocks addr ≡ None → keeps_counts heap words addr ≡ true
 none_counts heap words addr none =
     ap (λ (b : Option Block). not (is_kind kinds.Source b) || (tells_count heap words accts.Inbound addr && tells_count heap words accts.Outbound addr)) none
 
@@ -56,7 +56,7 @@ occupied_right heap words account none space =
 
 module _ (bytes : List ℕ) (words : ℕ) where
   -- where no block is, each rule is kept
-  unused : (rule : CountRule) (addr : ℕ) → block_in bytes addr ≡ None → keeps_count_rule (view_in bytes) words rule
+  pub unused : (rule : CountRule) (addr : ℕ) → block_in bytes addr ≡ None → keeps_count_rule (view_in bytes) words rule
       addr ≡ true
   unused which.RawLength addr none =
       ap (λ (b : Option Block). not (is_source_of_raw b) || word_of b 5 == length_of (block_in bytes (word_of b 4)) -

@@ -1,5 +1,6 @@
 -- Counts of extents.
-use Rattle.std.proofs.Common.{◌≡◌, ◌≤◌, ◌<◌, ◌+◌, ◌-◌, ◌*◌, ◌^◌, ℕ, List, [], ◌∷◌, ◌++◌, drop, cond, Bool, get_or, length, min, sum_by, take, count_by, arith, ap, ◌∙◌, sym, inl, inr}
+use Rattle.std.proofs.Common.{◌≡◌, ◌≤◌, ◌<◌, ◌+◌, ◌-◌, ◌*◌, ◌^◌, ◌==◌, ◌&&◌, ℕ, List, [], ◌∷◌, ◌++◌, drop, cond, Bool, false, get_or, length, min, sum_by, take, count_by, arith, ap, ◌∙◌, sym, inl, inr}
+use Rattle.std.specs.Prelude.{Option, None}
 use Rattle.std.specs.List.{All}
 use Rattle.std.proofs.lemmas.Bool.{cases_Bool}
 use Rattle.std.proofs.lemmas.List.FromFn.{length-map-range_with_len, sum_by-map-range_with_len_more}
@@ -7,14 +8,21 @@ use Rattle.std.proofs.lemmas.List.Elements.{All-cons, All-nil}
 use Rattle.std.proofs.lemmas.List.Sums.{count_by-le-length, sum_by-le}
 use Rattle.std.proofs.lemmas.Nat.{mul-le}
 use Rattle.std.proofs.Math.Seq.{take-append_seam}
+use Rattle.sdr_base.specs.Blocks.{Block}
+use Rattle.sdr_base.specs.KeptHeap.{block_in}
+use Rattle.sdr_base.specs.ZcoObjects.{account_number}
 use Rattle.sdr_base.specs.declared.account.Acct.{Acct}
+use Rattle.sdr_base.specs.declared.kind.Kind.TheVariants as kinds
+use Rattle.sdr_base.specs.declared.layout.object.TheConstants as object
 use Rattle.audit_counts.specs.Counts.{named_count, is_object_of, extent_names, uses_at}
 use Rattle.audit_owners.specs.Places.{places}
 use Rattle.audit_owners.specs.Members.{members}
 use Rattle.audit_counts.specs.Numbers.{AreTold}
 use Rattle.audit_owners.proofs.MembersLemmas.{length-followed}
+use Rattle.audit_owners.proofs.PlacesLemmas.{sum_over}
 use Rattle.audit_owners.specs.Chains.{first_link}
-use Rattle.audit_owners.specs.View.{View}
+use Rattle.audit_owners.specs.Scan.{HasNoBlocks}
+use Rattle.audit_owners.specs.View.{View, is_kind, view_in, word_of}
 use Rattle.audit_owners.specs.declared.owner.Owner.TheVariants as owners
 
 -- what holds of each number holds of those in a list
@@ -48,6 +56,24 @@ pub uses_more : (heap : View) (words : ℕ) (account : Acct) (number from : ℕ)
     ≡ sum_by (uses_at heap words account from) (places number) + uses_at heap words account from (8 * number)
 uses_more heap words account number from =
     sum_by-map-range_with_len_more (uses_at heap words account from) (λ word. 8 * word) 0 number number (omega arith)
+
+-- where no block is, no object is
+pub no_object : (heap : View) (account : Acct) (addr : ℕ) → heap.blocks addr ≡ None → is_object_of heap account addr ≡ false
+no_object heap account addr =
+    ap (λ (b : Option Block). is_kind kinds.Object b && word_of b object.ACCOUNT == account_number account)
+
+-- so words without blocks add no uses
+pub told_over : (bytes : List ℕ) (words : ℕ) (account : Acct) (counts : List ℕ) (first to : ℕ) → first ≤ to → HasNoBlocks bytes first to →
+    AreTold (λ from. sum_by (uses_at (view_in bytes) words account from) (places first)) counts →
+    AreTold (λ from. sum_by (uses_at (view_in bytes) words account from) (places to)) counts
+told_over bytes words account counts first to onward none =
+    told_same _ (λ from. sum_by (uses_at (view_in bytes) words account from) (places to)) counts
+    (λ from. sym (sum_over bytes (uses_at (view_in bytes) words account from) first to (unused from) onward none))
+  where
+    unused : (from addr : ℕ) → block_in bytes addr ≡ None → uses_at (view_in bytes) words account from addr ≡ 0
+    unused from addr here =
+        ap (λ (t : Bool). cond t (count_by (extent_names (view_in bytes) from) (members (view_in bytes) words (owners.Extents addr))) 0)
+        (no_object (view_in bytes) account addr here)
 
 -- how many extents name a source is at most the square of the words
 pub count_small : (heap : View) (words : ℕ) (account : Acct) (from : ℕ) → words < 2 ^ 30 → named_count heap words account from < 2 ^ 64 - 1

@@ -7,7 +7,7 @@ ghost use Rattle.audit_counts.specs.Counts.{named_count, is_object_of, keeps_cou
 ghost use Rattle.audit_counts.specs.Numbers.{AreTold};
 ghost use Rattle.audit_owners.specs.View.{view_in};
 
-use audit_owners::{Owner, is_kind, members, word};
+use audit_owners::{Owner, is_kind, members, next_block, word};
 use sdr_base::layout::{extent, object, source};
 use sdr_base::{Acct, Addr, Kind, NoMemory, WORD};
 use std::alloc::Global;
@@ -76,8 +76,10 @@ fn counts_of(alloc: Global, heap: &[u8], account: Acct) -> Result<Vec<u64>, NoMe
         AreTold (named_count (view_in heap.now) (length heap.now / WORD) account) counts.items) }
 {
     let mut counts = vec![in alloc; 0u64; heap.len() / WORD as usize]?;
-    for number in 0..counts.len() {
-        count_object(alloc, heap, &mut counts, account, WORD * number as u64)?;
+    let mut from = 0;
+    while let Some(number) = next_block(heap, from) {
+        count_object(alloc, heap, &mut counts, account, WORD * number)?;
+        from = number + 1;
     }
     Ok(counts)
 }
@@ -103,11 +105,14 @@ pub fn wrong_source(alloc: Global, heap: &[u8]) -> Result<Option<Addr>, NoMemory
 {
     let inbound = counts_of(alloc, heap, Acct::Inbound)?;
     let outbound = counts_of(alloc, heap, Acct::Outbound)?;
-    for number in 0..inbound.len() {
-        let addr = WORD * number as u64;
-        if !keeps_counts(heap, addr, inbound[number], outbound[number]) {
+    let mut from = 0;
+    while let Some(number) = next_block(heap, from) {
+        let addr = WORD * number;
+        let word = number as usize;
+        if !keeps_counts(heap, addr, inbound[word], outbound[word]) {
             return Ok(Some(addr));
         }
+        from = number + 1;
     }
     Ok(None)
 }

@@ -13,7 +13,7 @@ ghost use Rattle.audit_owners.specs.View.{view_in};
 
 use crate::charges::Charges;
 use crate::counts::is_object_of;
-use audit_owners::{Owner, length_of, members, root, word};
+use audit_owners::{Owner, length_of, members, next_block, root, word};
 use sdr_base::control::{BULK_OCCUPANCY, FILE_OCCUPANCY, HEAP_OCCUPANCY, INBOUND, OUTBOUND};
 use sdr_base::layout::{capsule, extent, source, ticket};
 use sdr_base::{Acct, Addr, NoMemory, Space, WORD};
@@ -124,8 +124,10 @@ fn occupied(alloc: Global, heap: &[u8], account: Acct) -> Result<Charges, NoMemo
         (occupancy_in (view_in heap.now) (length heap.now / WORD) account)) }
 {
     let mut charges = Charges::none();
-    for number in 0..heap.len() as u64 / WORD {
+    let mut from = 0;
+    while let Some(number) = next_block(heap, from) {
         charges = with_object(alloc, heap, charges, account, WORD * number)?;
+        from = number + 1;
     }
     let tickets = members(alloc, heap, Owner::Queue(account))?;
     Ok(with_left(heap, charges, &tickets))

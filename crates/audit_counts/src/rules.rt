@@ -6,7 +6,7 @@ ghost use Rattle.audit_counts.specs.Rules.{count_rules, covers_part, extent_leng
 ghost use Rattle.audit_owners.specs.Places.{first_failing};
 ghost use Rattle.audit_owners.specs.View.{view_in};
 
-use audit_owners::{Owner, is_kind, length_of, members, names_raw, word};
+use audit_owners::{Owner, is_kind, length_of, members, names_raw, next_block, word};
 use sdr_base::layout::{extent, object, raw, source};
 use sdr_base::{Addr, Kind, NoMemory, WORD};
 use std::alloc::Global;
@@ -154,11 +154,13 @@ fn first_broken(alloc: Global, heap: &[u8], rule: CountRule) -> Result<Option<Ad
     ensures { IfOk result (λ addr. addr ≡ first_failing
         (keeps_count_rule (view_in heap.now) (length heap.now / WORD) rule) (length heap.now / WORD)) }
 {
-    for number in 0..heap.len() as u64 / WORD {
+    let mut from = 0;
+    while let Some(number) = next_block(heap, from) {
         let addr = WORD * number;
         if !keeps(alloc, heap, rule, addr)? {
             return Ok(Some(addr));
         }
+        from = number + 1;
     }
     Ok(None)
 }

@@ -99,7 +99,7 @@ module _ (heap : View) (text : EntryText) where
   from_distinct addrs distinct = none_repeated [] addrs (new_none addrs) distinct
 
 -- where no block is, each rule is kept
-unused : (bytes : List ℕ) (words : ℕ) (rule : KeyRule) (addr : ℕ) → block_in bytes addr ≡ None → keeps_key_rule (view_in bytes) words rule addr ≡ true
+pub unused : (bytes : List ℕ) (words : ℕ) (rule : KeyRule) (addr : ℕ) → block_in bytes addr ≡ None → keeps_key_rule (view_in bytes) words rule addr ≡ true
 unused bytes words which.Length addr none =
     ap (λ (b : Option Block). not (is_kind kinds.List b) || word_of b 1 == length (members (view_in bytes) words (owners.List addr))) none
 unused bytes words which.Entries addr none =

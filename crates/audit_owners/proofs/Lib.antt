@@ -17,4 +17,5 @@ pub mod ReadingLemmas
 pub mod RegionLemmas
 pub mod ResultLemmas
 pub mod RulesLemmas
+pub mod ScanLemmas
 pub mod WalkLemmas

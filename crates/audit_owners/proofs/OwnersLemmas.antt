@@ -1,12 +1,19 @@
 -- The chains of owners one after another.
-use Rattle.std.proofs.Common.{◌≡◌, ◌≤◌, ◌<◌, ◌+◌, ◌-◌, ◌*◌, ℕ, zero, suc, List, [], ◌∷◌, ◌++◌, take, drop, length, get_or, arith, ap, ◌∙◌, sym, subst}
-use Rattle.std.specs.Prelude.{map}
+use Rattle.std.proofs.Common.{◌≡◌, ◌≤◌, ◌<◌, ◌+◌, ◌-◌, ◌*◌, ℕ, zero, suc, Bool, List, [], ◌∷◌, ◌++◌, take, drop, append-nil, length, get_or, arith, ap, ◌∙◌, refl, sym, subst}
+use Rattle.std.specs.Prelude.{map, Option, None}
+use Rattle.std.specs.Option.{option_map_or}
 use Rattle.std.specs.List.{flat_map, range_with_len}
 use Rattle.std.proofs.lemmas.List.{append_assoc, flat_map_more, map-id, take-append-drop, take_more}
 use Rattle.std.proofs.lemmas.List.FromFn.{map-range_with_len_more, take-map-range_with_len}
+use Rattle.sdr_base.specs.Blocks.{Block, kind_length}
+use Rattle.sdr_base.specs.KeptHeap.{block_in}
+use Rattle.sdr_base.specs.declared.kind.Kind.{Kind}
+use Rattle.audit_owners.proofs.ScanLemmas.{passed_over}
 use Rattle.audit_owners.specs.Chains.{IsWrongChain}
-use Rattle.audit_owners.specs.Owners.{owned_at, owners_of, root_owners}
-use Rattle.audit_owners.specs.View.{View}
+use Rattle.audit_owners.specs.Owners.{owned_at, owned_by, owners_of, root_owners}
+use Rattle.audit_owners.specs.Scan.{HasNoBlocks}
+use Rattle.audit_owners.specs.View.{View, view_in}
+use Rattle.audit_owners.specs.Walking.{HasWalked}
 use Rattle.audit_owners.specs.declared.owner.Owner.{Owner}
 
 -- what is wrong first among some chains is so among these and more
@@ -67,6 +74,23 @@ pub owners_more : (heap : View) (n : ℕ) → owners_of heap n ++ owned_at heap 
 owners_more heap n =
     flat_map_more (λ (word : ℕ). owned_at heap (8 * word)) root_owners (range_with_len 0 n) n
     ∙ ap (λ (l : List ℕ). root_owners ++ flat_map (λ (word : ℕ). owned_at heap (8 * word)) l) (sym (range_more n))
+
+-- and behind words without blocks are no more
+owners_over : (bytes : List ℕ) (from to : ℕ) → from ≤ to → HasNoBlocks bytes from to → owners_of (view_in bytes) from ≡ owners_of (view_in bytes) to
+owners_over bytes from to onward none =
+    let heap = view_in bytes in
+    passed_over bytes (λ n. owners_of heap from ≡ owners_of heap n) from to (λ n here before.
+    before ∙ sym (append-nil (owners_of heap n)) ∙ ap (λ (l : List Owner). owners_of heap n ++ l) (sym (unowned (8 * n) here)) ∙ owners_more heap n)
+    onward none refl
+  where
+    unowned : (addr : ℕ) → block_in bytes addr ≡ None → owned_at (view_in bytes) addr ≡ []
+    unowned addr = ap (λ (b : Option Block). option_map_or (λ (told : Kind × ℕ). owned_by addr told.0 told.1) (kind_length b) [])
+
+-- so the same blocks are marked there
+pub walked_over : (bytes : List ℕ) (marks : List Bool) (from to : ℕ) → from ≤ to → HasNoBlocks bytes from to →
+    HasWalked (view_in bytes) (owners_of (view_in bytes) from) marks → HasWalked (view_in bytes) (owners_of (view_in bytes) to) marks
+walked_over bytes marks from to onward none =
+    subst (λ (l : List Owner). HasWalked (view_in bytes) l marks) (owners_over bytes from to onward none)
 
 -- what is wrong first among the chains of some words is so among those of more
 pub wrong_later : (heap : View) (n m place : ℕ) → IsWrongChain heap (owners_of heap n) place → IsWrongChain heap (owners_of heap (n + m)) place

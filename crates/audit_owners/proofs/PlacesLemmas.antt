@@ -6,10 +6,12 @@ use Rattle.std.specs.Option.{option_or}
 use Rattle.std.proofs.lemmas.Bool.{cases_Bool, cases_eq, cases_lt}
 use Rattle.std.proofs.lemmas.List.{map-id, take-append-drop}
 use Rattle.std.proofs.lemmas.List.Folds.{find-append, list_all-append}
-use Rattle.std.proofs.lemmas.List.FromFn.{map-range_with_len_more, take-map-range_with_len}
+use Rattle.std.proofs.lemmas.List.FromFn.{map-range_with_len_more, sum_by-map-range_with_len_more, take-map-range_with_len}
 use Rattle.std.proofs.lemmas.List.Sums.{sum_by-append}
 use Rattle.audit_owners.specs.Places.{first_failing, places}
 use Rattle.audit_owners.proofs.RegionLemmas.{none_between, none_past}
+use Rattle.audit_owners.proofs.ScanLemmas.{passed_over}
+use Rattle.audit_owners.specs.Scan.{HasNoBlocks}
 use Rattle.sdr_base.specs.KeptHeap.{block_in}
 
 -- one more place
@@ -40,6 +42,21 @@ found_first test number words less before wrong =
     ∙ ap (λ o. option_or o (find p (drop (number + 1) (places words))))
     (ap (find p) (places_more number) ∙ find-append p (places number) (8 * number ∷ []) ∙ ap (λ o. option_or o (find p (8 * number ∷ []))) before
     ∙ ap (λ (t : Bool). cond (not t) (Some (8 * number)) None) wrong)
+
+-- where no block is, a test that passes there finds nothing
+pub found_over : (bytes : List ℕ) (test : ℕ → Bool) (from to : ℕ) → ((addr : ℕ) → block_in bytes addr ≡ None → test addr ≡ true) → from ≤ to →
+    HasNoBlocks bytes from to → first_failing test from ≡ None → first_failing test to ≡ None
+found_over bytes test from to unused onward =
+    passed_over bytes (λ n. first_failing test n ≡ None) from to (λ n none before. found_more test n before (unused (8 * n) none)) onward
+
+-- and a number that is 0 there adds nothing
+pub sum_over : (bytes : List ℕ) (f : ℕ → ℕ) (from to : ℕ) → ((addr : ℕ) → block_in bytes addr ≡ None → f addr ≡ 0) → from ≤ to →
+    HasNoBlocks bytes from to → sum_by f (places to) ≡ sum_by f (places from)
+sum_over bytes f from to unused onward none =
+    passed_over bytes (λ n. sum_by f (places n) ≡ sum_by f (places from)) from to (λ n here before.
+    let more = sum_by-map-range_with_len_more f (λ word. 8 * word) 0 n n (omega arith) in
+    let nothing = unused (8 * n) here in
+    omega (arith, more, nothing, before)) onward none refl
 
 -- where the first of two places is none, both are
 pub either_none : {X : Type 0} (a b : Option X) → option_or a b ≡ None → (a ≡ None) × (b ≡ None)

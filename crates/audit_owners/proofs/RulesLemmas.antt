@@ -7,6 +7,8 @@ use Rattle.sdr_base.specs.KeptHeap.{block_in}
 use Rattle.sdr_base.specs.declared.kind.Kind.TheVariants as kinds
 use Rattle.audit_owners.proofs.MarksLemmas.{mark_tells}
 use Rattle.audit_owners.proofs.RegionLemmas.{is_part, none_between, none_past}
+use Rattle.audit_owners.proofs.ScanLemmas.{passed_over}
+use Rattle.audit_owners.specs.Scan.{HasNoBlocks}
 use Rattle.audit_owners.specs.Chains.{is_among}
 use Rattle.audit_owners.specs.Marks.{AreMarked}
 use Rattle.audit_owners.specs.Rules.{AreKept, IsBroken, IsKept, is_chained, is_source_of, keeps_owner_rule, is_source_of_raw, is_raw_of_source}
@@ -48,6 +50,14 @@ kept_more bytes reached rule number before here other less = elim (cases_lt othe
     | inr off ↦ none_keeps (view_in bytes) reached rule other (none_between bytes other (λ whole. off (omega (arith, whole, above, less))))
   ]
 ]
+
+-- and behind words without blocks
+pub kept_over : (bytes reached : List ℕ) (rule : OwnerRule) (from to : ℕ) → from ≤ to → HasNoBlocks bytes from to →
+    ((other : ℕ) → other < 8 * from → keeps_owner_rule (view_in bytes) reached rule other ≡ true) →
+    (other : ℕ) → other < 8 * to → keeps_owner_rule (view_in bytes) reached rule other ≡ true
+kept_over bytes reached rule from to =
+    passed_over bytes (λ n. (other : ℕ) → other < 8 * n → keeps_owner_rule (view_in bytes) reached rule other ≡ true) from to
+    (λ n none before. kept_more bytes reached rule n before (none_keeps (view_in bytes) reached rule (8 * n) none))
 
 -- one that is kept in the whole region is kept everywhere
 pub kept_all : (bytes reached : List ℕ) (rule : OwnerRule) (number : ℕ) → length bytes ≤ 8 * number →

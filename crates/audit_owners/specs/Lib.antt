@@ -11,5 +11,6 @@ pub mod Owned
 pub mod Owners
 pub mod Reading
 pub mod Rules
+pub mod Scan
 pub mod View
 pub mod Walking

@@ -7,6 +7,7 @@ ghost use Rattle.audit_owners.specs.Places.{first_failing};
 ghost use Rattle.audit_owners.specs.View.{view_in};
 
 use crate::entries::{keeps_entries, keeps_length};
+use crate::scan::next_block;
 use sdr_base::{Addr, NoMemory, WORD};
 use std::alloc::Global;
 
@@ -37,11 +38,13 @@ pub fn first_broken(alloc: Global, heap: &[u8], rule: KeyRule) -> Result<Option<
     ensures { IfOk result (λ addr. addr ≡ first_failing
         (keeps_key_rule (view_in heap.now) (length heap.now / WORD) rule) (length heap.now / WORD)) }
 {
-    for number in 0..heap.len() as u64 / WORD {
+    let mut from = 0;
+    while let Some(number) = next_block(heap, from) {
         let addr = WORD * number;
         if !keeps(alloc, heap, rule, addr)? {
             return Ok(Some(addr));
         }
+        from = number + 1;
     }
     Ok(None)
 }

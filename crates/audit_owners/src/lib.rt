@@ -45,6 +45,7 @@ mod owner;
 mod owners;
 mod region;
 mod rules;
+mod scan;
 mod texts;
 
 pub use check::check_owners;
@@ -59,4 +60,5 @@ pub use linking::{chained_blocks_read_back, chains_are_linked_rows, linked_rows_
 pub use owner::{Owner, Site};
 pub use region::{is_kind, length_of, root, word};
 pub use rules::{OwnerRule, names_raw};
+pub use scan::next_block;
 pub use texts::EntryText;

@@ -13,6 +13,7 @@ use crate::chain::check_chain;
 use crate::error::Wrong;
 use crate::owner::Owner;
 use crate::region::find;
+use crate::scan::next_block;
 use sdr_base::layout::hash;
 use sdr_base::{Acct, Addr, Kind, WORD};
 
@@ -119,8 +120,10 @@ pub fn check_chains(heap: &[u8], marks: &mut [bool]) -> Result<(), Wrong>
         Owner::Queue(Acct::Outbound),
     ];
     check_each(heap, marks, &roots)?;
-    for number in 0..marks.len() {
-        check_block(heap, marks, WORD * number as u64)?;
+    let mut from = 0;
+    while let Some(number) = next_block(heap, from) {
+        check_block(heap, marks, WORD * number)?;
+        from = number + 1;
     }
     Ok(())
 }

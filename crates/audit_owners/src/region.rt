@@ -23,8 +23,8 @@ pub fn root(heap: &[u8], word: u64) -> u64
     }
 }
 
-// Whether the start bit of a word is set.
-fn has_start_bit(heap: &[u8], word: u64) -> bool
+/// Whether the start bit of a word is set.
+pub fn has_start_bit(heap: &[u8], word: u64) -> bool
     requires { START_BITS + word / 8 < length heap.now }
     ensures { result ≡ (start_bit word heap.now == 1) }
 {

@@ -10,6 +10,7 @@ ghost use Rattle.audit_owners.specs.View.{view_in};
 
 use crate::error::Wrong;
 use crate::region::{find, is_kind, word};
+use crate::scan::next_block;
 use sdr_base::layout::{extent, raw, source};
 use sdr_base::{Addr, Kind, Medium, WORD};
 
@@ -125,11 +126,13 @@ fn check_rule(heap: &[u8], marks: &[bool], rule: OwnerRule) -> Result<(), Wrong>
     ensures broken { (reached : List ℕ) → AreMarked reached marks.now →
         IfErr result (λ wrong. BreaksFirst (view_in heap.now) reached rule wrong.place) }
 {
-    for number in 0..marks.len() {
-        let place = WORD * number as u64;
+    let mut from = 0;
+    while let Some(number) = next_block(heap, from) {
+        let place = WORD * number;
         if !keeps(heap, marks, rule, place) {
             return Err(Wrong { place });
         }
+        from = number + 1;
     }
     Ok(())
 }

@@ -14,6 +14,7 @@ use Rattle.sdr_base.specs.Roots.{root_words, roots_by}
 use Rattle.sdr_base.specs.Stored.{number_at}
 use Rattle.sdr_base.specs.Tickets.{ticket_addr}
 use Rattle.sdr_base.specs.declared.account.Acct.TheVariants as accts
+use Rattle.sdr_base.specs.declared.control.TheConstants.{VERSION}
 use Rattle.sdr_base.specs.declared.kind.Space.TheVariants as spaces
 use Rattle.audit_counts.specs.Counted.{IsCounted}
 use Rattle.sdr_model.specs.Accounts.{tickets_of}
@@ -60,7 +61,7 @@ module _ (bytes : List ℕ) where
 
     abbrev words_told : List ℕ
     words_told =
-        root_words (first_of name_addr 0 (map name_row (world_of bytes).names)) (last_of name_addr 0 (map name_row (world_of bytes).names))
+        root_words 0 (first_of name_addr 0 (map name_row (world_of bytes).names)) (last_of name_addr 0 (map name_row (world_of bytes).names))
         (account_roots (world_of bytes) accts.Inbound) (account_roots (world_of bytes) accts.Outbound) (world_of bytes).accounts.next
 
     -- the control words of the world, in order
@@ -68,7 +69,7 @@ module _ (bytes : List ℕ) where
     listed = λ i.
         (names_rows (view_in bytes) (length bytes / 8) a).first i
         ∷ last_name i
-        ∷ zero_at 91 refl refl (λ v. refl) (omega arith) i
+        ∷ zero_at VERSION refl refl (λ v. refl) (omega arith) i
         ∷ occupancy_told (view_in bytes) (length bytes / 8) a c accts.Inbound spaces.File i
         ∷ occupancy_told (view_in bytes) (length bytes / 8) a c accts.Inbound spaces.Bulk i
         ∷ occupancy_told (view_in bytes) (length bytes / 8) a c accts.Inbound spaces.Heap i

@@ -12,6 +12,7 @@ ghost use Rattle.audit_world.specs.Told.{thing_told, world_of};
 use crate::accounts::accounts_in;
 use crate::names::names_in;
 use crate::things::thing_in;
+use audit_owners::next_block;
 use sdr_base::{Addr, Bytes, Items, Kind, NoMemory, WORD};
 use sdr_model::{Parts, Thing, World};
 use std::alloc::Global;
@@ -44,8 +45,10 @@ fn things_in(alloc: Global, heap: &[u8]) -> Result<BTreeMap<u64, Thing>, NoMemor
         ≡ (world_of heap.now).things) }
 {
     let mut things = BTreeMap::new(alloc);
-    for number in 0..heap.len() as u64 / WORD {
+    let mut from = 0;
+    while let Some(number) = next_block(heap, from) {
         put_thing(alloc, heap, &mut things, WORD * number)?;
+        from = number + 1;
     }
     Ok(things)
 }

@@ -22,7 +22,7 @@ use Rattle.zco_acct.specs.Words.{occupied_in, with_occupied}
 use Rattle.zco_obj.specs.Destroying.{DestroysObject, KeepsSources, ObjectGone, charges_of, gone_object}
 use Rattle.zco_obj.specs.Gone.{NamedSource, source_at, sources_entries}
 use Rattle.zco_obj.specs.Kept.{ObjectFits}
-use Rattle.zco_obj.specs.Leaving.{raws_left, sources_staying, together}
+use Rattle.zco_obj.specs.Leaving.{LeavesSources, raws_left, sources_staying, together}
 use Rattle.zco_obj.specs.Uses.{AreNamed, CountsUses, IsThere}
 use Rattle.zco_obj.proofs.CountLemmas.{naming-append}
 use Rattle.zco_obj.proofs.LeavingLemmas.{destroy_leaves}
@@ -183,16 +183,21 @@ module _ {b : Blocks} {q : Queues} {now next : ℕ} {rows : List Row} {object_at
       named = own;
     }
 
+    -- what its object leaves of the sources
+    pub object_leaves : {middle new : Heap} → mid ≡ middle.blocks → ObjectGone r.waiting.object z sources middle new →
+        LeavesSources z.account z.extents sources ((queue ++ others) ++ rest) new.blocks
+    object_leaves {middle} same g =
+        destroy_leaves g own ((queue ++ others) ++ rest)
+        (subst (λ (es : Entries). BlocksAre middle.blocks es)
+        (sym (append_assoc (object_entries r.waiting.object z) (sources_entries sources) ((queue ++ others) ++ rest)))
+        (subst (λ (c : Blocks). BlocksAre c (object_entries r.waiting.object z ++ (sources_entries sources ++ ((queue ++ others) ++ rest)))) same in_front))
+
     -- and then its object
     pub object_goes : {middle new : Heap} → mid ≡ middle.blocks → ObjectGone r.waiting.object z sources middle new →
         KeepsOverdue new.blocks q now next (without waiting_of r.waiting.object rows) object_at
         (sources_staying z.account z.extents sources) (raws_left z.extents sources ++ rest)
     object_goes {middle} {new} same g =
-        let l =
-        destroy_leaves g own ((queue ++ others) ++ rest)
-        (subst (λ (es : Entries). BlocksAre middle.blocks es)
-        (sym (append_assoc (object_entries r.waiting.object z) (sources_entries sources) ((queue ++ others) ++ rest)))
-        (subst (λ (c : Blocks). BlocksAre c (object_entries r.waiting.object z ++ (sources_entries sources ++ ((queue ++ others) ++ rest)))) same in_front)) in
+        let l = object_leaves same g in
         let staying = sources_staying z.account z.extents sources in
         let raws = raws_left z.extents sources in
         let kept : KeepsQueues new.blocks q next (before ++ behind) (others ++ (sources_entries staying ++ (raws ++ rest))) =
@@ -224,6 +229,7 @@ module _ {b : Blocks} {q : Queues} {now next : ℕ} {rows : List Row} {object_at
       (d.gone z sources (subst (λ (a : ℕ). KeepsSources mid.blocks a z sources) (sym i.named) (object_kept i.keeps))) in
       record {
         keeps = object_goes i.keeps refl g;
+        named = (object_leaves i.keeps refl g).named;
         others =
             g.others
             ∙ gone_then mid z.account (charges_of z sources) (item_blocks r) (gone_object r.waiting.object z sources) old i.made.all;

@@ -18,13 +18,14 @@ use Rattle.sdr_base.proofs.WorksLemmas.{looks_works, works_more, works_ok, works
 use Rattle.sdr_list.specs.Calls.{TellsOfList}
 use Rattle.zco_obj.specs.Destroying.{charges_of, gone_object, parts_lines}
 use Rattle.zco_obj.specs.Gone.{NamedSource, going_before, gone_blocks, source_at}
-use Rattle.bp_queue.specs.Expiring.{Expired, ExpireStops, ExpiresAll, ExpiresFirst, Expiry, FirstExpires, FirstGives, FirstStops, KeepsOverdue, SomeOverdue, expire_one, expiry_of, first_lines, gone_with, object_for}
+use Rattle.zco_obj.specs.Uses.{AreNamed}
+use Rattle.bp_queue.specs.Expiring.{Expired, ExpireStops, ExpiresAll, ExpiresFirst, Expiry, FirstExpires, FirstGives, FirstStops, KeepsOverdue, SomeOverdue, expire_one, expiry_of, extents_of, first_lines, gone_with, object_for}
 use Rattle.bp_queue.specs.Kept.{Row, line_element, waiting_of}
 use Rattle.bp_queue.specs.Removing.{item_blocks}
 use Rattle.bp_queue.specs.States.{line_of, overdue, without}
 use Rattle.bp_queue.specs.declared.queues.Queues.{Queues}
 use Rattle.bp_queue.proofs.DueLemmas.{gone_then, later_left, others_due}
-use Rattle.bp_queue.proofs.ExpireLemmas.{Come, counts, done, gone_before, gone_heap}
+use Rattle.bp_queue.proofs.ExpireLemmas.{Come, counts, done, gone_before, gone_heap, together_more}
 use Rattle.bp_queue.proofs.QueueLemmas.{line_list}
 use Rattle.bp_queue.proofs.StateLemmas.{length-line}
 
@@ -72,6 +73,7 @@ module _ {S : Type 0} (m : Ghosts S) (q : Queues) (now : ℕ) where
         left = rows;
         so_far = record { gone = []; sources = sources; rest = rest; heap = m.heap old };
         keeps = subst (λ (h : Heap). KeepsOverdue h.blocks q now next rows object_at sources rest) (sym l.same) k;
+        named = λ acct more n. n;
         others = ap besides l.same ∙ (none_made (m.heap old)).all;
         moves = refl;
         spare = refl;
@@ -175,6 +177,13 @@ module _ {S : Type 0} (m : Ghosts S) (q : Queues) (now : ℕ) where
                   left = without waiting_of r.waiting.object c.left;
                   so_far = expire_one object_at c.so_far r;
                   keeps = e.1.keeps;
+                  named = λ acct more n.
+                      subst (λ (xs : List Row). AreNamed acct (extents_of object_at acct xs ++ more) (expire_one object_at c.so_far r).sources)
+                      (sym behind)
+                      (e.1.named acct (extents_of object_at acct left ++ more)
+                      (subst (λ (es : List ExtentRow). AreNamed acct es c.so_far.sources)
+                      (ap (λ (xs : List Row). extents_of object_at acct xs ++ more) some ∙ together_more object_at acct r left more)
+                      (c.named acct more n)));
                   others =
                       e.1.others
                       ∙ gone_then (m.heap mid) z.account (charges_of z c.so_far.sources) c.so_far.gone (gone_with object_at c.so_far.sources r)
@@ -208,9 +217,9 @@ module _ {S : Type 0} (m : Ghosts S) (q : Queues) (now : ℕ) where
               (c : Come q now next rows object_at sources rest (m.heap old) (m.heap mid) i) (left : List Row) →
               overdue waiting_of now c.left ≡ left →
               FirstExpires left q now next c.left object_at c.so_far.sources c.so_far.rest (m.heap mid) (m.heap new) false →
-              Expired q now next rows (expiry_of now rows object_at sources rest (m.heap old)) (m.heap old) (m.heap new) i
+              Expired q now next rows object_at sources (expiry_of now rows object_at sources rest (m.heap old)) (m.heap old) (m.heap new) i
           by {next} {rows} {object_at} {sources} {rest} c [] none e =
-              subst (λ (h : Heap). Expired q now next rows (expiry_of now rows object_at sources rest (m.heap old)) (m.heap old) h i) (sym e.1)
+              subst (λ (h : Heap). Expired q now next rows object_at sources (expiry_of now rows object_at sources rest (m.heap old)) (m.heap old) h i) (sym e.1)
               (done c none)
           by c (r ∷ left) some e = absurd (let x : false ≡ true = e.0 in cc)
 

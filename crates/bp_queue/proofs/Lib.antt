@@ -22,4 +22,7 @@ pub mod ExpireLemmas
 pub mod FirstDueLemmas
 pub mod GoesLemmas
 pub mod OrderLemmas
+pub mod ReorderLemmas
+pub mod BundleLemmas
+pub mod HandingLemmas
 mod RowsOfQueues

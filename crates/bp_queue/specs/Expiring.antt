@@ -90,9 +90,12 @@ pub record SomeOverdue (heap : Heap) (q : Queues) (now : ℕ) : Type 0 where
   pub room : length (expiry_of now rows object_at sources rest heap).gone ≤ heap.spare
 
 -- Those that were overdue are gone, with their items, and so are their objects; what these charged was given back, and all else
--- stays.
-pub record Expired (q : Queues) (now next : ℕ) (rows : List Row) (e : Expiry) (old new : Heap) (count : ℕ) : Type 0 where
+-- stays. All other extents that named the sources name those that stay, which count them.
+pub record Expired (q : Queues) (now next : ℕ) (rows : List Row) (object_at : ℕ → ObjectRow) (sources : List NamedSource) (e : Expiry)
+    (old new : Heap) (count : ℕ) : Type 0 where
   pub keeps : KeepsQueues new.blocks q next (later_than waiting_of now rows) (sources_entries e.sources ++ e.rest)
+  pub named : (acct : Acct) (more : List ExtentRow) →
+      AreNamed acct (extents_of object_at acct (overdue waiting_of now rows) ++ more) sources → AreNamed acct more e.sources
   pub others : besides new ≡ besides (with_moves e.heap (gave e.gone))
   pub counted : count ≡ length (overdue waiting_of now rows)
   pub step : QueueStep (state_of rows) (Expires now count) (state_of (later_than waiting_of now rows))
@@ -101,7 +104,7 @@ pub record Expired (q : Queues) (now next : ℕ) (rows : List Row) (e : Expiry) 
 pub record ExpiresAll (q : Queues) (now : ℕ) (old new : Heap) (count : ℕ) : Type 0 where
   pub expires : (next : ℕ) (rows : List Row) (object_at : ℕ → ObjectRow) (sources : List NamedSource) (rest : Entries) →
       KeepsOverdue old.blocks q now next rows object_at sources rest →
-      Expired q now next rows (expiry_of now rows object_at sources rest old) old new count
+      Expired q now next rows object_at sources (expiry_of now rows object_at sources rest old) old new count
 
 -- some first ones of the blocks that go were given back
 pub record ExpiresSome (q : Queues) (now : ℕ) (old new : Heap) : Type 0 where
@@ -114,11 +117,14 @@ abbrev pub ExpireStops : Queues → ℕ → Heap → Heap → Stop → Type 0
 ExpireStops q now old new (Refused (refusals.LogFull lines room)) = ExpiresSome q now old new
 ExpireStops q now old new stop = OnlyFault stop
 
--- the first row that is overdue is gone with its item, and its object with its parts; what it charged was given back
+-- The first row that is overdue is gone with its item, and its object with its parts; what it charged was given back. All other
+-- extents that named the sources name those that stay, which count them.
 pub record FirstGone (r : Row) (q : Queues) (now next : ℕ) (rows : List Row) (object_at : ℕ → ObjectRow) (sources : List NamedSource)
     (rest : Entries) (old new : Heap) : Type 0 where
   pub keeps : (let e = expire_one object_at (record { gone = []; sources = sources; rest = rest; heap = old }) r in
       KeepsOverdue new.blocks q now next (without waiting_of r.waiting.object rows) object_at e.sources e.rest)
+  pub named : (acct : Acct) (more : List ExtentRow) → (let z = object_for object_at r in
+      AreNamed acct (together z.account z.extents acct more) sources → AreNamed acct more (sources_staying z.account z.extents sources))
   pub others : (let e = expire_one object_at (record { gone = []; sources = sources; rest = rest; heap = old }) r in
       besides new ≡ besides (with_moves e.heap (gave e.gone)))
 

@@ -10,3 +10,4 @@ pub mod Removing
 pub mod Putting
 pub mod Taking
 pub mod Expiring
+pub mod Bundles

@@ -9,9 +9,10 @@
 //!
 //! Proved: `create`, `put`, `take`, `expire`, `length` and `earliest` do what their rules say of whichever queues are kept, and touch no
 //! other block (`created`, `put`, `taken`, `expired`, `told`). Over any run of calls that weren't stopped, of the objects that were put
-//! just those wait that were neither taken nor overdue at an expiry behind that (`queues_keep`).
+//! just those wait that were neither taken nor overdue at an expiry behind that (`queues_keep`). From a heap without a block or a ticket
+//! on, each call hands on what the next one needs (`bundles_keep`).
 //!
-//! Only tested: nothing yet.
+//! Only tested: that the calls succeed with ample memory, and at which addresses (`test_queue`).
 #![tactic(auto)]
 
 mod class;
@@ -25,7 +26,7 @@ mod taking;
 
 pub use class::Class;
 pub use expiring::expire;
-pub use laws::queues_keep;
+pub use laws::{bundles_keep, queues_keep};
 pub use orders::{EarliestFirst, HighestFirst, Orders};
 pub use putting::{LAST_NUMBER, put};
 pub use queues::{FIRST_NUMBER, Queues, create, earliest, length};

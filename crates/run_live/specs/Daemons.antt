@@ -5,6 +5,7 @@ use Rattle.sdr_base.specs.declared.media.Media.{Ghosts as MediaGhosts}
 use Rattle.sdr_board.specs.Totals.{totals}
 use Rattle.sdr_core.specs.Caused.{EntriesAreCaused, MediaChange, media_change}
 use Rattle.sdr_core.specs.CoreKept.{IsRunOf, RunStart}
+use Rattle.sdr_core.specs.Ended.{StandsEnded}
 use Rattle.sdr_daemon.specs.Scripts.{KeepsToScripts, is_memory_leave}
 use Rattle.run_live.specs.declared.daemons.RanTotals.{RanTotals}
 use Rattle.sdr_disk.specs.declared.disk.Disk.{Ghosts as DiskGhosts}
@@ -31,6 +32,8 @@ pub record RunsOnGround {T : Type 0} (g : Ghosts T) (b : RunStart) (script : Lis
   pub keeps : KeepsToScripts b.told b.first script ran.journal
   -- what a crash leaves is told by the journal
   pub run : IsRunOf g b ran.journal ran.base
+  -- unless the disk failed in an entry, no transaction is open on the ground
+  pub ended : StandsEnded g b ran.journal ran.base
   -- the disk failed just where it did in an entry
   pub failed : ran.failed ≡ not (is_sound ran.journal)
   pub wanting : ran.starved ≡ list_any is_memory_leave ran.journal

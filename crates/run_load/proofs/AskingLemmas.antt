@@ -1,11 +1,15 @@
 -- What a question of a heap comes to.
-use Rattle.std.proofs.Common.{◌≡◌, ◌∙◌, ℕ, List, [], ◌∷◌, ◌++◌, Bool, true, false, inl, inr, refl, sym, ap, subst, true≢false}
-use Rattle.run_load.specs.Asking.{AnswersByRow, AsksOnly, IsAskable, IsQuestion}
+use Rattle.std.specs.Prelude.{IfOk, OnErr, OnOk}
+use Rattle.std.proofs.Common.{◌≡◌, ◌∙◌, ℕ, List, [], ◌∷◌, ◌++◌, Bool, true, false, Result, Ok, Err, inl, inr, refl, sym, ap, subst, true≢false}
+use Rattle.run_load.specs.Asking.{AnswersByRow, AsksOnly, FailsAsked, IsAskable, IsQuestion}
 use Rattle.law_steps.proofs.StepLemmas.{reading_shows, refused_leaves}
+use Rattle.sdr_base.proofs.WrittenLemmas.{rose_later}
+use Rattle.sdr_base.specs.Causes.{Rose}
 use Rattle.sdr_base.specs.Media.{Told}
 use Rattle.sdr_base.specs.Pools.{Pools}
 use Rattle.sdr_base.specs.declared.moves.Move.{Move}
 use Rattle.sdr_base.specs.declared.refusal.Refusal.TheVariants as refusals
+use Rattle.sdr_disk.specs.declared.disk.Disk.{Ghosts as DiskGhosts}
 use Rattle.sdr_machine.specs.Ground.{Ground, Replied, State, Steps, StepsOn}
 use Rattle.sdr_machine.specs.Serving.{Brings, Calls, SomeState}
 use Rattle.sdr_machine.specs.Standing.{GroundState}
@@ -15,7 +19,8 @@ use Rattle.sdr_model.specs.World.{World}
 use Rattle.sdr_model.specs.declared.answer.Reply.{Reply}
 use Rattle.sdr_model.specs.declared.answer.Reply.TheVariants as replies
 use Rattle.sdr_model.specs.declared.call.Call.{Call}
-use Rattle.sdr_run.specs.Quiet.{StaysQuiet}
+use Rattle.sdr_run.proofs.QuietLemmas.{quiet_then}
+use Rattle.sdr_run.specs.Quiet.{IsSame, StaysQuiet}
 use Rattle.sdr_station.specs.Grounded.{Grounded, StandsInMemory}
 use Rattle.std.specs.declared.option.Option.{Option}
 
@@ -73,13 +78,13 @@ module _ {D M : Type 0} (told : Option Told) (call : Call) (reply : Reply) (ques
       row_answers v.now.world s.for.now.world call s.for.moves reply question (step_of v at s)
 
   -- and what it leaves
-  pub asked_only : IsAskable old → new.stopped ≡ false → StaysQuiet old new → AsksOnly old new
-  asked_only ready still quiet =
+  pub asked_only : (d : DiskGhosts D) → IsAskable old → new.stopped ≡ false → new.heap.cells.touched ≡ [] → StaysQuiet d old new → AsksOnly d old new
+  asked_only d ready still none quiet =
       let some = ready.stands in
       let now = brings.each some.for some.holds in
       record {
         still = quiet;
-        ready = record { stands = record { for = now.for; holds = now.holds }; going = still };
+        ready = record { stands = record { for = now.for; holds = now.holds }; going = still; untouched = none };
         each = λ v at.
             let s = brings.each v at in
             record {
@@ -92,30 +97,14 @@ module _ {D M : Type 0} (told : Option Told) (call : Call) (reply : Reply) (ques
             };
       }
 
--- nothing asked
-pub asks_nothing : {D M : Type 0} (g : Grounded D M) → IsAskable g → AsksOnly g g
-asks_nothing g ready = record {
-  still = record { disk = refl; frame = refl; media = refl };
-  ready = ready;
-  each = λ v at. record { for = v; holds = at; tells = record { now = refl; before = refl } };
-}
-
 -- the same world twice but for the bytes shown
 pub shows_twice : (w x y : World) → x ≡ record w { shown = x.shown } → y ≡ record x { shown = y.shown } → y ≡ record w { shown = y.shown }
 shows_twice w x y first second = second ∙ ap (λ (z : World). record z { shown = y.shown }) first
 
--- no call of the disk was made twice
-pub still_then : {D M : Type 0} (a b c : Grounded D M) → StaysQuiet a b → StaysQuiet b c → StaysQuiet a c
-still_then a b c first second = record {
-  disk = second.disk ∙ first.disk;
-  frame = second.frame ∙ first.frame;
-  media = second.media ∙ first.media;
-}
-
 -- one question behind another
-pub asks_then : {D M : Type 0} (a b c : Grounded D M) → AsksOnly a b → AsksOnly b c → AsksOnly a c
-asks_then a b c first second = record {
-  still = still_then a b c first.still second.still;
+pub asks_then : {D M : Type 0} {d : DiskGhosts D} (a b c : Grounded D M) → AsksOnly d a b → AsksOnly d b c → AsksOnly d a c
+asks_then {d = d} a b c first second = record {
+  still = quiet_then d a b c first.still second.still;
   ready = second.ready;
   each = λ v at.
       let s = first.each v at in
@@ -129,3 +118,56 @@ asks_then a b c first second = record {
         };
       };
 }
+
+-- or the disk failed in the second
+pub fails_then : {D M : Type 0} {d : DiskGhosts D} (a b c : Grounded D M) → AsksOnly d a b → FailsAsked d b c → FailsAsked d a c
+fails_then {d = d} a b c first second = record {
+  still = quiet_then d a b c first.still second.still;
+  cause = rose_later (d.faults a.heap.cells.disk) (d.faults b.heap.cells.disk) (d.faults c.heap.cells.disk) first.still.later second.cause;
+}
+
+-- A question by what it was answered.
+module _ {D M E : Type 0} (told : Option Told) (call : Call) (result : Result Reply E) (question : IsQuestion call) (old new : Grounded D M) where
+  -- what is answered
+  pub answers_by : old.stopped ≡ false → IfOk result (λ reply. Brings StandsInMemory old new (Calls told call reply))
+      → IfOk result (λ reply. (v : GroundState) → StandsInMemory old v → AnswersByRow v.now.world call reply)
+  answers_by going = by result
+    where
+      by : (r : Result Reply E) → IfOk r (λ reply. Brings StandsInMemory old new (Calls told call reply))
+          → IfOk r (λ reply. (v : GroundState) → StandsInMemory old v → AnswersByRow v.now.world call reply)
+      by (Ok reply) brings = asked_answers told call reply question old new going brings
+      by (Err e) brings = tt
+
+  -- and what it leaves
+  pub asked_by : (d : DiskGhosts D) → IsAskable old → IfOk result (λ reply. Brings StandsInMemory old new (Calls told call reply))
+      → OnOk result (new.stopped ≡ false) → new.heap.cells.touched ≡ [] → StaysQuiet d old new → OnOk result (AsksOnly d old new)
+  asked_by d ready brings going none quiet = by result brings going
+    where
+      by : (r : Result Reply E) → IfOk r (λ reply. Brings StandsInMemory old new (Calls told call reply)) → OnOk r (new.stopped ≡ false)
+          → OnOk r (AsksOnly d old new)
+      by (Ok reply) brings going = asked_only told call reply question old new ready.going brings d ready going none quiet
+      by (Err e) brings going = tt
+
+-- and where the disk failed
+pub fails_by : {D M T E : Type 0} (d : DiskGhosts D) (result : Result T E) (old new : Grounded D M) → StaysQuiet d old new
+    → OnErr result (Rose (d.faults old.heap.cells.disk) (d.faults new.heap.cells.disk)) → OnErr result (FailsAsked d old new)
+fails_by d (Ok x) old new quiet rose = tt
+fails_by d (Err e) old new quiet rose = record { still = quiet; cause = rose }
+
+-- whether it was answered or the disk failed, the disk was only read
+pub still_by : {D M T E : Type 0} (d : DiskGhosts D) (result : Result T E) (old new : Grounded D M) → OnOk result (AsksOnly d old new)
+    → OnErr result (FailsAsked d old new) → StaysQuiet d old new
+still_by d (Ok x) old new asks fails = asks.still
+still_by d (Err e) old new asks fails = fails.still
+
+-- behind a rolling back that leaves the disk the same, the count rose where it failed
+pub fails_cause : {D M T E : Type 0} (d : DiskGhosts D) (result : Result T E) (old mid new : Grounded D M) → IsSame old mid
+    → OnErr result (FailsAsked d mid new) → OnErr result (Rose (d.faults old.heap.cells.disk) (d.faults new.heap.cells.disk))
+fails_cause d (Ok x) old mid new same fails = tt
+fails_cause {D} d (Err e) old mid new same fails =
+    subst (λ (x : D). Rose (d.faults x) (d.faults new.heap.cells.disk)) same.disk fails.cause
+
+-- what holds in any case holds where a call was stopped
+pub on_err : {T E P : Type 0} (result : Result T E) → P → OnErr result P
+on_err (Ok x) holds = tt
+on_err (Err e) holds = holds

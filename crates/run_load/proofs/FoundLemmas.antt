@@ -55,9 +55,10 @@ list_read w w' object count bytes found same has is =
     ∙ ap (λ (n : ℕ). record { elements = count; bytes = n }) (sym is))
 
 -- a heap that was rolled back can be asked
-pub asks_back : {D M : Type 0} (old new : Grounded D M) → StandsSome old → Brings StandsInMemory old new RollsBack → new.stopped ≡ false → IsAskable new
-asks_back old new some brings going =
-    let s = brings.each some.for some.holds in record { stands = record { for = s.for; holds = s.holds }; going = going }
+pub asks_back : {D M : Type 0} (old new : Grounded D M) → StandsSome old → Brings StandsInMemory old new RollsBack → new.stopped ≡ false
+    → new.heap.cells.touched ≡ [] → IsAskable new
+asks_back old new some brings going none =
+    let s = brings.each some.for some.holds in record { stands = record { for = s.for; holds = s.holds }; going = going; untouched = none }
 
 -- and has the list of the state before the transaction
 pub list_back : {D M : Type 0} (old new : Grounded D M) (list : ListRead) → Brings StandsInMemory old new RollsBack

@@ -13,7 +13,9 @@ use Rattle.sdr_base.specs.Media.{Told}
 use Rattle.sdr_base.specs.declared.media.Media.{Ghosts as MediaGhosts}
 use Rattle.sdr_core.specs.Caused.{MediaChange, SeenMedia, from_to, seen_media}
 use Rattle.sdr_core.specs.CoreKept.{RunStart}
+use Rattle.sdr_disk.specs.Moments.{Reads}
 use Rattle.sdr_disk.specs.declared.disk.Disk.{Ghosts as DiskGhosts}
+use Rattle.sdr_image.specs.Opened.{Holds}
 use Rattle.sdr_load.proofs.RoundLemmas.{round_is_short}
 use Rattle.sdr_load.specs.Rounds.{round_of}
 use Rattle.sdr_load.specs.Schedule.{said_from, script_for}
@@ -102,42 +104,45 @@ module _ {D M : Type 0} (d : DiskGhosts D) (m : MediaGhosts M) (disk : D) (files
       → EndsSo (m.told g.media) (first_on g) rounds ran.journal ran.starved end
   ends_so out out' ran (ends.Summed summary) plays tells =
       let sound = is_sound_of ran.failed (is_sound ran.journal) plays.failed tells.0 in
-      let s = plays.run.rests sound in
-      (sound, tells.1, record { state = s.for.before; after = s.tells; tells = tells.2 s.for s.holds.memory })
+      let s = plays.ended sound in
+      (sound, tells.1, record { state = s.for.before; after = s.tells.after; tells = tells.2 s.for s.holds.memory })
   ends_so out out' ran ends.Starved plays tells = (is_sound_of ran.failed (is_sound ran.journal) plays.failed tells.0, tells.1)
   ends_so out out' ran ends.Failed plays tells = is_broken_of ran.failed (is_sound ran.journal) plays.failed tells
   ends_so out out' ran ends.Unread plays tells = (is_sound_of ran.failed (is_sound ran.journal) plays.failed tells.0, tells.1)
 
   loaded_so : (out out' : Output) (ran : Ran (Grounded D M)) (result : Loaded D M)
       → PlaysOut ground (begins_on m was (script_for rounds) g) (script_for rounds) g out out' ran → result.journal ≡ ran.journal → TellsEnd ran result.end
-      → (result.end ≡ ends.Unread → Rose (d.faults ran.base.heap.cells.disk) (d.faults result.disk)) → result.disk ≡ ran.base.heap.cells.disk
-      → result.media ≡ ran.base.media → d.size result.disk ≡ was.size → StaysAsHanded was.bytes (d.bytes result.disk) ran.base.heap.cells.frame
+      → (result.end ≡ ends.Unread → Rose (d.faults ran.base.heap.cells.disk) (d.faults result.disk))
+      → Reads d.bytes d.tells_crashes d.moment d.may_hold_after ran.base.heap.cells.disk result.disk
+      → d.faults ran.base.heap.cells.disk ≤ d.faults result.disk
+      → result.media ≡ ran.base.media → Holds d.bytes ran.base.heap.cells → d.tells_crashes result.disk ≡ was.tells → StaysAsHanded was.bytes (d.bytes result.disk) ran.base.heap.cells.frame
       → d.moment result.disk ≡ ran.base.moment → LoadsOn d m rounds disk files result
-  loaded_so out out' ran result plays journal_is tells fault on media_is size stays seen = record {
+  loaded_so out out' ran result plays journal_is tells cause reads later media_is holds told stays seen = record {
     starved = ran.starved;
+    cause = λ is. rose_later (d.faults disk) (d.faults ran.base.heap.cells.disk) (d.faults result.disk)
+        (subst (λ (w : HandedDisk). w.faults ≤ d.faults ran.base.heap.cells.disk) handed plays.run.counted) (cause is);
     on_heap = subst (λ (journal : List Entry). RanOn d m (load_daemons rounds) disk result.disk files journal
         (λ first. RunsRounds (from_to (shows files) (shows result.media)) first rounds journal ran.starved
         × EndsSo (m.told files) first rounds journal ran.starved result.end)) (sym journal_is)
         (ran_opened d m disk files (script_for rounds) g condition met o was handed ran.journal ran.base result.disk
         (λ first. RunsRounds (from_to (shows files) (shows result.media)) first rounds ran.journal ran.starved
         × EndsSo (m.told files) first rounds ran.journal ran.starved result.end)
-        plays.run on size stays seen (
+        plays.run plays.ended reads later holds told stays seen (
           subst (λ (x : M). RunsRounds (from_to (shows x) (shows result.media)) (first_on g) rounds ran.journal ran.starved) o.with_media
               (subst (λ (x : M). RunsRounds (from_to (shows g.media) (shows x)) (first_on g) rounds ran.journal ran.starved) (sym media_is)
               (unprinted (from_to (shows g.media) (shows ran.base.media)) (first_on g) (script_for rounds) ran.journal ran.starved _ plays.replays)),
           subst (λ (told : Option Told). EndsSo told (first_on g) rounds ran.journal ran.starved result.end) (ap m.told o.with_media)
               (ends_so out out' ran result.end plays tells),
         ));
-    cause = λ unread.
-        let same : was.faults ≡ d.faults disk = ap (λ (w : HandedDisk). w.faults) handed in
-        rose_later (d.faults disk) (d.faults ran.base.heap.cells.disk) (d.faults result.disk) (omega (arith, same, plays.run.counted)) (fault unread);
   }
 
   -- what a load has come to
   pub loaded : (script : List ScriptStep) → script ≡ script_for rounds → (out out' : Output) (ran : Ran (Grounded D M)) (result : Loaded D M)
       → PlaysOut ground (begins_on m was script g) script g out out' ran → result.journal ≡ ran.journal → TellsEnd ran result.end
-      → (result.end ≡ ends.Unread → Rose (d.faults ran.base.heap.cells.disk) (d.faults result.disk)) → result.disk ≡ ran.base.heap.cells.disk
-      → result.media ≡ ran.base.media → d.size result.disk ≡ was.size → StaysAsHanded was.bytes (d.bytes result.disk) ran.base.heap.cells.frame
+      → (result.end ≡ ends.Unread → Rose (d.faults ran.base.heap.cells.disk) (d.faults result.disk))
+      → Reads d.bytes d.tells_crashes d.moment d.may_hold_after ran.base.heap.cells.disk result.disk
+      → d.faults ran.base.heap.cells.disk ≤ d.faults result.disk
+      → result.media ≡ ran.base.media → Holds d.bytes ran.base.heap.cells → d.tells_crashes result.disk ≡ was.tells → StaysAsHanded was.bytes (d.bytes result.disk) ran.base.heap.cells.frame
       → d.moment result.disk ≡ ran.base.moment → LoadsOn d m rounds disk files result
   loaded script is out out' ran result plays =
       loaded_so out out' ran result (subst (λ (s : List ScriptStep). PlaysOut ground (begins_on m was s g) s g out out' ran) is plays)
@@ -146,5 +151,13 @@ module _ {D M : Type 0} (d : DiskGhosts D) (m : MediaGhosts M) (disk : D) (files
 pub sound_stands : {D M : Type 0} (d : DiskGhosts D) (m : MediaGhosts M) (condition : Type 0) (b : RunStart) (script : List ScriptStep) (before : Grounded D M)
     (out out' : Output) (ran : Ran (Grounded D M)) → PlaysOut (ground_of d m condition) b script before out out' ran → ran.failed ≡ false → StandsSome ran.base
 sound_stands d m condition b script before out out' ran plays whole =
-    let s = plays.run.rests (is_sound_of ran.failed (is_sound ran.journal) plays.failed whole) in
+    let s = plays.ended (is_sound_of ran.failed (is_sound ran.journal) plays.failed whole) in
     record { for = s.for; holds = s.holds.memory }
+
+-- and no line is touched
+pub sound_untouched : {D M : Type 0} (d : DiskGhosts D) (m : MediaGhosts M) (condition : Type 0) (b : RunStart) (script : List ScriptStep) (before : Grounded D M)
+    (out out' : Output) (ran : Ran (Grounded D M)) → PlaysOut (ground_of d m condition) b script before out out' ran → ran.failed ≡ false
+    → ran.base.heap.cells.touched ≡ []
+sound_untouched d m condition b script before out out' ran plays whole =
+    let s = plays.ended (is_sound_of ran.failed (is_sound ran.journal) plays.failed whole) in
+    s.holds.memory.untouched (ap (λ (x : State). x.demand) s.tells.closed ∙ s.holds.memory.before.demand)

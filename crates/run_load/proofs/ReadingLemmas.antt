@@ -12,6 +12,7 @@ use Rattle.run_load.specs.Asking.{AsksOnly, ShowsOther}
 use Rattle.run_load.specs.Listed.{bytes_named, elements_at, list_at, raw_bytes_at}
 use Rattle.run_load.specs.Reading.{HasList, ReadsTo}
 use Rattle.law_steps.proofs.ListShapes.{no_element}
+use Rattle.sdr_disk.specs.declared.disk.Disk.{Ghosts as DiskGhosts}
 use Rattle.sdr_machine.specs.Serving.{SomeState}
 use Rattle.sdr_machine.specs.Standing.{GroundState}
 use Rattle.sdr_model.specs.Limits.{longest_raw}
@@ -79,8 +80,8 @@ take_next w elements place within =
     ∙ sum_by_push (λ (x : Element). raw_bytes_at w x.datum) (take place elements) e
     ∙ ap (λ (d : ℕ). bytes_named w (take place elements) + raw_bytes_at w d) (sym datum)
 
-module _ {D M : Type 0} (list count : ℕ) (start now : Grounded D M) (place element bytes : ℕ)
-    (reads : ReadsTo list count place element bytes start now) (before : place < count) where
+module _ {D M : Type 0} {d : DiskGhosts D} (list count : ℕ) (start now : Grounded D M) (place element bytes : ℕ)
+    (reads : ReadsTo d list count place element bytes start now) (before : place < count) where
   -- the element at the place is found in whatever the heap stands for, and it stands for the same world as at the start
   record AtElement (v : GroundState) (row : SdrList) : Type 0 where
     within : place < length row.elements
@@ -104,12 +105,12 @@ module _ {D M : Type 0} (list count : ℕ) (start now : Grounded D M) (place ele
   -- behind the element at the place
   pub reads_next : (mid more new : Grounded D M) (datum length_of next : ℕ)
       → ((v : GroundState) (s : Spot) → StandsInMemory now v → spot_of v.now.world element ≡ Some s → datum ≡ datum_at s.row.elements s.place)
-      → AsksOnly now mid
+      → AsksOnly d now mid
       → ((v : GroundState) → StandsInMemory mid v → length_of ≡ raw_bytes_at v.now.world datum) → length_of ≤ longest_raw
-      → AsksOnly mid more
+      → AsksOnly d mid more
       → ((v : GroundState) (s : Spot) → StandsInMemory more v → spot_of v.now.world element ≡ Some s → next ≡ element_addr s.row.elements (s.place + 1))
-      → AsksOnly more new
-      → ReadsTo list count (place + 1) next (bytes + length_of) start new
+      → AsksOnly d more new
+      → ReadsTo d list count (place + 1) next (bytes + length_of) start new
   reads_next mid more new datum length_of next datum_told asked_data raw few asked_raw follows asked_next = record {
     asks = asks_then start now new reads.asks (asks_then now mid new asked_data (asks_then mid more new asked_raw asked_next));
     each = λ v at has.
@@ -146,9 +147,9 @@ few_counted g v list at told is = subst (λ (o : Option ℕ). IfSome o (λ count
     by (Some row) there = few_in_list g v list row at there
 
 -- before the first place
-pub reads_first : {D M : Type 0} (list count : ℕ) (start now : Grounded D M) (first : ℕ) → AsksOnly start now
+pub reads_first : {D M : Type 0} {d : DiskGhosts D} (list count : ℕ) (start now : Grounded D M) (first : ℕ) → AsksOnly d start now
     → ((v : GroundState) (row : SdrList) → StandsInMemory start v → list_at v.now.world list ≡ Some row → first ≡ element_addr row.elements 0)
-    → ReadsTo list count 0 first 0 start now
+    → ReadsTo d list count 0 first 0 start now
 reads_first list count start now first asks is = record {
   asks = asks;
   each = λ v at has. record {
@@ -159,7 +160,7 @@ reads_first list count start now first asks is = record {
 }
 
 -- behind the last place
-pub reads_all : {D M : Type 0} (list count place element bytes : ℕ) (start now : Grounded D M) → ReadsTo list count place element bytes start now
+pub reads_all : {D M : Type 0} {d : DiskGhosts D} (list count place element bytes : ℕ) (start now : Grounded D M) → ReadsTo d list count place element bytes start now
     → count ≤ place → (v : GroundState) → StandsInMemory start v → HasList list count v.now.world
     → bytes ≡ bytes_named v.now.world (elements_at v.now.world list)
 reads_all list count place element bytes start now reads all v at has =

@@ -1,6 +1,8 @@
 -- What a heap answers to a question, and what the question leaves.
-use Rattle.std.specs.Prelude.{◌≡◌, ℕ, Bool, true, false, Option, None, Some}
+use Rattle.std.specs.Prelude.{◌≡◌, ℕ, Bool, true, false, [], Option, None, Some}
 use Rattle.law_steps.specs.Shows.{ShowsOnly}
+use Rattle.sdr_base.specs.Causes.{Rose}
+use Rattle.sdr_disk.specs.declared.disk.Disk.{Ghosts as DiskGhosts}
 use Rattle.sdr_machine.specs.Serving.{SomeState}
 use Rattle.sdr_machine.specs.Standing.{GroundState}
 use Rattle.sdr_model.specs.Reading.{is_reading, reads_media}
@@ -25,22 +27,28 @@ pub record AnswersByRow (w : World) (call : Call) (reply : Reply) : Type 0 where
   pub row : ByRow w outcome call
   pub told : outcome.reply ≡ reply
 
--- The heap in memory stands for something, and questions can be asked of it.
+-- The heap in memory stands for something, questions can be asked of it, and its transaction has touched no line.
 pub record IsAskable {D M : Type 0} (g : Grounded D M) : Type 0 where
   pub stands : StandsSome g
   pub going : g.stopped ≡ false
+  pub untouched : g.heap.cells.touched ≡ []
 
 -- the world is the same but for the bytes that it shows, and so is the one before the transaction
 pub record ShowsOther (v v' : GroundState) : Type 0 where
   pub now : v'.now.world ≡ record v.now.world { shown = v'.now.world.shown }
   pub before : v'.before ≡ v.before
 
--- Questions were asked of a heap: whatever it stood for, it stands for the same but for the bytes shown. No call of the disk was made, and
--- no media were asked.
-pub record AsksOnly {D M : Type 0} (old new : Grounded D M) : Type 0 where
-  pub still : StaysQuiet old new
+-- Questions were answered by a heap: whatever it stood for, it stands for the same but for the bytes shown, and others can be asked. The disk
+-- was only read, and no media were asked.
+pub record AsksOnly {D M : Type 0} (d : DiskGhosts D) (old new : Grounded D M) : Type 0 where
+  pub still : StaysQuiet d old new
   pub ready : IsAskable new
   pub each : (v : GroundState) → StandsInMemory old v → SomeState StandsInMemory new (ShowsOther v)
+
+-- The disk failed in a question of a heap, and its count of faults rose. It was only read, and no media were asked.
+pub record FailsAsked {D M : Type 0} (d : DiskGhosts D) (old new : Grounded D M) : Type 0 where
+  pub still : StaysQuiet d old new
+  pub cause : Rose (d.faults old.heap.cells.disk) (d.faults new.heap.cells.disk)
 
 -- the address in a reply, if it is one
 abbrev pub addr_in : Reply → Option ℕ

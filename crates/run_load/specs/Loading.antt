@@ -38,7 +38,7 @@ pub record SumsUp (told : Option Told) (daemons : List ℕ) (first : State) (jou
   pub tells : P (summary_of journal state.world)
 
 -- How a load of so many rounds ended, by its journal, and by whether memory was wanting. It is summed up where it was not, and the disk failed
--- in no entry, unless the disk failed as its list was read.
+-- in no entry, nor as the list was read.
 abbrev pub EndsSo : Option Told → State → ℕ → List Entry → Bool → LoadEnd → Type 0
 EndsSo told first rounds journal starved (ends.Summed summary) =
     (is_sound journal ≡ true) × (starved ≡ false) × SumsUp told (load_daemons rounds) first journal (λ s. summary ≡ s)
@@ -46,13 +46,13 @@ EndsSo told first rounds journal starved ends.Starved = (is_sound journal ≡ tr
 EndsSo told first rounds journal starved ends.Failed = is_sound journal ≡ false
 EndsSo told first rounds journal starved ends.Unread = (is_sound journal ≡ true) × (starved ≡ false)
 
--- A load of so many rounds was run on the heap of a disk, from the state that was opened, and ended so.
+-- A load of so many rounds was run on the heap of a disk, from the state that was opened, and ended so. Where the list wasn't read, the
+-- disk's count of faults rose.
 pub record LoadsOn {D M : Type 0} (d : DiskGhosts D) (m : MediaGhosts M) (rounds : ℕ) (disk : D) (files : M) (result : Loaded D M) : Type 0 where
   pub starved : Bool
   pub on_heap : RanOn d m (load_daemons rounds) disk result.disk files result.journal
       (λ first. RunsRounds (media_change m.told m.faults m.short files result.media) first rounds result.journal starved
       × EndsSo (m.told files) first rounds result.journal starved result.end)
-  -- where the disk failed as the list was read, its count of faults rose
   pub cause : result.end ≡ ends.Unread → Rose (d.faults disk) (d.faults result.disk)
 
 -- how a run is told to have ended that has come to this

@@ -1,7 +1,7 @@
 // What is asked of a heap that was run on, by reading calls.
-ghost use Rattle.std.specs.Prelude.{◌≡◌, ◌≤◌, ◌+◌, ◌^◌, ℕ, List, IfSome, Some, is_some, length};
+ghost use Rattle.std.specs.Prelude.{◌≡◌, ◌≤◌, ◌+◌, ◌^◌, ℕ, List, IfOk, IfSome, OnErr, OnOk, Some, is_some, length};
 ghost use Rattle.std.specs.Option.{option_map};
-ghost use Rattle.run_load.specs.Asking.{AnswersByRow, AsksOnly, IsAskable, IsQuestion};
+ghost use Rattle.run_load.specs.Asking.{AnswersByRow, AsksOnly, FailsAsked, IsAskable, IsQuestion};
 ghost use Rattle.run_load.specs.Asking.{addr_in, object_in, tells_bytes, value_in};
 ghost use Rattle.run_load.specs.Listed.{list_at, load_name, load_object, raw_bytes_at};
 ghost use Rattle.sdr_machine.specs.Standing.{GroundState};
@@ -14,6 +14,7 @@ ghost use Rattle.sdr_station.specs.Grounded.{StandsInMemory};
 
 use sdr_base::Media;
 use sdr_disk::Disk;
+use sdr_machine::Fault;
 use sdr_model::{Call, Reply};
 use sdr_run::{HandedGround, HandedIn};
 
@@ -55,12 +56,16 @@ fn tells_bytes(reply: Reply) -> bool
 }
 
 // Asks a question of a heap.
-fn ask<D: Disk, M: Media, J: HandedIn>(base: &mut HandedGround<D, M, J>, question: &Call) -> Reply
+fn ask<D: Disk, M: Media, J: HandedIn>(
+    base: &mut HandedGround<D, M, J>,
+    question: &Call,
+) -> Result<Reply, Fault>
     requires question { IsQuestion question.now }
     requires ready { IsAskable base.old }
-    ensures answers { (v : GroundState) → StandsInMemory base.old v →
-        AnswersByRow v.now.world question.now result }
-    ensures asks { AsksOnly base.old base.new }
+    ensures answers { IfOk result (λ reply. (v : GroundState) → StandsInMemory base.old v →
+        AnswersByRow v.now.world question.now reply) }
+    ensures asks { OnOk result (AsksOnly D.Disk base.old base.new) }
+    ensures fails { OnErr result (FailsAsked D.Disk base.old base.new) }
 {
     base.read(question)
 }
@@ -69,89 +74,126 @@ fn ask<D: Disk, M: Media, J: HandedIn>(base: &mut HandedGround<D, M, J>, questio
 pub fn find<D: Disk, M: Media, J: HandedIn>(
     base: &mut HandedGround<D, M, J>,
     question: &Call,
-) -> Option<u64>
+) -> Result<Option<u64>, Fault>
     requires finds { question.now ≡ Call.Find load_name }
     requires ready { IsAskable base.old }
-    ensures found { (v : GroundState) → StandsInMemory base.old v → result ≡ load_object v.now.world }
-    ensures asks { AsksOnly base.old base.new }
+    ensures found { IfOk result (λ found. (v : GroundState) → StandsInMemory base.old v →
+        found ≡ load_object v.now.world) }
+    ensures asks { OnOk result (AsksOnly D.Disk base.old base.new) }
+    ensures fails { OnErr result (FailsAsked D.Disk base.old base.new) }
 {
-    object_in(ask(base, question))
+    let reply = ask(base, question)?;
+    Ok(object_in(reply))
 }
 
 /// How many elements the list at an address has, if there is one.
 pub fn count<D: Disk, M: Media, J: HandedIn>(
     base: &mut HandedGround<D, M, J>,
     list: u64,
-) -> Option<u64>
+) -> Result<Option<u64>, Fault>
     requires ready { IsAskable base.old }
-    ensures counted { (v : GroundState) → StandsInMemory base.old v →
-        result ≡ option_map (λ (row : SdrList). length row.elements) (list_at v.now.world list) }
-    ensures few { IfSome result (λ count. count ≤ 2 ^ 32) }
-    ensures asks { AsksOnly base.old base.new }
+    ensures counted { IfOk result (λ counted. (v : GroundState) → StandsInMemory base.old v →
+        counted ≡ option_map (λ (row : SdrList). length row.elements)
+        (list_at v.now.world list)) }
+    ensures few { IfOk result (λ counted. IfSome counted (λ count. count ≤ 2 ^ 32)) }
+    ensures asks { OnOk result (AsksOnly D.Disk base.old base.new) }
+    ensures fails { OnErr result (FailsAsked D.Disk base.old base.new) }
 {
-    value_in(ask(base, &Call::ListLength(list)))
+    let reply = ask(base, &Call::ListLength(list))?;
+    Ok(value_in(reply))
 }
 
 /// The address of the first element of a list, 0 where it has none.
-pub fn first<D: Disk, M: Media, J: HandedIn>(base: &mut HandedGround<D, M, J>, list: u64) -> u64
+pub fn first<D: Disk, M: Media, J: HandedIn>(
+    base: &mut HandedGround<D, M, J>,
+    list: u64,
+) -> Result<u64, Fault>
     requires ready { IsAskable base.old }
-    ensures first { (v : GroundState) (row : SdrList) → StandsInMemory base.old v →
-        list_at v.now.world list ≡ Some row → result ≡ element_addr row.elements 0 }
-    ensures asks { AsksOnly base.old base.new }
+    ensures first { IfOk result (λ first. (v : GroundState) (row : SdrList) →
+        StandsInMemory base.old v → list_at v.now.world list ≡ Some row →
+        first ≡ element_addr row.elements 0) }
+    ensures asks { OnOk result (AsksOnly D.Disk base.old base.new) }
+    ensures fails { OnErr result (FailsAsked D.Disk base.old base.new) }
 {
-    addr_in(ask(base, &Call::First(list))).unwrap_or(0)
+    let reply = ask(base, &Call::First(list))?;
+    Ok(addr_in(reply).unwrap_or(0))
 }
 
 /// The address of the element behind another, 0 where that is the last one.
-pub fn next<D: Disk, M: Media, J: HandedIn>(base: &mut HandedGround<D, M, J>, element: u64) -> u64
+pub fn next<D: Disk, M: Media, J: HandedIn>(
+    base: &mut HandedGround<D, M, J>,
+    element: u64,
+) -> Result<u64, Fault>
     requires ready { IsAskable base.old }
-    ensures next { (v : GroundState) (spot : Spot) → StandsInMemory base.old v →
-        spot_of v.now.world element ≡ Some spot →
-        result ≡ element_addr spot.row.elements (spot.place + 1) }
-    ensures asks { AsksOnly base.old base.new }
+    ensures next { IfOk result (λ next. (v : GroundState) (spot : Spot) →
+        StandsInMemory base.old v → spot_of v.now.world element ≡ Some spot →
+        next ≡ element_addr spot.row.elements (spot.place + 1)) }
+    ensures asks { OnOk result (AsksOnly D.Disk base.old base.new) }
+    ensures fails { OnErr result (FailsAsked D.Disk base.old base.new) }
 {
-    addr_in(ask(base, &Call::Next(element))).unwrap_or(0)
+    let reply = ask(base, &Call::Next(element))?;
+    Ok(addr_in(reply).unwrap_or(0))
 }
 
 /// The data of an element.
-pub fn datum<D: Disk, M: Media, J: HandedIn>(base: &mut HandedGround<D, M, J>, element: u64) -> u64
+pub fn datum<D: Disk, M: Media, J: HandedIn>(
+    base: &mut HandedGround<D, M, J>,
+    element: u64,
+) -> Result<u64, Fault>
     requires ready { IsAskable base.old }
-    ensures datum { (v : GroundState) (spot : Spot) → StandsInMemory base.old v →
-        spot_of v.now.world element ≡ Some spot →
-        result ≡ datum_at spot.row.elements spot.place }
-    ensures asks { AsksOnly base.old base.new }
+    ensures datum { IfOk result (λ datum. (v : GroundState) (spot : Spot) →
+        StandsInMemory base.old v → spot_of v.now.world element ≡ Some spot →
+        datum ≡ datum_at spot.row.elements spot.place) }
+    ensures asks { OnOk result (AsksOnly D.Disk base.old base.new) }
+    ensures fails { OnErr result (FailsAsked D.Disk base.old base.new) }
 {
-    value_in(ask(base, &Call::Datum(element))).unwrap_or(0)
+    let reply = ask(base, &Call::Datum(element))?;
+    Ok(value_in(reply).unwrap_or(0))
 }
 
 // Whether a raw object is at an address. Of all things a raw object alone answers a call that reads bytes from a place on.
-fn is_raw<D: Disk, M: Media, J: HandedIn>(base: &mut HandedGround<D, M, J>, addr: u64) -> bool
+fn is_raw<D: Disk, M: Media, J: HandedIn>(
+    base: &mut HandedGround<D, M, J>,
+    addr: u64,
+) -> Result<bool, Fault>
     requires ready { IsAskable base.old }
-    ensures raw { (v : GroundState) → StandsInMemory base.old v →
-        result ≡ is_some (as_raw (thing_at v.now.world addr)) }
-    ensures asks { AsksOnly base.old base.new }
+    ensures raw { IfOk result (λ raw. (v : GroundState) → StandsInMemory base.old v →
+        raw ≡ is_some (as_raw (thing_at v.now.world addr))) }
+    ensures asks { OnOk result (AsksOnly D.Disk base.old base.new) }
+    ensures fails { OnErr result (FailsAsked D.Disk base.old base.new) }
 {
-    tells_bytes(ask(base, &Call::Read(addr, 0, 0)))
+    let reply = ask(base, &Call::Read(addr, 0, 0))?;
+    Ok(tells_bytes(reply))
 }
 
 // How many bytes the raw object at an address has.
-fn raw_length<D: Disk, M: Media, J: HandedIn>(base: &mut HandedGround<D, M, J>, addr: u64) -> u64
+fn raw_length<D: Disk, M: Media, J: HandedIn>(
+    base: &mut HandedGround<D, M, J>,
+    addr: u64,
+) -> Result<u64, Fault>
     requires ready { IsAskable base.old }
-    ensures long { (v : GroundState) (bytes : List ℕ) → StandsInMemory base.old v →
-        as_raw (thing_at v.now.world addr) ≡ Some bytes → result ≡ length bytes }
-    ensures asks { AsksOnly base.old base.new }
+    ensures long { IfOk result (λ long. (v : GroundState) (bytes : List ℕ) →
+        StandsInMemory base.old v → as_raw (thing_at v.now.world addr) ≡ Some bytes →
+        long ≡ length bytes) }
+    ensures asks { OnOk result (AsksOnly D.Disk base.old base.new) }
+    ensures fails { OnErr result (FailsAsked D.Disk base.old base.new) }
 {
-    value_in(ask(base, &Call::Length(addr))).unwrap_or(0)
+    let reply = ask(base, &Call::Length(addr))?;
+    Ok(value_in(reply).unwrap_or(0))
 }
 
 /// How many bytes the raw object at an address has, 0 where there is none.
-pub fn raw_bytes<D: Disk, M: Media, J: HandedIn>(base: &mut HandedGround<D, M, J>, addr: u64) -> u64
+pub fn raw_bytes<D: Disk, M: Media, J: HandedIn>(
+    base: &mut HandedGround<D, M, J>,
+    addr: u64,
+) -> Result<u64, Fault>
     requires ready { IsAskable base.old }
-    ensures bytes { (v : GroundState) → StandsInMemory base.old v →
-        result ≡ raw_bytes_at v.now.world addr }
-    ensures few { result ≤ longest_raw }
-    ensures asks { AsksOnly base.old base.new }
+    ensures bytes { IfOk result (λ bytes. (v : GroundState) → StandsInMemory base.old v →
+        bytes ≡ raw_bytes_at v.now.world addr) }
+    ensures few { IfOk result (λ bytes. bytes ≤ longest_raw) }
+    ensures asks { OnOk result (AsksOnly D.Disk base.old base.new) }
+    ensures fails { OnErr result (FailsAsked D.Disk base.old base.new) }
 {
-    let raw = is_raw(base, addr);
-    if raw { raw_length(base, addr) } else { 0 }
+    let raw = is_raw(base, addr)?;
+    if raw { raw_length(base, addr) } else { Ok(0) }
 }

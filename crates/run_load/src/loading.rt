@@ -1,8 +1,10 @@
 // A load that runs on the heap of a disk.
-ghost use Rattle.std.specs.Prelude.{◌≡◌, ◌≤◌, ◌↔◌, IfErr, IfOk, false, filter, length, nat_le};
+ghost use Rattle.std.specs.Prelude.{◌≡◌, ◌≤◌, ◌↔◌, [], IfErr, IfOk, false, filter, length, nat_le};
 ghost use Rattle.run_load.specs.Listed.{load_name};
 ghost use Rattle.run_load.specs.Loading.{LoadsOn, TellsEnd, load_daemons};
 ghost use Rattle.sdr_base.specs.Causes.{Rose};
+ghost use Rattle.sdr_disk.specs.Moments.{Reads};
+ghost use Rattle.sdr_image.specs.Opened.{Holds};
 ghost use Rattle.sdr_load.specs.Schedule.{script_for};
 ghost use Rattle.sdr_run.specs.Handed.{StaysAsHanded, handed_as};
 ghost use Rattle.sdr_run.specs.Quiet.{StaysQuiet};
@@ -14,6 +16,7 @@ use crate::{Summary, read_list};
 use sdr_base::{Bytes, IdleSink, Media, NoMemory};
 use sdr_disk::Disk;
 use sdr_load::{LoadSteps, MOST_ROUNDS, daemons_of_loads};
+use sdr_machine::Fault;
 use sdr_model::{Call, Journal};
 use sdr_run::{HandedGround, HandedIn, Ran, open_handed, play_recorded, shut_unrun};
 use sdr_station::Shut;
@@ -29,7 +32,7 @@ pub enum LoadEnd {
     Starved,
     /// The disk failed in an entry.
     Failed,
-    /// The disk failed as what stands was read.
+    /// All of its steps were made, and the disk failed in no entry, but as the list was read.
     Unread,
 }
 
@@ -106,10 +109,12 @@ fn end_of<D: Disk, M: Media, J: HandedIn>(
 ) -> LoadEnd
     requires finds { question.now ≡ Call.Find load_name }
     requires stands { ran.old.failed ≡ false → StandsSome ran.old.base }
+    requires untouched { ran.old.failed ≡ false → ran.old.base.heap.cells.touched ≡ [] }
     ensures end { TellsEnd ran.old result }
-    ensures fault { result ≡ LoadEnd.Unread → Rose (D.faults ran.old.base.heap.cells.disk)
+    ensures cause { result ≡ LoadEnd.Unread → Rose (D.faults ran.old.base.heap.cells.disk)
         (D.faults ran.new.base.heap.cells.disk) }
-    ensures still { StaysQuiet ran.old.base ran.new.base }
+    ensures still { StaysQuiet D.Disk ran.old.base ran.new.base }
+    ensures holds { Holds D.bytes ran.new.base.heap.cells → Holds D.bytes ran.old.base.heap.cells }
     ensures others { ran.new ≡ record ran.old { base = ran.new.base } }
     ensures seen { D.moment ran.new.base.heap.cells.disk ≡ ran.new.base.moment
         → D.moment ran.new.base.heap.cells.disk ≡ ran.old.base.moment }
@@ -122,7 +127,7 @@ fn end_of<D: Disk, M: Media, J: HandedIn>(
     }
     match read_list(&mut ran.base, question) {
         Ok(list) => LoadEnd::Summed(Summary::of(ran.journal.as_slice(), list)),
-        Err(_) => LoadEnd::Unread,
+        Err(Fault) => LoadEnd::Unread,
     }
 }
 
@@ -133,14 +138,18 @@ fn sum_up<D: Disk, M: Media, J: HandedIn>(
 ) -> Loaded<D, M>
     requires finds { question.now ≡ Call.Find load_name }
     requires stands { ran.failed ≡ false → StandsSome ran.base }
+    requires untouched { ran.failed ≡ false → ran.base.heap.cells.touched ≡ [] }
     ensures journal { result.journal ≡ ran.journal }
     ensures end { TellsEnd ran result.end }
-    ensures fault { result.end ≡ LoadEnd.Unread → Rose (D.faults ran.base.heap.cells.disk)
+    ensures cause { result.end ≡ LoadEnd.Unread → Rose (D.faults ran.base.heap.cells.disk)
         (D.faults result.disk) }
-    ensures disk { result.disk ≡ ran.base.heap.cells.disk }
+    ensures reads { Reads D.bytes D.tells_crashes D.moment D.may_hold_after
+        ran.base.heap.cells.disk result.disk }
+    ensures later { D.faults ran.base.heap.cells.disk ≤ D.faults result.disk }
     ensures media { result.media ≡ ran.base.media }
-    ensures size { D.size result.disk ≡ J.was.size }
+    ensures tells { D.tells_crashes result.disk ≡ J.was.tells }
     ensures stays { StaysAsHanded J.was.bytes (D.bytes result.disk) ran.base.heap.cells.frame }
+    ensures holds { Holds D.bytes ran.base.heap.cells }
     ensures seen { D.moment result.disk ≡ ran.base.moment }
 {
     let end = end_of(&mut ran, question);

@@ -14,7 +14,7 @@ use Rattle.sdr_base.specs.Catalogue.{name_addr}
 use Rattle.sdr_base.specs.Linked.{first_of, last_of}
 use Rattle.sdr_base.specs.Roots.{root_words, roots_by}
 use Rattle.sdr_base.specs.Stored.{number_at}
-use Rattle.sdr_base.specs.declared.control.TheConstants.{INBOUND, OUTBOUND}
+use Rattle.sdr_base.specs.declared.control.TheConstants.{INBOUND, OUTBOUND, VERSION}
 use Rattle.sdr_model.specs.Accounts.{most_amount}
 use Rattle.sdr_model.specs.Amounts.{amounts_by, are_within}
 use Rattle.sdr_base.specs.declared.account.Acct.TheVariants as accts
@@ -36,7 +36,7 @@ one_of false b P is one other = other is
 -- the control words of a world from the catalogue's on
 abbrev words_of : World → List ℕ
 words_of w =
-    root_words (first_of name_addr 0 (map name_row w.names)) (last_of name_addr 0 (map name_row w.names)) (account_roots w accts.Inbound)
+    root_words 0 (first_of name_addr 0 (map name_row w.names)) (last_of name_addr 0 (map name_row w.names)) (account_roots w accts.Inbound)
     (account_roots w accts.Outbound) w.accounts.next
 
 -- large blocks end at whole words, so they begin at one
@@ -125,8 +125,8 @@ module _ (bytes : List ℕ) (w : World) (P : Pools) (s : StandsForWhole bytes w 
   spare : (word : ℕ) → word < 128 → is_spare word ≡ true → (control_word bytes word == 0) ≡ true
   unfolding roots_by
   spare word below is =
-      one_of (word == 91) (nat_lt 108 word) ((control_word bytes word == 0) ≡ true) is
-      (λ e. eq-eqb _ _ (ap (control_word bytes) (eqb-true word 91 e) ∙ root 91 (omega arith) (omega arith)))
+      one_of (word == VERSION) (nat_lt 108 word) ((control_word bytes word == 0) ≡ true) is
+      (λ e. eq-eqb _ _ (ap (control_word bytes) (eqb-true word VERSION e) ∙ root VERSION (omega arith) (omega arith)))
       (λ e. let least = ltb-true 108 word e in
       let k : word - 89 ≡
       suc (suc (suc (suc (suc (suc (suc (suc (suc (suc (suc (suc (suc (suc (suc (suc (suc (suc (suc (suc (word - 109)))))))))))))))))))) = omega (arith, least) in

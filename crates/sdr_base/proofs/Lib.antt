@@ -9,6 +9,7 @@ pub mod GaveLemmas
 pub mod HeapLemmas
 pub mod KeptPoolsLemmas
 pub mod LayoutLemmas
+pub mod LeavingLemmas
 pub mod LinkedLemmas
 pub mod MakingLemmas
 pub mod MemoryCellsLemmas
@@ -23,6 +24,7 @@ pub mod StandingLemmas
 pub mod StartBitsLemmas
 pub mod StoredLemmas
 pub mod TransactionLemmas
+pub mod WithinLemmas
 pub mod WorksLemmas
 pub mod WritingLemmas
 pub mod WrittenLemmas

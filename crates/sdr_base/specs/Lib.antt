@@ -33,6 +33,7 @@ pub mod Strings
 pub mod Tables
 pub mod Tickets
 pub mod Transaction
+pub mod Wanting
 pub mod Words
 pub mod Works
 pub mod Written

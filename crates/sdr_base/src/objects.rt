@@ -1,13 +1,15 @@
 // The blocks of a heap, as the collections see them.
 ghost use Rattle.std.specs.Prelude.{◌≡◌, ◌+◌, ◌*◌, ◌/◌, ◌≤◌, ◌<◌, ℕ, length, IfOk, IfErr, OnOk};
 ghost use Rattle.sdr_base.specs.Blocks.{Uses, UsesRange, HasBytes, kind_length};
+ghost use Rattle.sdr_base.specs.Cells.{TouchesWithin, lines_of};
 ghost use Rattle.sdr_base.specs.Moves.{KeepsSome, Moves};
 ghost use Rattle.sdr_base.specs.Objects.{TakesZeros, with_given, with_bytes, with_root, with_mark};
 ghost use Rattle.sdr_base.specs.Objects.{OnlyUnmoved, OnlyFault, OnlyShort};
 ghost use Rattle.sdr_base.specs.Entries.{Few};
+ghost use Rattle.sdr_base.specs.Transaction.{LeavesUnlessFull};
 ghost use Rattle.sdr_base.specs.Works.{Spends, Looks, LeadsOn, StaysQuiet};
 ghost use Rattle.sdr_base.specs.declared.control.TheConstants as control;
-ghost use Rattle.sdr_base.specs.declared.line.TheConstants.{LINE, MOST_LINES};
+ghost use Rattle.sdr_base.specs.declared.line.TheConstants.{LINE, MOST_LINES, WORD};
 
 use crate::{Addr, HasHeap, Kind, Stop};
 
@@ -18,14 +20,16 @@ use crate::{Addr, HasHeap, Kind, Stop};
 /// transaction has to be cancelled.
 pub trait Objects: HasHeap {
     /// Takes a block of so many zero bytes, and marks it. It is refused `NoBlock` exactly where the
-    /// rule gives none.
+    /// rule gives none, and then touches no line.
     fn take(&mut self, kind: Kind, need: u64) -> Result<Addr, Stop>
         requires kept { KeepsSome (Self.keeps self.old) }
         requires spare { 1 ≤ (Self.heap self.old).spare }
         ensures taken { IfOk result (λ addr.
             TakesZeros kind need addr (Self.heap self.old) (Self.heap self.new)) }
         ensures refused { IfErr result (OnlyShort need (Self.heap self.old) (Self.heap self.new)) }
-        ensures works { Spends Self.HasHeap (24 + need / 64) self.old self.new result };
+        ensures works { Spends Self.HasHeap (24 + need / 64) self.old self.new result }
+        ensures untouched { IfErr result
+            (LeavesUnlessFull (Self.transaction self.old) (Self.transaction self.new)) };
 
     /// Gives the block at an address back. Its mark stays.
     fn give(&mut self, addr: Addr) -> Result<(), Stop>
@@ -54,14 +58,16 @@ pub trait Objects: HasHeap {
         ensures refused { IfErr result OnlyFault }
         ensures looks { Looks Self.HasHeap self.old self.new result };
 
-    /// Writes bytes into a block in use, from a place in it on.
+    /// Writes bytes into a block in use, from a place in it on. It touches the lines of these bytes.
     fn put(&mut self, addr: Addr, place: u64, from: &[u8]) -> Result<(), Stop>
         requires kept { KeepsSome (Self.keeps self.old) }
         requires inside { UsesRange (Self.heap self.old).blocks addr place (length from.now) }
         ensures written { OnOk result
             (Self.heap self.new ≡ with_bytes (Self.heap self.old) addr place from.now) }
         ensures refused { IfErr result (OnlyUnmoved (Self.heap self.old) (Self.heap self.new)) }
-        ensures works { Spends Self.HasHeap (2 + length from.now / 64) self.old self.new result };
+        ensures works { Spends Self.HasHeap (2 + length from.now / 64) self.old self.new result }
+        ensures lines { TouchesWithin (lines_of (addr + place) (length from.now))
+            (Self.transaction self.old) (Self.transaction self.new) result };
 
     /// The number in a control word that belongs to what the blocks keep: the catalogue, the
     /// accounts, the next ticket.
@@ -73,7 +79,7 @@ pub trait Objects: HasHeap {
         ensures refused { IfErr result OnlyFault }
         ensures looks { Looks Self.HasHeap self.old self.new result };
 
-    /// Puts a number into such a control word.
+    /// Puts a number into such a control word, and touches its line.
     fn set_root(&mut self, word: u64, value: u64) -> Result<(), Stop>
         requires kept { KeepsSome (Self.keeps self.old) }
         requires least { control.FIRST_NAME ≤ word }
@@ -81,7 +87,9 @@ pub trait Objects: HasHeap {
         ensures written { OnOk result (Self.heap self.new
             ≡ with_root (Self.heap self.old) word value) }
         ensures refused { IfErr result (OnlyUnmoved (Self.heap self.old) (Self.heap self.new)) }
-        ensures works { Spends Self.HasHeap 1 self.old self.new result };
+        ensures works { Spends Self.HasHeap 1 self.old self.new result }
+        ensures lines { TouchesWithin (lines_of (WORD * word) WORD)
+            (Self.transaction self.old) (Self.transaction self.new) result };
 
     /// Marks a block in use for this transaction.
     fn mark(&mut self, addr: Addr)

@@ -2,6 +2,7 @@
 ghost use Rattle.std.specs.Prelude.{◌≡◌, ◌≢◌, ◌≤◌, length, IfOk, IfErr, OnOk};
 ghost use Rattle.sdr_base.specs.Moves.{KeepsSome};
 ghost use Rattle.sdr_base.specs.Objects.{OnlyShort, OnlyUnmoved};
+ghost use Rattle.sdr_base.specs.Transaction.{LeavesTouched};
 ghost use Rattle.sdr_base.specs.Works.{Spends};
 ghost use Rattle.sdr_cat.specs.Changes.{AddsLast, CataloguesName, CatlgStops, LinksLast, SomeFirst};
 ghost use Rattle.sdr_cat.specs.Changes.{TakesOut, UncataloguesName, UncatlgStops};
@@ -16,6 +17,7 @@ use sdr_base::limits::LONGEST_NAME;
 use sdr_base::{Addr, Objects, Refusal, Stop, check_failed, word};
 
 /// Puts a new name at the end of the catalogue, for an object of this type.
+#[tactic(auto, using(sdr_base::proofs::LeavingLemmas::leaving))]
 pub fn catlg<O: Objects>(o: &mut O, name: &[u8], kind: u32, object: u64) -> Result<(), Stop>
     requires kept { KeepsSome (O.keeps o.old) }
     requires spare { 1 ≤ (O.heap o.old).spare }
@@ -23,6 +25,7 @@ pub fn catlg<O: Objects>(o: &mut O, name: &[u8], kind: u32, object: u64) -> Resu
     ensures catalogued { OnOk result
         (CataloguesName name.now kind object (O.heap o.old) (O.heap o.new)) }
     ensures refused { IfErr result (CatlgStops name.now (O.heap o.old) (O.heap o.new)) }
+    ensures untouched { IfErr result (LeavesTouched (O.transaction o.old) (O.transaction o.new)) }
     ensures works { Spends O.HasHeap 30 o.old o.new result }
 {
     check_failed(o)?;
@@ -53,12 +56,14 @@ fn add_last<O: Objects>(o: &mut O, name: &[u8], kind: u32, object: u64) -> Resul
 }
 
 /// Takes a name out of the catalogue. Its object stays.
+#[tactic(auto, using(sdr_base::proofs::LeavingLemmas::leaving))]
 pub fn uncatlg<O: Objects>(o: &mut O, name: &[u8]) -> Result<(), Stop>
     requires kept { KeepsSome (O.keeps o.old) }
     requires spare { 1 ≤ (O.heap o.old).spare }
     requires names { SomeNames (O.heap o.old) }
     ensures uncatalogued { OnOk result (UncataloguesName name.now (O.heap o.old) (O.heap o.new)) }
     ensures refused { IfErr result (UncatlgStops name.now (O.heap o.old) (O.heap o.new)) }
+    ensures untouched { IfErr result (LeavesTouched (O.transaction o.old) (O.transaction o.new)) }
     ensures works { Spends O.HasHeap 27 o.old o.new result }
 {
     check_failed(o)?;

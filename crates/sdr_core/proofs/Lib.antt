@@ -4,6 +4,7 @@ pub mod CoreLemmas
 pub mod CoreRunLemmas
 pub mod CrashLemmas
 pub mod EndLemmas
+pub mod EndingLemmas
 pub mod FailedLemmas
 pub mod HoldingLemmas
 pub mod KeeperLemmas

@@ -4,6 +4,7 @@ pub mod CoreFacts
 pub mod CoreKept
 pub mod CoreRun
 pub mod Drafting
+pub mod Ended
 pub mod Going
 pub mod Keeping
 pub mod Leaving

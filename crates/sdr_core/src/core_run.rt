@@ -1,13 +1,14 @@
 // A lock, and the journal of its run.
-ghost use Rattle.std.specs.Prelude.{◌≡◌, ◌≤◌, [], false, true, not, IfErr, IfOk, OnErr, Some, if◌then◌else◌, is_some, length};
+ghost use Rattle.std.specs.Prelude.{◌≡◌, ◌≤◌, [], false, true, not, IfErr, IfOk, None, OnErr, Some, if◌then◌else◌, is_some, length};
 ghost use Rattle.sdr_machine.specs.Core.{is_failed};
 ghost use Rattle.sdr_machine.specs.Crash.{is_sound};
 ghost use Rattle.sdr_machine.specs.Standing.{GroundState};
 ghost use Rattle.sdr_machine.specs.Transaction.{bytes_given};
-ghost use Rattle.sdr_machine.specs.Holders.{HoldFirst};
+ghost use Rattle.sdr_machine.specs.Holders.{HoldFirst, hold_none};
 ghost use Rattle.sdr_machine.specs.Legal.{IsLegal};
 ghost use Rattle.sdr_machine.specs.Roll.{MayDraw, daemon_of, first_roll, held_by};
 ghost use Rattle.sdr_core.specs.CoreKept.{BeginsOn, IsRunOf, KeepsRun, MakesCoreStep, HasState};
+ghost use Rattle.sdr_core.specs.Ended.{StandsEnded};
 ghost use Rattle.sdr_core.specs.Logging.{is_leave};
 
 use crate::making::{leaves_now, looks_again, number_of, room_for};
@@ -209,12 +210,15 @@ impl<T: Tells, J: Origin> Core<T, J> {
         self.lock.base()
     }
 
-    /// The journal, and the ground. What daemons have said in open transactions is let go.
+    /// The journal, and the ground. What daemons have said in open transactions is let go. Where no number is held unless the
+    /// disk has failed, no transaction is open.
     pub fn finish(self) -> (Journal, T)
         ensures journal { result.0 ≡ self.log.journal }
         ensures base { result.1 ≡ self.lock.base }
         ensures run { IsRunOf T.HasGround J.begins result.0 result.1 }
         ensures ran { KeepsRun T.HasGround J.begins self }
+        ensures ended { (self.lock.roll.failed ≡ None → hold_none self.lock.roll.daemons ≡ true)
+            → StandsEnded T.HasGround J.begins result.0 result.1 }
     {
         let Core {
             lock,

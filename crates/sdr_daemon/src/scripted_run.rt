@@ -2,6 +2,7 @@
 ghost use Rattle.std.specs.Prelude.{◌≡◌, ◌<◌, ◌≤◌, false, is_some, length, map, not, true};
 ghost use mathlib.Core.List.{IsPrefix};
 ghost use Rattle.sdr_core.specs.CoreKept.{IsRunOf, KeepsRun};
+ghost use Rattle.sdr_core.specs.Ended.{StandsEnded};
 ghost use Rattle.sdr_core.specs.Numbers.{numbers_done};
 ghost use Rattle.sdr_daemon.specs.Coming.{coming_at, is_over};
 ghost use Rattle.sdr_daemon.specs.Drawing.{DrawsAt, GoesOnAt, entries_at, have_leave, starved};
@@ -288,12 +289,14 @@ impl<T: Tells, J: Origin, S: Scripted> ScriptedRun<T, J, S> {
         self.core.roll().failed().is_some()
     }
 
-    /// The journal and the ground, once all daemons have left: the journal keeps to the scripts.
+    /// The journal and the ground, once all daemons have left: the journal keeps to the scripts, and unless the disk failed in an
+    /// entry, no transaction is open on the ground.
     pub fn finish(self) -> (Journal, T)
         requires left { have_left self.core.lock.roll self.progress ≡ true }
         ensures journal { result.0 ≡ self.core.log.journal }
         ensures base { result.1 ≡ self.core.lock.base }
         ensures run { IsRunOf T.HasGround J.begins result.0 result.1 }
+        ensures ended { StandsEnded T.HasGround J.begins result.0 result.1 }
         ensures keeps { KeepsToScripts J.begins.told J.begins.first S.script
             result.0 }
     {

@@ -5,4 +5,3 @@ pub mod LeftLemmas
 pub mod MemoryDiskLemmas
 pub mod MomentsLemmas
 pub mod RangesLemmas
-pub mod ToldLemmas

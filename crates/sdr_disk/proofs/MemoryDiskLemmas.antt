@@ -1,12 +1,10 @@
 -- What a disk in memory keeps as its history gets one write or sync more.
 use Rattle.std.proofs.Common.{◌≡◌, ◌+◌, ◌≤◌, ℕ, List, [], ◌∷◌, length, subst, sym, ◌∙◌, ap}
-use Rattle.std.specs.Prelude.{Some}
 use Rattle.sdr_disk.specs.History.{History, MayLeave, bytes_read, moment_of, with_change, written_over}
 use Rattle.sdr_disk.specs.MemoryDisk.{CrashLeaves, Memory, bytes_now, moment_now}
 use Rattle.sdr_disk.specs.Moments.{Only, Syncs, Writes}
 use Rattle.sdr_base.specs.Parts.{overwrite}
 use Rattle.sdr_disk.specs.Ranges.{Agrees, range}
-use Rattle.sdr_disk.specs.Told.{Both, IfTold}
 use Rattle.sdr_disk.specs.declared.change.Change.TheVariants.{Write, Sync}
 use Rattle.sdr_disk.specs.declared.change.Outcome.{Outcome}
 use Rattle.sdr_disk.specs.declared.change.Outcome.TheVariants.{Done}
@@ -40,23 +38,15 @@ module _ (place : ℕ) (from : List ℕ) (outcome : Outcome) (old new : History)
         subst (Agrees (range place (length from) ∷ []) (bytes_read old)) (sym reads)
         (Agrees-written_over outcome place from (bytes_read old) [] inside)
 
-    pub write_written : outcome ≡ Done
-        → IfTold (Some (bytes_read old)) (λ x. Some (bytes_read new) ≡ Some (overwrite place from x))
-    write_written done x told =
-        let e : bytes_read old ≡ x = cc in
-        let over = ap (λ (o : Outcome). written_over o place from (bytes_read old)) done in
-        ap Some (reads ∙ over ∙ ap (overwrite place from) e)
+    pub write_written : outcome ≡ Done → bytes_read new ≡ overwrite place from (bytes_read old)
+    write_written done = reads ∙ ap (λ (o : Outcome). written_over o place from (bytes_read old)) done
 
     pub write_others : (d d' : Memory) → d.history ≡ old → d'.history ≡ new
-        → Both (bytes_now d) (bytes_now d') (Agrees (range place (length from) ∷ []))
-    write_others d d' before now x told y tells =
-        let e : bytes_read old ≡ x = cc in
-        let f : bytes_read new ≡ y = cc in
-        subst (λ (a : List ℕ). Agrees (range place (length from) ∷ []) a y) e
-        (subst (Agrees (range place (length from) ∷ []) (bytes_read old)) f agrees)
-
-    pub write_size : length (bytes_read new) ≡ length (bytes_read old)
-    write_size = agrees.long
+        → Agrees (range place (length from) ∷ []) (bytes_now d) (bytes_now d')
+    write_others d d' before now =
+        subst (λ (h : History). Agrees (range place (length from) ∷ []) (bytes_read h) (bytes_now d')) (sym before)
+        (subst (λ (h : History). Agrees (range place (length from) ∷ []) (bytes_read old) (bytes_read h)) (sym now)
+        agrees)
 
     pub write_moments : (d d' : Memory) → d.history ≡ old → d'.history ≡ new
         → Writes moment_now CrashLeaves place (length from) d d'
@@ -65,23 +55,18 @@ module _ (place : ℕ) (from : List ℕ) (outcome : Outcome) (old new : History)
 
 -- One sync more.
 module _ (outcome : Outcome) (old new : History) (is : new ≡ with_change (Sync outcome) old) where
-  pub sync_same : Some (bytes_read new) ≡ Some (bytes_read old)
-  sync_same = ap Some (ap bytes_read is ∙ bytes_read-sync old outcome)
-
-  pub sync_size : length (bytes_read new) ≡ length (bytes_read old)
-  sync_size = ap length (ap bytes_read is ∙ bytes_read-sync old outcome)
+  pub sync_same : bytes_read new ≡ bytes_read old
+  sync_same = ap bytes_read is ∙ bytes_read-sync old outcome
 
   pub sync_moments : (d d' : Memory) → d.history ≡ old → d'.history ≡ new → Syncs moment_now CrashLeaves d d'
   sync_moments d d' before now = Syncs-history old _ d d' before (now ∙ is) (Syncs-push old outcome)
 
-  pub sync_durable : outcome ≡ Done → IfTold (Some (bytes_read new)) (λ x. Only x (MayLeave new (moment_of new)))
-  sync_durable done x told image left =
-      let e : bytes_read new ≡ x = cc in
+  pub sync_durable : outcome ≡ Done → Only (bytes_read new) (MayLeave new (moment_of new))
+  sync_durable done =
       let good = is ∙ ap (λ (o : Outcome). with_change (Sync o) old) done in
-      subst (λ (h : History). Only (bytes_read h) (MayLeave h (moment_of h))) (sym good) (Only-synced old) image left
-      ∙ e
+      subst (λ (h : History). Only (bytes_read h) (MayLeave h (moment_of h))) (sym good) (Only-synced old)
 
 -- for the clauses that the search answers with them
-pub ruleset writing = (write_written, write_size)
+pub ruleset writing = (write_written)
 
-pub ruleset syncing = (sync_same, sync_size)
+pub ruleset syncing = (sync_same)

@@ -1,6 +1,5 @@
 -- What stays of the images at each moment as a run of calls goes on.
-use Rattle.std.proofs.Common.{◌≡◌, ℕ, ◌<◌, ◌≤◌, ◌⊎◌, inl, inr, List, [], ◌∷◌, refl, ◌∙◌, arith, subst}
-use Rattle.std.specs.declared.option.Option.{Option}
+use Rattle.std.proofs.Common.{◌≡◌, ℕ, Bool, ◌<◌, ◌≤◌, ◌⊎◌, inl, inr, List, [], ◌∷◌, refl, ◌∙◌, arith, subst}
 use Rattle.sdr_disk.specs.Moments.{AtEach, SamePast, Reads, Syncs, Writes}
 use Rattle.sdr_disk.specs.Ranges.{Agrees, range}
 
@@ -21,15 +20,16 @@ up_to_or_after : (m before : ℕ) → (m ≤ before) ⊎ (before < m)
 up_to_or_after m before = grind arith
 
 -- Reads, one after another.
-module _ {D : Type 0} (bytes : D → Option (List ℕ)) (moment : D → ℕ) (may_hold_after : D → ℕ → List ℕ → Type 0) where
-  pub Reads-refl : (old : D) → Reads bytes moment may_hold_after old old
-  Reads-refl old = record { same = refl; time = refl; past = SamePast-refl (moment old) (may_hold_after old) }
+module _ {D : Type 0} (bytes : D → List ℕ) (tells : D → Bool) (moment : D → ℕ)
+    (may_hold_after : D → ℕ → List ℕ → Type 0) where
+  pub Reads-refl : (old : D) → Reads bytes tells moment may_hold_after old old
+  Reads-refl old = record { same = refl; tells = refl; time = refl; past = SamePast-refl (moment old) (may_hold_after old) }
 
-  pub Reads-trans : (old mid new : D) → Reads bytes moment may_hold_after old mid → Reads bytes moment may_hold_after
-      mid new
-      → Reads bytes moment may_hold_after old new
+  pub Reads-trans : (old mid new : D) → Reads bytes tells moment may_hold_after old mid →
+      Reads bytes tells moment may_hold_after mid new → Reads bytes tells moment may_hold_after old new
   Reads-trans old mid new f g = record {
     same = g.same ∙ f.same;
+    tells = g.tells ∙ f.tells;
     time = g.time ∙ f.time;
     past = SamePast-trans (moment old) (moment mid) (may_hold_after old) (may_hold_after mid) (may_hold_after new)
         (omega (arith, f.time)) f.past g.past;

@@ -1,9 +1,8 @@
 -- The bytes as read are one of the images now.
-use Rattle.std.specs.Prelude.{◌≡◌, ℕ, zero, suc, ◌*◌, ◌≤◌, Some, List, [], ◌∷◌, length, refl}
+use Rattle.std.specs.Prelude.{◌≡◌, ℕ, zero, suc, ◌*◌, ◌≤◌, List, [], ◌∷◌, length, refl}
 use Rattle.std.proofs.Common.{arith, subst, sym}
 use Rattle.sdr_disk.specs.History.{History, Leaves, MayLeave, State, after, after_all, bytes_read}
 use Rattle.sdr_disk.specs.History.{moment_of, start, state_at}
-use Rattle.sdr_disk.specs.Told.{IfTold}
 use Rattle.sdr_disk.specs.declared.change.Change.{Change}
 
 -- from the last return on the state is that after all changes
@@ -20,7 +19,3 @@ MayLeave-read h =
     subst (λ (s : State). Leaves (length (bytes_read h)) s (bytes_read h))
     (sym (state_at-now (start h.first) h.changes (moment_of h) (omega arith)))
     (record { long = refl; same = λ i o. refl })
-
--- so are the bytes that the disk tells
-pub told_read : (h : History) → IfTold (Some (bytes_read h)) (MayLeave h (moment_of h))
-told_read h x is = let e : bytes_read h ≡ x = cc in subst (MayLeave h (moment_of h)) e (MayLeave-read h)

@@ -6,4 +6,4 @@ pub mod MemoryDisk
 pub mod Moments
 pub mod Pending
 pub mod Ranges
-pub mod Told
+pub mod Tells

@@ -1,5 +1,5 @@
 -- A disk in memory, as contracts see it, and how it answers its calls.
-use Rattle.std.specs.Prelude.{◌≡◌, ◌↔◌, ◌⊎◌, ◌==◌, ◌-◌, ℕ, Bool, false, List, length, Contains, Some, option_map}
+use Rattle.std.specs.Prelude.{◌≡◌, ◌↔◌, ◌⊎◌, ◌==◌, ◌-◌, ℕ, Bool, true, false, List, Contains, option_map}
 use Rattle.std.specs.Prelude.{Result, IsErr, IsTrue, OnOk, OnErr}
 use Rattle.std.specs.Option.{option_map_or}
 use Rattle.std.specs.declared.option.Option.{Option}
@@ -20,13 +20,13 @@ pub record Memory : Type 0 where
   pub failing : List ℕ
   pub left : Option ℕ
 
--- how many bytes it has
-abbrev pub size_now : Memory → ℕ
-size_now d = length (bytes_read d.history)
+-- the bytes that a read gives
+abbrev pub bytes_now : Memory → List ℕ
+bytes_now d = bytes_read d.history
 
--- the bytes that a read gives, which it tells
-abbrev pub bytes_now : Memory → Option (List ℕ)
-bytes_now d = Some (bytes_read d.history)
+-- it tells what a crash may leave
+abbrev pub tells_now : Memory → Bool
+tells_now d = true
 
 -- its moment
 abbrev pub moment_now : Memory → ℕ

@@ -1,6 +1,5 @@
 -- What a crash may leave of a disk at each moment, and how the disk's calls change it.
-use Rattle.std.specs.Prelude.{◌≡◌, ℕ, ◌+◌, ◌-◌, ◌^◌, ◌<◌, ◌≤◌, ◌⊎◌, List, [], ◌∷◌}
-use Rattle.std.specs.declared.option.Option.{Option}
+use Rattle.std.specs.Prelude.{◌≡◌, ℕ, ◌+◌, ◌-◌, ◌^◌, ◌<◌, ◌≤◌, ◌⊎◌, Bool, List, [], ◌∷◌}
 use Rattle.sdr_disk.specs.Ranges.{Agrees, range}
 
 -- a crash leaves these bytes and nothing else
@@ -43,18 +42,19 @@ pub record Syncs {D : Type 0} (moment : D → ℕ) (may_hold_after : D → ℕ �
   pub past : SamePast (moment old) (may_hold_after old) (may_hold_after new)
   pub waits : Waits (moment old) (moment new) (may_hold_after old) (may_hold_after new)
 
--- nothing but reads went on: the bytes, the moment and what a crash may leave stay
-pub record Reads {D : Type 0} (bytes : D → Option (List ℕ)) (moment : D → ℕ)
+-- nothing but reads went on: the bytes, the moment and what a crash may leave stay, and whether the disk tells that
+pub record Reads {D : Type 0} (bytes : D → List ℕ) (tells_crashes : D → Bool) (moment : D → ℕ)
     (may_hold_after : D → ℕ → List ℕ → Type 0) (old new : D) : Type 0 where
   pub same : bytes new ≡ bytes old
+  pub tells : tells_crashes new ≡ tells_crashes old
   pub time : moment new ≡ moment old
   pub past : SamePast (moment old) (may_hold_after old) (may_hold_after new)
 
 -- a call that was made raised the moment by two, and one that was not made changed nothing
-abbrev pub RisesOrStays : {D : Type 0} → (D → Option (List ℕ)) → (D → ℕ)
+abbrev pub RisesOrStays : {D : Type 0} → (D → List ℕ) → (D → Bool) → (D → ℕ)
     → (D → ℕ → List ℕ → Type 0) → D → D → Type 0
-RisesOrStays bytes moment may_hold_after old new =
-    (moment new ≡ moment old + 2) ⊎ Reads bytes moment may_hold_after old new
+RisesOrStays bytes tells moment may_hold_after old new =
+    (moment new ≡ moment old + 2) ⊎ Reads bytes tells moment may_hold_after old new
 
 -- one call more would bring the moment past its end
 abbrev pub IsAtEnd : ℕ → Type 0

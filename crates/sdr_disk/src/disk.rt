@@ -1,13 +1,12 @@
 // What every disk promises.
-ghost use Rattle.std.specs.Prelude.{◌≡◌, ◌≤◌, ◌+◌, ℕ, List, [], ◌∷◌, length};
-ghost use Rattle.std.specs.Prelude.{IsErr, OnOk, Some, is_some};
-ghost use Rattle.std.specs.declared.option.Option.{Option};
+ghost use Rattle.std.specs.Prelude.{◌≡◌, ◌≤◌, ◌+◌, ℕ, Bool, List, [], ◌∷◌, length};
+ghost use Rattle.std.specs.Prelude.{IsErr, OnOk};
 ghost use Rattle.sdr_base.specs.Causes.{HasCause};
-ghost use Rattle.sdr_disk.specs.Moments.{IsAtEnd, SamePast, Only, Reads};
-ghost use Rattle.sdr_disk.specs.Moments.{RisesOrStays, Syncs, Writes};
+ghost use Rattle.sdr_disk.specs.Moments.{IsAtEnd, Reads, RisesOrStays, Syncs, Writes};
+ghost use Rattle.sdr_disk.specs.Pending.{IsSynced};
 ghost use Rattle.sdr_base.specs.Parts.{overwrite, part};
 ghost use Rattle.sdr_disk.specs.Ranges.{Agrees, range};
-ghost use Rattle.sdr_disk.specs.Told.{Both, IsLong, IfTold};
+ghost use Rattle.sdr_disk.specs.Tells.{IfTells};
 
 /// The disk failed.
 #[derive(Clone, Copy, Debug, PartialEq, Eq)]
@@ -15,11 +14,11 @@ pub struct DiskFault;
 
 /// A disk of a fixed number of bytes.
 pub trait Disk {
-    /// The number of its bytes. No call changes it.
-    ghost size: { Self → ℕ };
+    /// The bytes that a read gives. No call changes their number.
+    ghost bytes: { Self → List ℕ };
 
-    /// The bytes that a read gives, where the disk tells them.
-    ghost bytes: { Self → Option (List ℕ) };
+    /// Whether the disk tells what a crash may leave. No call changes it.
+    ghost tells_crashes: { Self → Bool };
 
     /// How often the disk has failed. It never falls.
     ghost faults: { Self → ℕ };
@@ -32,41 +31,32 @@ pub trait Disk {
 
     /// The number of its bytes.
     fn len(&self) -> u64
-        ensures { result ≡ size self.now };
+        ensures { result ≡ length (bytes self.now) };
 
     /// Fills a buffer with the bytes from a place on.
     fn read_at(&mut self, place: u64, into: &mut [u8]) -> Result<(), DiskFault>
-        requires { place + length into.old ≤ size self.old }
+        requires { place + length into.old ≤ length (bytes self.old) }
 
-        ensures given { OnOk result (IfTold (bytes self.old)
-            (λ x. into.new ≡ part place (length into.new) x)) }
+        ensures given { OnOk result (into.new ≡ part place (length into.new) (bytes self.old)) }
         ensures cause { HasCause (faults self.old) (faults self.new) result }
-
-        ensures same { bytes self.new ≡ bytes self.old }
-        ensures size { size self.new ≡ size self.old }
-
-        ensures time { moment self.new ≡ moment self.old }
-        ensures past { SamePast (moment self.old) (may_hold_after self.old) (may_hold_after self.new) };
+        ensures reads { Reads bytes tells_crashes moment may_hold_after self.old self.new };
 
     /// Writes bytes from a place on. Until a sync succeeds a crash may leave any bytes in their
     /// range, and so it may where the write fails.
     fn write_at(&mut self, place: u64, from: &[u8]) -> Result<(), DiskFault>
-        requires { place + length from.now ≤ size self.old }
+        requires { place + length from.now ≤ length (bytes self.old) }
 
-        ensures written { OnOk result (IfTold (bytes self.old)
-            (λ x. bytes self.new ≡ Some (overwrite place from.now x))) }
+        ensures written { OnOk result (bytes self.new ≡ overwrite place from.now (bytes self.old)) }
         ensures rises { OnOk result (moment self.new ≡ moment self.old + 2) }
 
         // A write that would bring the moment past its end fails and changes nothing.
         ensures end { IsAtEnd (moment self.old) →
-            IsErr result × Reads bytes moment may_hold_after self.old self.new }
-        ensures made { RisesOrStays bytes moment may_hold_after self.old self.new }
+            IsErr result × Reads bytes tells_crashes moment may_hold_after self.old self.new }
+        ensures made { RisesOrStays bytes tells_crashes moment may_hold_after self.old self.new }
         ensures cause { HasCause (faults self.old) (faults self.new) result }
 
-        ensures others { Both (bytes self.old) (bytes self.new)
-            (Agrees (range place (length from.now) ∷ [])) }
-        ensures tells { is_some (bytes self.new) ≡ is_some (bytes self.old) }
-        ensures size { size self.new ≡ size self.old }
+        ensures others { Agrees (range place (length from.now) ∷ []) (bytes self.old) (bytes self.new) }
+        ensures tells { tells_crashes self.new ≡ tells_crashes self.old }
 
         ensures moments { Writes moment may_hold_after place (length from.now) self.old self.new };
 
@@ -77,28 +67,25 @@ pub trait Disk {
 
         // A sync that would bring the moment past its end fails and changes nothing.
         ensures end { IsAtEnd (moment self.old) →
-            IsErr result × Reads bytes moment may_hold_after self.old self.new }
-        ensures made { RisesOrStays bytes moment may_hold_after self.old self.new }
+            IsErr result × Reads bytes tells_crashes moment may_hold_after self.old self.new }
+        ensures made { RisesOrStays bytes tells_crashes moment may_hold_after self.old self.new }
         ensures cause { HasCause (faults self.old) (faults self.new) result }
 
         ensures same { bytes self.new ≡ bytes self.old }
-        ensures size { size self.new ≡ size self.old }
+        ensures tells { tells_crashes self.new ≡ tells_crashes self.old }
 
-        ensures durable { OnOk result (IfTold (bytes self.new)
-            (λ x. Only x (may_hold_after self.new (moment self.new)))) }
+        ensures durable { OnOk result
+            (IsSynced bytes tells_crashes moment may_hold_after self.new) }
         ensures moments { Syncs moment may_hold_after self.old self.new };
 
     /// The disk's moment.
     fn now(&self) -> u64
         ensures { result ≡ moment self.now };
 
-    /// Told bytes are so many.
-    ghost told: { (d : Self) → IsLong (bytes d) (size d) };
-
-    /// Where the disk tells its bytes, each image at a moment up to now is as long.
-    ghost long: { (d : Self) → IfTold (bytes d) (λ _.
-        (m : ℕ) (image : List ℕ) → m ≤ moment d → may_hold_after d m image → length image ≡ size d) };
+    /// Where the disk tells what a crash may leave, each image at a moment up to now is as long.
+    ghost long: { (d : Self) → IfTells (tells_crashes d) ((m : ℕ) (image : List ℕ)
+        → m ≤ moment d → may_hold_after d m image → length image ≡ length (bytes d)) };
 
     /// The bytes as read are one of the images now.
-    ghost read_now: { (d : Self) → IfTold (bytes d) (may_hold_after d (moment d)) };
+    ghost read_now: { (d : Self) → may_hold_after d (moment d) (bytes d) };
 }

@@ -1,8 +1,8 @@
 //! The disk under a heap: bytes that are read, written and synced, what a crash may leave of them
 //! at each moment, and a disk in memory that shows it.
 //!
-//! 1. A disk has a fixed number of bytes. Where it tells them, they are a list of that length.
-//! 2. A read gives the bytes as last written, and a sync changes none of them.
+//! 1. A disk has a fixed number of bytes. A read gives them as last written, and a sync changes none of them.
+//! 2. A disk tells what a crash may leave of it, or doesn't. What is said of that holds where it does (`IfTells`).
 //! 3. A call answers its fault only where the disk's count of faults rose in that call.
 //! 4. The moment rises by one when a write or a sync begins and by one when it returns. Reads leave
 //!    it as it is.

@@ -1,12 +1,11 @@
 // A disk in memory.
 ghost use Rattle.std.specs.Prelude.{◌≡◌, ◌↔◌, ◌+◌, ◌≤◌, [], ◌∷◌, length, refl};
-ghost use Rattle.std.specs.Prelude.{Contains, IfOk, IsErr, OnOk, Some, is_some};
+ghost use Rattle.std.specs.Prelude.{Contains, IfOk, IsErr, OnOk, true};
 ghost use Rattle.sdr_base.specs.Causes.{HasCause, counted};
-ghost use Rattle.sdr_disk.specs.Moments.{IsAtEnd, SamePast, Only, Reads};
-ghost use Rattle.sdr_disk.specs.Moments.{RisesOrStays, Syncs, Writes};
+ghost use Rattle.sdr_disk.specs.Moments.{IsAtEnd, Reads, RisesOrStays, Syncs, Writes};
+ghost use Rattle.sdr_disk.specs.Pending.{IsSynced};
 ghost use Rattle.sdr_base.specs.Parts.{overwrite, part};
 ghost use Rattle.sdr_disk.specs.Ranges.{Agrees, range};
-ghost use Rattle.sdr_disk.specs.Told.{Both, IfTold};
 
 use crate::change::Outcome;
 use crate::history::History;
@@ -14,7 +13,7 @@ use crate::{Disk, DiskFault, Torn};
 use sdr_base::NoMemory;
 use std::marker::Model;
 
-/// A disk that tells its bytes, keeps a record of its writes and syncs, and fails at listed calls,
+/// A disk that tells what a crash may leave, keeps a record of its writes and syncs, and fails at listed calls,
 /// where its record can't grow, and once it has stopped.
 #[derive(Drop)]
 pub struct MemoryDisk {
@@ -51,7 +50,7 @@ impl MemoryDisk {
     /// A disk of these bytes, whose calls of read, write and sync fail where their numbers, counted
     /// from 1, are in `failing`.
     pub fn new(bytes: Vec<u8>, failing: Vec<u64>) -> MemoryDisk
-        ensures bytes { ⟦<MemoryDisk as Disk>⟧.bytes result ≡ Some bytes.items }
+        ensures bytes { ⟦<MemoryDisk as Disk>⟧.bytes result ≡ bytes.items }
         ensures faults { ⟦<MemoryDisk as Disk>⟧.faults result ≡ 0 }
         ensures fresh { result ≡ record {
           history = record { first = bytes.items; changes = [] };
@@ -161,14 +160,14 @@ impl MemoryDisk {
 }
 
 impl Disk for MemoryDisk {
-    ghost use Rattle.sdr_disk.specs.HistoryLaws.{told_read};
+    ghost use Rattle.sdr_disk.specs.HistoryLaws.{MayLeave-read};
     ghost use Rattle.sdr_disk.specs.MemoryDisk.{CallsDisk, AnswersRead, CrashLeaves};
-    ghost use Rattle.sdr_disk.specs.MemoryDisk.{bytes_now, moment_now, size_now};
+    ghost use Rattle.sdr_disk.specs.MemoryDisk.{bytes_now, moment_now, tells_now};
     ghost use Rattle.sdr_disk.specs.declared.change.Change.TheVariants.{Write, Sync};
 
-    ghost size = { size_now };
-
     ghost bytes = { bytes_now };
+
+    ghost tells_crashes = { tells_now };
 
     ghost faults = { λ d. d.faults };
 
@@ -176,28 +175,20 @@ impl Disk for MemoryDisk {
 
     ghost may_hold_after = { CrashLeaves };
 
-    ghost told = { λ _. refl };
+    ghost long = { λ _ _ _ _ _ left. left.long };
 
-    ghost long = { λ _ _ _ _ _ _ left. left.long };
-
-    ghost read_now = { λ d. told_read d.history };
+    ghost read_now = { λ d. MayLeave-read d.history };
 
     fn len(&self) -> u64 {
         self.history.bytes().len() as u64
     }
 
     fn read_at(&mut self, place: u64, into: &mut [u8]) -> Result<(), DiskFault>
-        requires { place + length into.old ≤ size_now self.old }
+        requires { place + length into.old ≤ length (bytes_now self.old) }
 
-        ensures given { OnOk result (IfTold (bytes_now self.old)
-            (λ x. into.new ≡ part place (length into.new) x)) }
+        ensures given { OnOk result (into.new ≡ part place (length into.new) (bytes_now self.old)) }
         ensures cause { HasCause self.old.faults self.new.faults result }
-
-        ensures same { bytes_now self.new ≡ bytes_now self.old }
-        ensures size { size_now self.new ≡ size_now self.old }
-
-        ensures time { moment_now self.new ≡ moment_now self.old }
-        ensures past { SamePast (moment_now self.old) (CrashLeaves self.old) (CrashLeaves self.new) }
+        ensures reads { Reads bytes_now tells_now moment_now CrashLeaves self.old self.new }
 
         // It fails just where its number is listed, and once the disk has stopped.
         ensures answers { AnswersRead result self.old self.new }
@@ -213,21 +204,20 @@ impl Disk for MemoryDisk {
 
     #[tactic(auto, using(crate::proofs::MemoryDiskLemmas::writing))]
     fn write_at(&mut self, place: u64, from: &[u8]) -> Result<(), DiskFault>
-        requires { place + length from.now ≤ size_now self.old }
+        requires { place + length from.now ≤ length (bytes_now self.old) }
 
-        ensures written { OnOk result (IfTold (bytes_now self.old)
-            (λ x. bytes_now self.new ≡ Some (overwrite place from.now x))) }
+        ensures written { OnOk result
+            (bytes_now self.new ≡ overwrite place from.now (bytes_now self.old)) }
         ensures rises { OnOk result (moment_now self.new ≡ moment_now self.old + 2) }
 
         ensures end { IsAtEnd (moment_now self.old) →
-            IsErr result × Reads bytes_now moment_now CrashLeaves self.old self.new }
-        ensures made { RisesOrStays bytes_now moment_now CrashLeaves self.old self.new }
+            IsErr result × Reads bytes_now tells_now moment_now CrashLeaves self.old self.new }
+        ensures made { RisesOrStays bytes_now tells_now moment_now CrashLeaves self.old self.new }
         ensures cause { HasCause self.old.faults self.new.faults result }
 
-        ensures others { Both (bytes_now self.old) (bytes_now self.new)
-            (Agrees (range place (length from.now) ∷ [])) }
-        ensures tells { is_some (bytes_now self.new) ≡ is_some (bytes_now self.old) }
-        ensures size { size_now self.new ≡ size_now self.old }
+        ensures others { Agrees (range place (length from.now) ∷ [])
+            (bytes_now self.old) (bytes_now self.new) }
+        ensures tells { tells_now self.new ≡ tells_now self.old }
 
         ensures moments { Writes moment_now CrashLeaves place (length from.now) self.old self.new }
 
@@ -254,15 +244,14 @@ impl Disk for MemoryDisk {
         ensures rises { OnOk result (moment_now self.new ≡ moment_now self.old + 2) }
 
         ensures end { IsAtEnd (moment_now self.old) →
-            IsErr result × Reads bytes_now moment_now CrashLeaves self.old self.new }
-        ensures made { RisesOrStays bytes_now moment_now CrashLeaves self.old self.new }
+            IsErr result × Reads bytes_now tells_now moment_now CrashLeaves self.old self.new }
+        ensures made { RisesOrStays bytes_now tells_now moment_now CrashLeaves self.old self.new }
         ensures cause { HasCause self.old.faults self.new.faults result }
 
         ensures same { bytes_now self.new ≡ bytes_now self.old }
-        ensures size { size_now self.new ≡ size_now self.old }
+        ensures tells { tells_now self.new ≡ tells_now self.old }
 
-        ensures durable { OnOk result (IfTold (bytes_now self.new)
-            (λ x. Only x (CrashLeaves self.new (moment_now self.new)))) }
+        ensures durable { OnOk result (IsSynced bytes_now tells_now moment_now CrashLeaves self.new) }
         ensures moments { Syncs moment_now CrashLeaves self.old self.new }
 
         // It fails just where its number is listed, at the end of the moments, where its record found

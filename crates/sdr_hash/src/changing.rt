@@ -2,6 +2,7 @@
 ghost use Rattle.std.specs.Prelude.{◌≡◌, ◌≤◌, ◌+◌, ◌/◌, length, IfErr, OnOk};
 ghost use Rattle.sdr_base.specs.Moves.{KeepsSome};
 ghost use Rattle.sdr_base.specs.Objects.{OnlyShort, OnlyUnmoved};
+ghost use Rattle.sdr_base.specs.Transaction.{LeavesTouched};
 ghost use Rattle.sdr_base.specs.Works.{Spends};
 ghost use Rattle.sdr_hash.specs.Calls.{ChangeStops, InsertsKey, InsertStops, RemovesKey, RevisesKey};
 ghost use Rattle.sdr_hash.specs.Changes.{AddsFirst, SomePlace, TakesOut};
@@ -15,6 +16,7 @@ use sdr_base::layout::{hash as hash_words, hash_entry as words};
 use sdr_base::{Addr, Objects, Refusal, Stop, set_word, word};
 
 /// Puts a new key with its value into a hash, in front of its bucket.
+#[tactic(auto, using(sdr_base::proofs::LeavingLemmas::leaving))]
 pub fn insert<O: Objects>(o: &mut O, hash: Addr, key: &[u8], value: u64) -> Result<(), Stop>
     requires kept { KeepsSome (O.keeps o.old) }
     requires spare { 1 ≤ (O.heap o.old).spare }
@@ -22,6 +24,7 @@ pub fn insert<O: Objects>(o: &mut O, hash: Addr, key: &[u8], value: u64) -> Resu
     ensures inserted { OnOk result
         (InsertsKey hash key.now value (O.heap o.old) (O.heap o.new)) }
     ensures refused { IfErr result (InsertStops hash key.now (O.heap o.old) (O.heap o.new)) }
+    ensures untouched { IfErr result (LeavesTouched (O.transaction o.old) (O.transaction o.new)) }
     ensures works { Spends O.HasHeap
         (30 + (KEY_FROM + length key.now) / 32) o.old o.new result }
 {
@@ -54,12 +57,14 @@ fn add_first<O: Objects>(o: &mut O, front: Link, key: &[u8], value: u64) -> Resu
 }
 
 /// Sets the value of a key that a hash has.
+#[tactic(auto, using(sdr_base::proofs::LeavingLemmas::leaving))]
 pub fn revise<O: Objects>(o: &mut O, hash: Addr, key: &[u8], value: u64) -> Result<(), Stop>
     requires kept { KeepsSome (O.keeps o.old) }
     requires hash { IsHash (O.heap o.old).blocks hash }
     ensures revised { OnOk result
         (RevisesKey hash key.now value (O.heap o.old) (O.heap o.new)) }
     ensures refused { IfErr result (ChangeStops hash key.now (O.heap o.old) (O.heap o.new)) }
+    ensures untouched { IfErr result (LeavesTouched (O.transaction o.old) (O.transaction o.new)) }
     ensures works { Spends O.HasHeap 2 o.old o.new result }
 {
     let (_, place) = locate(o, hash, key)?;
@@ -67,12 +72,14 @@ pub fn revise<O: Objects>(o: &mut O, hash: Addr, key: &[u8], value: u64) -> Resu
 }
 
 /// Takes a key out of a hash. What its value names stays.
+#[tactic(auto, using(sdr_base::proofs::LeavingLemmas::leaving))]
 pub fn remove<O: Objects>(o: &mut O, hash: Addr, key: &[u8]) -> Result<(), Stop>
     requires kept { KeepsSome (O.keeps o.old) }
     requires spare { 1 ≤ (O.heap o.old).spare }
     requires hash { IsHash (O.heap o.old).blocks hash }
     ensures removed { OnOk result (RemovesKey hash key.now (O.heap o.old) (O.heap o.new)) }
     ensures refused { IfErr result (ChangeStops hash key.now (O.heap o.old) (O.heap o.new)) }
+    ensures untouched { IfErr result (LeavesTouched (O.transaction o.old) (O.transaction o.new)) }
     ensures works { Spends O.HasHeap 28 o.old o.new result }
 {
     let (front, place) = locate(o, hash, key)?;

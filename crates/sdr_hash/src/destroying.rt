@@ -4,6 +4,8 @@ ghost use Rattle.sdr_base.specs.Blocks.{UsesRange};
 ghost use Rattle.sdr_base.specs.Moves.{KeepsSome};
 ghost use Rattle.sdr_base.specs.Objects.{OnlyUnmoved, with_given};
 ghost use Rattle.sdr_base.specs.Words.{HasWord};
+ghost use Rattle.sdr_base.specs.Transaction.{LeavesTouched};
+ghost use Rattle.sdr_base.specs.Wanting.{OnlyWanting};
 ghost use Rattle.sdr_base.specs.Works.{Spends};
 ghost use Rattle.sdr_hash.specs.Destroying.{DestroysHash, DestroyStops, entries_in};
 ghost use Rattle.sdr_hash.specs.Giving.{GivesBucket, GiveStops, SomeOpened, given};
@@ -16,12 +18,14 @@ use sdr_base::{Addr, Objects, Stop, word};
 
 /// Gives the entries of a hash back, bucket by bucket, the newest of a bucket first, and then the
 /// hash. What the values name stays.
+#[tactic(auto, using(sdr_base::proofs::LeavingLemmas::leaving))]
 pub fn destroy<O: Objects>(o: &mut O, hash: Addr) -> Result<(), Stop>
     requires kept { KeepsSome (O.keeps o.old) }
     requires spare { entries_in ((O.heap o.old).blocks hash) + 1 ≤ (O.heap o.old).spare }
     requires hash { IsHash (O.heap o.old).blocks hash }
     ensures destroyed { OnOk result (DestroysHash hash (O.heap o.old) (O.heap o.new)) }
     ensures refused { IfErr result (DestroyStops hash (O.heap o.old) (O.heap o.new)) }
+    ensures untouched { IfErr result (LeavesTouched (O.transaction o.old) (O.transaction o.new)) }
     ensures works { Spends O.HasHeap
         (24 * (entries_in ((O.heap o.old).blocks hash) + 1)) o.old o.new result }
 {
@@ -39,12 +43,14 @@ pub fn destroy<O: Objects>(o: &mut O, hash: Addr) -> Result<(), Stop>
 
 // Gives the entries of a bucket back, the first one first. There are so many at most, and it answers
 // how many fewer there were.
+#[tactic(auto, using(sdr_base::proofs::LeavingLemmas::wanting))]
 fn give_bucket<O: Objects>(o: &mut O, front: Link, most: u64) -> Result<u64, Stop>
     requires kept { KeepsSome (O.keeps o.old) }
     requires spare { most ≤ (O.heap o.old).spare }
     requires bucket { SomeOpened (O.heap o.old).blocks front most }
     ensures given { IfOk result (GivesBucket (O.heap o.old) (O.heap o.new) front most) }
     ensures refused { IfErr result (GiveStops front most (O.heap o.old) (O.heap o.new)) }
+    ensures wants { IfErr result OnlyWanting }
     ensures works { Spends O.HasHeap (24 * given most result) o.old o.new result }
 {
     let mut entry = word(o, front.addr, front.field)?;

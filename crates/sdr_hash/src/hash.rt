@@ -4,6 +4,7 @@ ghost use Rattle.sdr_base.specs.Blocks.{IsKind};
 ghost use Rattle.sdr_base.specs.Moves.{KeepsSome};
 ghost use Rattle.sdr_base.specs.Objects.{Misses};
 ghost use Rattle.sdr_base.specs.Words.{HasWord};
+ghost use Rattle.sdr_base.specs.Transaction.{LeavesTouched};
 ghost use Rattle.sdr_base.specs.Works.{Looks, Spends};
 ghost use Rattle.sdr_base.specs.declared.kind.Kind.TheVariants as kinds;
 ghost use Rattle.sdr_hash.specs.Calls.{CountsEntries, CreateStops, MakesHash};
@@ -18,6 +19,7 @@ use sdr_base::{Addr, Kind, Objects, Refusal, Stop, WORD, check_failed, expect_ki
 pub const FRONTS_FROM: u64 = 24;
 
 /// Makes a hash without entries, for keys of so many bytes.
+#[tactic(auto, using(sdr_base::proofs::LeavingLemmas::leaving))]
 pub fn create<O: Objects>(o: &mut O, key_length: u64, buckets: u64) -> Result<Addr, Stop>
     requires kept { KeepsSome (O.keeps o.old) }
     requires spare { 1 ≤ (O.heap o.old).spare }
@@ -25,6 +27,7 @@ pub fn create<O: Objects>(o: &mut O, key_length: u64, buckets: u64) -> Result<Ad
         MakesHash key_length buckets hash (O.heap o.old) (O.heap o.new)) }
     ensures refused { IfErr result
         (CreateStops key_length buckets (O.heap o.old) (O.heap o.new)) }
+    ensures untouched { IfErr result (LeavesTouched (O.transaction o.old) (O.transaction o.new)) }
     ensures works { Spends O.HasHeap
         (26 + (FRONTS_FROM + WORD * buckets) / 64) o.old o.new result }
 {

@@ -1,6 +1,7 @@
 -- What each call keeps beside what it is for, from what its steps keep of the cells.
 use Rattle.std.proofs.Common.{◌≡◌, ℕ, Bool, List, refl, sym, ap, ◌∙◌, subst}
 use Rattle.std.specs.Prelude.{Result, Ok, Err, IfErr}
+use Rattle.sdr_base.specs.Cells.{TouchesWithin}
 use Rattle.sdr_base.specs.KeptHeap.{KeepsRegion, block_in, root_in}
 use Rattle.sdr_base.specs.Moves.{KeepsSome, Moves}
 use Rattle.sdr_base.specs.Objects.{Heap, IsUnmoved, OnlyFull, OnlyUnmoved, Settled}
@@ -62,6 +63,13 @@ module _ {C : Type 0} (bytes : C → List ℕ) (transaction : C → Transaction)
     cause = subst (λ (h : Held C). HasReason (transaction h.cells) (transaction new.cells) result) is cause;
     quiet = held_quiet inside seen new is size more;
   }
+
+  -- which lines it touches
+  pub held_lines : {T : Type 0} (own : List ℕ) (inside seen : Held C) (cells : C) (result : Result T Stop) → inside ≡ seen →
+      TouchesWithin own (transaction inside.cells) (transaction cells) result →
+      TouchesWithin own (transaction seen.cells) (transaction cells) result
+  held_lines own inside seen cells result is lines =
+      subst (λ (h : Held C). TouchesWithin own (transaction h.cells) (transaction cells) result) is lines
 
   -- a call that reads the cells alone
   pub held_looks : {T : Type 0} (inside seen : Held C) (cells : C) (result : Result T Stop) → inside ≡ seen →

@@ -4,7 +4,7 @@ ghost use Rattle.std.specs.Prelude.{IfOk, OnOk, IfErr};
 ghost use Rattle.sdr_base.specs.Objects.{OnlyFull};
 ghost use Rattle.sdr_base.specs.Parts.{overwrite};
 ghost use Rattle.sdr_base.specs.Blocks.{HasBytes, UsesRange, kind_length};
-ghost use Rattle.sdr_base.specs.Cells.{IsRegionSize};
+ghost use Rattle.sdr_base.specs.Cells.{IsRegionSize, TouchesWithin, lines_of};
 ghost use Rattle.sdr_base.specs.Transaction.{HasReason, TouchesNone, TouchesAtMost};
 ghost use Rattle.sdr_base.specs.declared.line.TheConstants.{START_BITS};
 ghost use Rattle.sdr_heap.specs.Calls.{IsSomeBare, Labels, WritesBlock};
@@ -84,6 +84,8 @@ pub fn put<C: Cells>(c: &mut C, addr: Addr, place: u64, from: &[u8]) -> Result<(
     ensures refused { IfErr result OnlyFull }
     ensures size { length (C.bytes c.new) ≡ length (C.bytes c.old) }
     ensures room { TouchesAtMost (2 + length from.now / 64)
+        (C.transaction c.old) (C.transaction c.new) result }
+    ensures lines { TouchesWithin (lines_of (addr + place) (length from.now))
         (C.transaction c.old) (C.transaction c.new) result }
     ensures cause { HasReason (C.transaction c.old) (C.transaction c.new) result }
     ensures quiet { C.quiet c.old c.new }

@@ -1,7 +1,7 @@
 // Choosing a block for a request.
 ghost use Rattle.std.specs.Prelude.{◌≡◌, ◌≤◌, length, IfOk, IfErr};
 ghost use Rattle.sdr_base.specs.Objects.{OnlyFull};
-ghost use Rattle.sdr_base.specs.Transaction.{HasReason, TouchesAtMost};
+ghost use Rattle.sdr_base.specs.Transaction.{HasReason, NoneLeaves, TouchesAtMost};
 ghost use Rattle.sdr_heap.specs.Calls.{Chooses};
 ghost use Rattle.sdr_base.specs.KeptHeap.{KeepsSomeHeap};
 
@@ -16,6 +16,7 @@ pub fn choose<C: Cells>(c: &mut C, words: u64) -> Result<Option<Addr>, Stop>
     ensures refused { IfErr result OnlyFull }
     ensures size { length (C.bytes c.new) ≡ length (C.bytes c.old) }
     ensures room { TouchesAtMost 19 (C.transaction c.old) (C.transaction c.new) result }
+    ensures none { NoneLeaves (C.transaction c.old) (C.transaction c.new) result }
     ensures cause { HasReason (C.transaction c.old) (C.transaction c.new) result }
     ensures quiet { C.quiet c.old c.new }
 {

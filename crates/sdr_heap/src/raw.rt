@@ -3,6 +3,7 @@ ghost use Rattle.std.specs.Prelude.{◌≡◌, ◌+◌, ◌/◌, ◌≤◌, ◌<
 ghost use Rattle.sdr_base.specs.Blocks.{IsKind};
 ghost use Rattle.sdr_base.specs.Moves.{KeepsSome};
 ghost use Rattle.sdr_base.specs.Objects.{with_mark};
+ghost use Rattle.sdr_base.specs.Transaction.{LeavesTouched};
 ghost use Rattle.sdr_base.specs.Works.{Looks, Spends};
 ghost use Rattle.sdr_base.specs.declared.layout.raw.TheConstants.{BYTES};
 ghost use Rattle.sdr_heap.specs.Raw.{HasTold, IsMissing, HasSourceWord};
@@ -16,11 +17,13 @@ use sdr_base::{Addr, Kind, Objects, Refusal, Stop, check_failed, expect_kind};
 use zco_ref::expect_unnamed;
 
 /// Makes a raw object of so many zero bytes, which no source names.
+#[tactic(auto, using(sdr_base::proofs::LeavingLemmas::leaving))]
 pub fn malloc<O: Objects>(o: &mut O, bytes: u64) -> Result<Addr, Stop>
     requires kept { KeepsSome (O.keeps o.old) }
     requires spare { 1 ≤ (O.heap o.old).spare }
     ensures made { IfOk result (λ addr. MakesRaw bytes addr (O.heap o.old) (O.heap o.new)) }
     ensures refused { IfErr result (MallocStops bytes (O.heap o.old) (O.heap o.new)) }
+    ensures untouched { IfErr result (LeavesTouched (O.transaction o.old) (O.transaction o.new)) }
     ensures works { Spends O.HasHeap (24 + (BYTES + bytes) / 64) o.old o.new result }
 {
     check_failed(o)?;
@@ -35,13 +38,14 @@ pub fn malloc<O: Objects>(o: &mut O, bytes: u64) -> Result<Addr, Stop>
 
 /// Gives a raw object or a string back. It is refused `InUse` where a source names the raw object,
 /// with how many extents of both accounts name that.
-#[tactic(auto, using(crate::proofs::RawLemmas::freeing))]
+#[tactic(auto, using(sdr_base::proofs::LeavingLemmas::leaving, crate::proofs::RawLemmas::freeing))]
 pub fn free<O: Objects>(o: &mut O, addr: Addr) -> Result<(), Stop>
     requires kept { KeepsSome (O.keeps o.old) }
     requires spare { 1 ≤ (O.heap o.old).spare }
     requires raw { IsRaw (O.heap o.old).blocks addr }
     ensures given { OnOk result (Frees addr (O.heap o.old) (O.heap o.new)) }
     ensures refused { IfErr result (FreeStops addr (O.heap o.old) (O.heap o.new)) }
+    ensures untouched { IfErr result (LeavesTouched (O.transaction o.old) (O.transaction o.new)) }
     ensures works { Spends O.HasHeap 24 o.old o.new result }
 {
     match o.kind(addr)? {
@@ -56,6 +60,7 @@ pub fn free<O: Objects>(o: &mut O, addr: Addr) -> Result<(), Stop>
 }
 
 // Gives a raw object back, unless a source names it.
+#[tactic(auto, using(sdr_base::proofs::LeavingLemmas::leaving))]
 fn free_raw<O: Objects>(o: &mut O, addr: Addr) -> Result<(), Stop>
     requires kept { KeepsSome (O.keeps o.old) }
     requires spare { 1 ≤ (O.heap o.old).spare }
@@ -63,6 +68,7 @@ fn free_raw<O: Objects>(o: &mut O, addr: Addr) -> Result<(), Stop>
     requires kind { IsKind ((O.heap o.old).blocks addr) Kind.Raw }
     ensures given { OnOk result (Frees addr (O.heap o.old) (O.heap o.new)) }
     ensures refused { IfErr result (FreeStops addr (O.heap o.old) (O.heap o.new)) }
+    ensures untouched { IfErr result (LeavesTouched (O.transaction o.old) (O.transaction o.new)) }
     ensures works { Spends O.HasHeap 24 o.old o.new result }
 {
     expect_unnamed(o, addr)?;
@@ -134,6 +140,7 @@ pub fn read<O: Objects>(o: &mut O, addr: Addr, place: u64, into: &mut [u8]) -> R
 }
 
 /// Writes bytes into a raw object from a place on, where it was taken or staged in this transaction.
+#[tactic(auto, using(sdr_base::proofs::LeavingLemmas::leaving))]
 pub fn write<O: Objects>(o: &mut O, addr: Addr, place: u64, from: &[u8]) -> Result<(), Stop>
     requires kept { KeepsSome (O.keeps o.old) }
     requires whole { HasSourceWord ((O.heap o.old).blocks addr) }
@@ -141,6 +148,7 @@ pub fn write<O: Objects>(o: &mut O, addr: Addr, place: u64, from: &[u8]) -> Resu
         (WritesRaw addr place from.now (O.heap o.old) (O.heap o.new)) }
     ensures refused { IfErr result (WriteStops ((O.heap o.old).blocks addr) addr place
         (length from.now) (O.heap o.old) (O.heap o.new)) }
+    ensures untouched { IfErr result (LeavesTouched (O.transaction o.old) (O.transaction o.new)) }
     ensures works { Spends O.HasHeap (2 + length from.now / 64) o.old o.new result }
 {
     let have = expect_kind(o, addr, Kind::Raw)?;

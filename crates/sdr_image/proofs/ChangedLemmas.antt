@@ -1,69 +1,75 @@
--- What lines that are changed all or none leave on the disk, whatever is pending on it.
-use Rattle.std.proofs.Common.{◌≡◌, ◌<◌, ◌≤◌, ℕ, ◌+◌, ◌*◌, true, List, [], ◌∷◌, length, sym, ap, ◌∙◌, arith}
-use Rattle.sdr_base.proofs.PartsLemmas.{length-part}
-use Rattle.sdr_log.specs.Batch.{batch_size, with_batch}
-use Rattle.sdr_log.specs.Calls.{AreNamed, HoldLines, OpensBatch, with_records}
-use Rattle.sdr_log.specs.Log.{AreLines, are_good, heap_of, put_records}
-use Rattle.sdr_log.specs.Logged.{IsAtRest, IsOpen, Logs}
+-- Lines that are changed in one batch.
+use Rattle.std.proofs.Common.{◌≡◌, ◌∙◌, ℕ, List, [], ◌∷◌, ◌++◌, refl, sym, ap, subst, arith}
+use Rattle.std.specs.Prelude.{IsPermutation, map}
+use Rattle.std.proofs.lemmas.List.Sorted.{IsPermutation-map, IsPermutation-sym, IsPermutation-trans}
+use Rattle.std.proofs.lemmas.Option.{same_Some}
+use Rattle.sdr_base.specs.Parts.{overwrite}
+use Rattle.sdr_log.specs.Batch.{with_batch}
+use Rattle.sdr_log.specs.Calls.{HoldLines, with_records}
+use Rattle.sdr_log.specs.Log.{first_gate, heap_of}
 use Rattle.sdr_log.specs.declared.frame.Frame.{Frame}
 use Rattle.sdr_log.specs.declared.record.Record.{Record}
-use Rattle.sdr_log.proofs.BatchLemmas.{length-batch_of}
-use Rattle.sdr_log.proofs.ClosingLemmas.{closes}
-use Rattle.sdr_log.proofs.LoggedLemmas.{length-heap_of, logs_gate}
-use Rattle.sdr_log.proofs.OpeningLemmas.{opens_written, with_batch-written}
-use Rattle.sdr_log.proofs.RecordsLemmas.{are_good-cons}
-use Rattle.sdr_log.proofs.RestoringLemmas.{alone, with_records-put}
-use Rattle.sdr_log.proofs.TransactionLemmas.{opens_alone, rest_may_open}
-use Rattle.sdr_image.specs.Changed.{changed}
-use Rattle.sdr_image.specs.Opened.{HasBytes}
+use Rattle.sdr_log.proofs.GoodLemmas.{HoldLines-put_records}
+use Rattle.sdr_log.proofs.TransactionLemmas.{log_end-closed}
+use Rattle.sdr_image.specs.Buffer.{Changes, Rises}
+use Rattle.sdr_image.specs.Changed.{HasChanged, line_in}
+use Rattle.sdr_image.specs.Lines.{IsLines, Stands, lines_named, now_of}
+use Rattle.sdr_image.specs.Marks.{touched_in}
+use Rattle.sdr_image.specs.declared.lines.Lines.{Lines}
+use Rattle.sdr_image.proofs.EnteredLemmas.{news_good}
+use Rattle.sdr_image.proofs.RestedLemmas.{closed_none, nil_records}
+use Rattle.sdr_image.proofs.StandsLemmas.{stands_logs, stands_wide}
 
--- records with the bytes of lines of a heap have whole lines
-pub AreLines-HoldLines : (n : ℕ) (records : List Record) (heap : List ℕ) → are_good n records ≡ true →
-    64 * n ≤ length heap → HoldLines heap records → AreLines records
-AreLines-HoldLines n [] heap good le own = tt
-AreLines-HoldLines n (r ∷ records) heap good le own =
-    let g = are_good-cons n r records good in (
-      ap length own.0 ∙ length-part (64 * r.line) 64 heap (omega (arith, g.0, le)),
-      AreLines-HoldLines n records heap g.2 le own.1,
-    )
+-- records that have the bytes of their lines
+HoldLines-line_in : (heap : List ℕ) (rs : List Record) → HoldLines heap rs → map (line_in heap) (lines_named rs) ≡ rs
+HoldLines-line_in heap [] own = refl
+HoldLines-line_in heap (r ∷ rs) own =
+    let rest = HoldLines-line_in heap rs own.1 in
+    let first = own.0 in
+    (λ i. record { line = r.line; bytes = sym first i } ∷ rest i)
 
--- Old lines and new ones, on a disk with no open batch.
-module _ (f : Frame) (olds news : List Record) (x : List ℕ) (h : HasBytes f (heap_of f x) x)
-    (own : HoldLines (heap_of f x) olds) (good : are_good f.heap_lines olds ≡ true) (some : 0 < length olds)
-    (fits : 0 + batch_size (length olds) < 64 * f.log_lines) where
-  -- on which nothing is pending
-  rests : IsAtRest f x (λ image. image ≡ x)
-  rests = record { regions = h.regions; gate = h.gate; only = λ image is. is }
+-- Where no batch is open.
+module _ (f : Frame) (begun : List ℕ) (lines : Lines) (x : List ℕ) (s : Stands f begun lines x) (k : IsLines f lines)
+    (gate : first_gate x ≡ 0) where
+  no_records : s.records ≡ []
+  no_records = nil_records s.records (omega (arith, closed_none f begun lines x s k gate, s.many))
 
-  whole : AreLines olds
-  whole = AreLines-HoldLines f.heap_lines olds (heap_of f x) good (omega (arith, length-heap_of f x h.regions)) own
+  -- the next batch is the first
+  pub first_place : lines.place ≡ 0
+  first_place =
+      let logs = stands_logs f begun lines x s in
+      same_Some lines.place 0 (sym s.may.keeps.ends ∙ log_end-closed f x logs.regions gate)
 
-  -- the batch is open
-  opened : OpensBatch f 0 olds x (with_batch 0 olds x) (λ image. image ≡ with_batch 0 olds x)
-  opened =
-      opens_written f 0 olds x (λ image. image ≡ x) (rest_may_open f olds x _ rests good own) whole some fits
-      (with_batch 0 olds x) (λ image. image ≡ with_batch 0 olds x)
-      (sym (with_batch-written 0 olds x
-      (omega (arith, length-batch_of olds whole, fits, h.regions.inside)))) (λ image is. is)
+  -- and the touched lines are those of the buffer
+  buffered : IsPermutation (lines_named lines.buffer.olds) (touched_in lines.marks)
+  buffered = subst (λ (rs : List Record). IsPermutation (lines_named (rs ++ lines.buffer.olds)) (touched_in lines.marks))
+      no_records s.permuted
 
-  logs : Logs f (with_batch 0 olds x) olds
-  logs = record {
-    regions = opened.is_open.logged.logs.regions;
-    log = opens_alone f olds x (with_batch 0 olds x) (λ image. image ≡ x) _ rests opened;
-    good = good;
+  -- records of them, in any order
+  in_order : (heap : List ℕ) (rs rising : List Record) → HoldLines heap rs → lines_named rs ≡ lines_named lines.buffer.olds →
+      IsPermutation rs rising → IsPermutation (map (line_in heap) (touched_in lines.marks)) rising
+  in_order heap rs rising own same p =
+      let names = lines_named lines.buffer.olds in
+      let all : map (line_in heap) names ≡ rs =
+      ap (map (line_in heap)) (sym same) ∙ HoldLines-line_in heap rs own in
+      let there = IsPermutation-map (line_in heap) names (touched_in lines.marks) buffered in
+      IsPermutation-trans (map (line_in heap) (touched_in lines.marks)) rs rising
+      (subst (IsPermutation (map (line_in heap) (touched_in lines.marks))) all
+      (IsPermutation-sym (map (line_in heap) names) (map (line_in heap) (touched_in lines.marks)) there)) p
+
+  -- so they are changed
+  pub changed_once : (risen : Changes) (y : List ℕ) → Rises lines.buffer risen →
+      y ≡ overwrite 64 (0 ∷ []) (with_records f risen.news (with_batch lines.place risen.olds x)) →
+      HasChanged f begun (now_of f lines x) (touched_in lines.marks) x y
+  changed_once risen y r is = record {
+    olds = risen.olds;
+    news = risen.news;
+    were = in_order begun lines.buffer.olds risen.olds s.may.own refl r.olds;
+    are = in_order (now_of f lines x) lines.buffer.news risen.news
+        (HoldLines-put_records f.heap_lines lines.buffer.news (heap_of f x) (news_good f begun lines x s k) k.whole
+        (stands_wide f begun lines x s)) s.same r.news;
+    rising = r.rising;
+    rising' = r.rising';
+    written = is
+        ∙ ap (λ (p : ℕ). overwrite 64 (0 ∷ []) (with_records f risen.news (with_batch p risen.olds x))) first_place;
   }
-
-  -- the new lines stand in the heap region
-  pub changed_bytes : (y : List ℕ) → AreNamed olds news → AreLines news → y ≡ changed f olds news x →
-      HasBytes f (put_records news (heap_of f x)) y
-  changed_bytes y named lines is =
-      let w = with_records-put f olds news (with_batch 0 olds x) logs named lines in
-      let z = with_records f news (with_batch 0 olds x) in
-      let o : IsOpen f z (λ image. image ≡ z) =
-      record { logged = alone f z olds w.logs; gate = logs_gate f z olds w.logs some } in
-      let c = closes f z y _ (λ image. image ≡ y) o is (λ image e. e) in
-      record {
-        regions = c.rest.regions;
-        gate = c.rest.gate;
-        heap = c.heap ∙ w.heap ∙ ap (put_records news) opened.heap;
-      }

@@ -1,21 +1,15 @@
 -- A disk that was formatted, step by step.
 use Rattle.std.proofs.Common.{◌≡◌, ℕ, ◌+◌, ◌-◌, ◌*◌, ◌≤◌, List, [], ◌∷◌, ◌++◌, length, sym, ◌∙◌}
-use Rattle.std.proofs.Common.{ap, subst, arith}
-use Rattle.std.specs.Prelude.{Option, Some, replicate}
+use Rattle.std.proofs.Common.{ap, arith}
+use Rattle.std.specs.Prelude.{replicate}
 use Rattle.sdr_base.specs.FreshHeap.{fresh_control, fresh_heap}
 use Rattle.sdr_base.specs.Parts.{overwrite}
 use Rattle.sdr_base.proofs.FreshHeapLemmas.{length-fresh_control, fresh_heap-zeros, length-fresh_heap}
 use Rattle.sdr_base.proofs.PartsLemmas.{length-overwrite, overwrite-behind, overwrite-again, overwrite-apart}
-use Rattle.sdr_disk.specs.Told.{IsLong}
 use Rattle.sdr_log.specs.Frame.{heap_place, head_of, disk_bytes, IsInLimits}
 use Rattle.sdr_log.specs.declared.frame.Frame.{Frame}
 use Rattle.sdr_log.proofs.FrameLemmas.{length-head_of}
 use Rattle.sdr_image.specs.Format.{formatted}
-
--- the told bytes of a disk are as many as it has
-pub told_length : (bytes : Option (List ℕ)) (size : ℕ) (x : List ℕ) → IsLong bytes size → bytes ≡ Some x →
-    length x ≡ size
-told_length bytes size x long is = subst (λ (b : Option (List ℕ)). IsLong b size) is long
 
 -- the control words, and zeros behind them
 pub fresh_heap_behind : (p q : ℕ) (f : Frame) (control x : List ℕ) → p ≡ heap_place f → q ≡ heap_place f →

@@ -1,6 +1,6 @@
--- Records of lines in another order, and with the bytes of another heap.
-use Rattle.std.proofs.Common.{◌≡◌, ◌≤◌, ◌<◌, inl, inr, ℕ, zero, suc, ◌*◌, ◌/◌, Bool, true, false, ◌||◌, ◌==◌, cond}
-use Rattle.std.proofs.Common.{List, [], ◌∷◌, length, refl, sym, ap, ◌∙◌, arith}
+-- Records of lines in another order.
+use Rattle.std.proofs.Common.{◌≡◌, ◌≤◌, ◌<◌, inl, inr, ℕ, zero, suc, ◌*◌, Bool, true, false, ◌||◌, ◌==◌, cond}
+use Rattle.std.proofs.Common.{List, [], ◌∷◌, refl, sym, ap, ◌∙◌, arith}
 use Rattle.std.specs.Prelude.{IsPermutation}
 use Rattle.std.specs.List.{All, sum_by}
 use Rattle.std.proofs.lemmas.Bool.{cases_eq}
@@ -8,16 +8,12 @@ use Rattle.std.proofs.lemmas.Bool.Decides.{nat_tests}
 use Rattle.std.proofs.lemmas.List.Sorted.{All-permutation, IsPermutation-map, list_any-IsPermutation}
 use Rattle.std.proofs.lemmas.List.Sorted.{sum_by-IsPermutation}
 use Rattle.std.proofs.lemmas.List.Sums.{sum_by-cons}
-use Rattle.sdr_base.proofs.PartsLemmas.{length-part}
 use Rattle.sdr_base.specs.Parts.{part}
-use Rattle.sdr_log.specs.Calls.{AreBelow, AreNamed, HoldLines}
-use Rattle.sdr_log.specs.Log.{AreLines, are_good, names_line, put_records}
+use Rattle.sdr_log.specs.Calls.{HoldLines}
+use Rattle.sdr_log.specs.Log.{are_good, names_line}
 use Rattle.sdr_log.specs.declared.record.Record.{Record}
-use Rattle.sdr_log.proofs.GoodLemmas.{AreBelow-good, put_records-all_own}
-use Rattle.sdr_log.proofs.RecordsLemmas.{SameBut, are_good-cons}
-use Rattle.sdr_log.proofs.RecordsLemmas.{put_records-same_but}
-use Rattle.sdr_image.specs.Changed.{lines_in}
-use Rattle.sdr_image.specs.Opened.{lines_named}
+use Rattle.sdr_log.proofs.RecordsLemmas.{are_good-cons}
+use Rattle.sdr_image.specs.Lines.{lines_named}
 use Rattle.sdr_image.proofs.TouchedLemmas.{is_among-lines_named}
 
 -- Records in another order.
@@ -120,72 +116,3 @@ pub are_good-permutation : (n : ℕ) (a b : List Record) → IsPermutation a b �
 are_good-permutation n a b p good =
     good-times n b (λ line is. below-good n a line good (sym (names_line-permutation a b line p) ∙ is))
     (λ line. omega (arith, sum_by-IsPermutation (times line) a b p, times-good n a line good))
-
--- Records of the lines of others, with the bytes of a heap.
-
-pub lines_named-lines_in : (heap : List ℕ) (lines : List ℕ) → lines_named (lines_in heap lines) ≡ lines
-lines_named-lines_in heap [] = refl
-lines_named-lines_in heap (line ∷ lines) = ap (λ (l : List ℕ). line ∷ l) (lines_named-lines_in heap lines)
-
--- records that have the bytes of their lines
-pub HoldLines-lines_in : (heap : List ℕ) (records : List Record) → HoldLines heap records →
-    records ≡ lines_in heap (lines_named records)
-HoldLines-lines_in heap [] own = refl
-HoldLines-lines_in heap (r ∷ records) own =
-    let rest = HoldLines-lines_in heap records own.1 in
-    let first = own.0 in
-    (λ i. record { line = r.line; bytes = first i } ∷ rest i)
-
-module _ (heap : List ℕ) where
-  -- they have the bytes of their lines
-  own_lines_in : (lines : List ℕ) → HoldLines heap (lines_in heap lines)
-  own_lines_in [] = tt
-  own_lines_in (line ∷ lines) = (refl, own_lines_in lines)
-
-  -- they name the same lines
-  pub names_line-lines_in : (records : List Record) (line : ℕ) →
-      names_line (lines_in heap (lines_named records)) line ≡ names_line records line
-  names_line-lines_in [] line = refl
-  names_line-lines_in (r ∷ records) line = ap (λ (b : Bool). r.line == line || b) (names_line-lines_in records line)
-
-  pub AreNamed-lines_in : (all records : List Record) → AreNamed all records →
-      AreNamed all (lines_in heap (lines_named records))
-  AreNamed-lines_in all [] named = tt
-  AreNamed-lines_in all (r ∷ records) named = (named.0, AreNamed-lines_in all records named.1)
-
-  pub AreBelow-lines_in : (n : ℕ) (records : List Record) → AreBelow n records →
-      AreBelow n (lines_in heap (lines_named records))
-  AreBelow-lines_in n [] below = tt
-  AreBelow-lines_in n (r ∷ records) below = (below.0, AreBelow-lines_in n records below.1)
-
-  pub length-lines_in : (lines : List ℕ) → length (lines_in heap lines) ≡ length lines
-  length-lines_in [] = refl
-  length-lines_in (line ∷ lines) = ap suc (length-lines_in lines)
-
-  pub are_good-lines_in : (n : ℕ) (records : List Record) → are_good n records ≡ true →
-      are_good n (lines_in heap (lines_named records)) ≡ true
-  are_good-lines_in n [] good = refl
-  are_good-lines_in n (r ∷ records) good =
-      let g = are_good-cons n r records good in
-      let rest = are_good-lines_in n records g.2 in
-      let new = names_line-lines_in records r.line ∙ g.1 in
-      grind (arith, nat_tests, g.0, rest, new)
-
-  pub AreLines-lines_in : (n : ℕ) (records : List Record) → AreBelow n records → 64 * n ≤ length heap →
-      AreLines (lines_in heap (lines_named records))
-  AreLines-lines_in n [] below le = tt
-  AreLines-lines_in n (r ∷ records) below le =
-      (length-part (64 * r.line) 64 heap (omega (arith, below.0, le)), AreLines-lines_in n records below.1 le)
-
--- where a heap differs from another in some lines alone, it becomes the other with the other's lines
-pub put_records-lines_in : (n : ℕ) (records : List Record) (heap other : List ℕ) → are_good n records ≡ true →
-    64 * n ≤ length heap → SameBut records heap other → put_records (lines_in heap (lines_named records)) other ≡ heap
-put_records-lines_in n records heap other good le s =
-    let news = lines_in heap (lines_named records) in
-    let good' = are_good-lines_in heap n records good in
-    let lines = AreLines-lines_in heap n records (AreBelow-good n records good) le in
-    put_records-same_but n news heap other good' lines le (record {
-      long = s.long;
-      same = λ i unnamed. s.same i (sym (names_line-lines_in heap records (i / 64)) ∙ unnamed);
-    })
-    ∙ put_records-all_own n [] news heap good' tt lines le (own_lines_in heap (lines_named records))

@@ -4,7 +4,7 @@ use Rattle.sdr_base.specs.Parts.{part}
 use Rattle.sdr_log.specs.Frame.{heap_place}
 use Rattle.sdr_log.specs.Log.{heap_of}
 use Rattle.sdr_log.specs.declared.frame.Frame.{Frame}
-use Rattle.sdr_image.proofs.RegionLemmas.{items_anew}
+use Rattle.sdr_image.proofs.VecLemmas.{items_anew}
 
 -- the heap region, read into a vector
 pub heap_of-read : (f : Frame) (place len : ℕ) (new old x region : List ℕ) → place ≡ heap_place f →

@@ -1,13 +1,11 @@
 -- What a disk gives depends on its head and its regions alone.
-use Rattle.std.proofs.Common.{◌≡◌, ◌≤◌, ℕ, ◌+◌, ◌-◌, ◌*◌, List, ◌++◌, length, Result, Ok, Err, take, drop, refl, ap, sym, subst, ◌∙◌, arith, Option, Some, None, take-take}
+use Rattle.std.proofs.Common.{◌≡◌, ◌≤◌, ℕ, ◌+◌, ◌-◌, ◌*◌, List, ◌++◌, length, Result, Ok, Err, take, drop, refl, ap, sym, subst, ◌∙◌, arith, Some, None, take-take}
 use Rattle.std.specs.Prelude.{IfErr, IfOk}
 use Rattle.std.proofs.lemmas.Bool.{le-leb}
 use Rattle.std.proofs.lemmas.List.{drop-take}
 use Rattle.sdr_base.proofs.PartsLemmas.{length-part}
 use Rattle.sdr_base.specs.Parts.{part}
-use Rattle.sdr_disk.proofs.ToldLemmas.{told_long}
-use Rattle.sdr_disk.specs.Told.{IsLong}
-use Rattle.sdr_image.proofs.RegionLemmas.{items_anew}
+use Rattle.sdr_image.proofs.VecLemmas.{items_anew}
 use Rattle.sdr_image.specs.Opening.{OnNotFormatted}
 use Rattle.sdr_image.specs.declared.error.ImageError.{ImageError}
 use Rattle.sdr_image.specs.declared.error.ImageError.TheVariants as errors
@@ -54,14 +52,11 @@ module _ (f : Frame) (x : List ℕ) (fits : disk_bytes f ≤ length x) where
       rw (head_same, head, length-part 0 (disk_bytes f) x (omega (arith, fits)), le-leb (disk_bytes f) (disk_bytes f) (omega arith), le-leb (disk_bytes f) (length x) fits) back_same
 
 -- what is read of a disk that is long enough, from its front up to the end of its regions, is a copy
-pub is_copied : (told : Option (List ℕ)) (size : ℕ) (f : Frame) (x copy : List ℕ) → IsLong told size → IsFramed size told f → told ≡ Some x
-    → copy ≡ part 0 (disk_bytes f) x → IsCopied f x copy
-is_copied told size f x copy long framed is read =
-    let fits : disk_bytes f ≤ length x = omega (arith, framed.fits, told_long told size x long is) in
-    let head = framed.head x is in
+pub is_copied : (f : Frame) (x copy : List ℕ) → IsFramed x f → copy ≡ part 0 (disk_bytes f) x → IsCopied f x copy
+is_copied f x copy framed read =
     subst (λ (y : List ℕ). IsCopied f x y) (sym read) (record {
-      head = subst (λ (h : List ℕ). frame_of h ≡ Some f) (sym (head_same f x fits)) head;
-      gives = put_back_of-front f x fits head;
+      head = subst (λ (h : List ℕ). frame_of h ≡ Some f) (sym (head_same f x framed.fits)) framed.head;
+      gives = put_back_of-front f x framed.fits framed.head;
     })
 
 -- where a copy gives no heap of these regions, the disk gives none
@@ -90,8 +85,6 @@ if_none (Err errors.DiskFault) P Q then p = tt
 if_none (Err errors.NoMemory) P Q then p = tt
 
 -- where no batch is open, the heap region is what the disk gives
-pub heap_closed : (told : Option (List ℕ)) (size : ℕ) (f : Frame) (x heap : List ℕ) → IsLong told size → IsFramed size told f → told ≡ Some x
-    → first_gate x ≡ 0 → heap ≡ heap_of f x → put_back_of x ≡ Some heap
-heap_closed told size f x heap long framed is gate region =
-    put_back_of-closed f x (framed.head x is) (omega (arith, framed.limits.least_log)) (omega (arith, framed.fits, told_long told size x long is)) gate
-    ∙ ap Some (sym region)
+pub heap_closed : (f : Frame) (x heap : List ℕ) → IsFramed x f → first_gate x ≡ 0 → heap ≡ heap_of f x → put_back_of x ≡ Some heap
+heap_closed f x heap framed gate region =
+    put_back_of-closed f x framed.head (omega (arith, framed.limits.least_log)) framed.fits gate ∙ ap Some (sym region)

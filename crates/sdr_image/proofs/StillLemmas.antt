@@ -3,6 +3,7 @@ use Rattle.std.proofs.Common.{◌≡◌, ◌<◌, ℕ, ◌+◌, ◌-◌, ◌/◌
 use Rattle.std.specs.Prelude.{filter}
 use Rattle.std.proofs.lemmas.Bool.Decides.{nat_tests}
 use Rattle.std.proofs.lemmas.List.FromFn.{length-range_with_len}
+use Rattle.std.proofs.lemmas.List.Sorted.{IsPermutation-refl}
 use Rattle.sdr_base.specs.Cells.{TouchesLines, is_among, lines_of, with_lines}
 use Rattle.sdr_base.specs.declared.refusal.Refusal.TheVariants.{LogFull}
 use Rattle.sdr_base.specs.declared.stop.Stop.TheVariants.{Refused}
@@ -33,7 +34,7 @@ none_touched : (place : ℕ) → TouchesLines {T = Unit {0}} (lines_of place 0) 
 unfolding with_lines lines_of
 none_touched place = record {
   room = refl;
-  touched = refl;
+  touched = IsPermutation-refl [];
   fits = omega arith;
   same = tt;
   some = tt;

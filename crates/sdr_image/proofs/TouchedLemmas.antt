@@ -5,15 +5,15 @@ use Rattle.std.proofs.Common.{List, [], ◌∷◌, ◌++◌, length, refl, sym, 
 use Rattle.std.proofs.Common.{append-nil, append_assoc, length-append}
 use Rattle.std.specs.Prelude.{filter}
 use Rattle.std.specs.List.{range_with_len}
-use Rattle.std.proofs.lemmas.List.{length-map, map-append}
-use Rattle.std.proofs.lemmas.List.Elements.{filter-append, filter_agree}
+use Rattle.std.proofs.lemmas.List.Elements.{filter-append}
+use Rattle.std.proofs.lemmas.List.Filters.{length-filter_both}
 use Rattle.std.proofs.lemmas.List.Folds.{list_any-append}
 use Rattle.std.proofs.lemmas.Bool.{cases_eq}
 use Rattle.std.proofs.lemmas.Bool.Decides.{nat_tests}
 use Rattle.sdr_base.specs.Cells.{lines_of, is_among, with_lines}
 use Rattle.sdr_log.specs.Log.{names_line}
 use Rattle.sdr_log.specs.declared.record.Record.{Record}
-use Rattle.sdr_image.specs.Opened.{lines_named}
+use Rattle.sdr_image.specs.Lines.{lines_named}
 
 -- the lines that are named are those of the records
 pub is_among-lines_named : (olds : List Record) (line : ℕ) → is_among (lines_named olds) line ≡ names_line olds line
@@ -105,6 +105,20 @@ with_lines-none touched first =
     let none : first - first ≡ 0 = omega arith in
     ap (λ (n : ℕ). touched ++ filter fresh (range_with_len first n)) none ∙ append-nil touched
 
+-- with others there are as many at least
+pub with_lines-least : (touched own : List ℕ) → length touched ≤ length (with_lines touched own)
+unfolding with_lines
+with_lines-least touched own =
+    omega (arith, length-append touched (filter (λ line. not (is_among touched line)) own))
+
+-- and at most so many more as there are others
+pub with_lines-most : (touched own : List ℕ) → length (with_lines touched own) ≤ length touched + length own
+unfolding with_lines
+with_lines-most touched own =
+    let fresh : ℕ → Bool = λ line. not (is_among touched line) in
+    let both = length-filter_both fresh (λ line. not (fresh line)) (λ line. refl) own in
+    omega (arith, length-append touched (filter fresh own), both)
+
 -- fewer lines of a run
 pub with_lines-fewer : (touched : List ℕ) (first m n : ℕ) → m ≤ n →
     length (with_lines touched (range_with_len first m)) ≤ length (with_lines touched (range_with_len first n))
@@ -139,46 +153,6 @@ few_next touched first n end room lt enough new =
       with_lines-fewer touched first (n + 1)
           (end - first) (omega arith),
     )
-
--- as many lines are touched as were kept
-pub touched_few : (olds : List Record) (touched : List ℕ) → lines_named olds ≡ touched → length touched ≡ length olds
-touched_few olds touched same = ap length (sym same) ∙ length-map olds (λ (r : Record). r.line)
-
--- there is room for a line more
-pub few_more : (olds : List Record) (touched : List ℕ) (line room room' : ℕ) → lines_named olds ≡ touched →
-    room ≡ room' →
-    names_line olds line ≡ false → (is_among touched line ≡ false → length touched < room') → length olds < room
-few_more olds touched line room room' same room_same new few =
-    let other : is_among touched line ≡ false =
-    ap (λ (t : List ℕ). is_among t line) (sym same) ∙ is_among-lines_named olds line ∙ new in
-    omega (arith, few other, room_same, touched_few olds touched same)
-
--- a line more among those touched
-pub lines_named-push : (olds : List Record) (touched : List ℕ) (r : Record) → lines_named olds ≡ touched →
-    names_line olds r.line ≡ false → lines_named (olds ++ r ∷ []) ≡ with_lines touched (r.line ∷ [])
-lines_named-push olds touched r same new =
-    map-append (λ (o : Record). o.line) olds (r ∷ [])
-    ∙ ap (λ (t : List ℕ). t ++ r.line ∷ []) same
-    ∙ sym (with_lines-untouched touched r.line
-    (ap (λ (t : List ℕ). is_among t r.line) (sym same) ∙ is_among-lines_named olds r.line ∙ new))
-
--- a line that is among them already
-pub lines_named-again : (olds : List Record) (touched : List ℕ) (line : ℕ) → lines_named olds ≡ touched →
-    names_line olds line ≡ true → lines_named olds ≡ with_lines touched (line ∷ [])
-lines_named-again olds touched line same named =
-    same
-    ∙ sym (with_lines-touched touched line
-    (ap (λ (t : List ℕ). is_among t line) (sym same) ∙ is_among-lines_named olds line ∙ named))
-
--- the lines touched, and those of a run that weren't, counted
-pub touched_count : (olds : List Record) (touched own : List ℕ) → lines_named olds ≡ touched →
-    length olds + length (filter (λ line. not (names_line olds line)) own) ≡ length (with_lines touched own)
-unfolding with_lines
-touched_count olds touched own same =
-    let fresh : ℕ → Bool = λ line. not (is_among touched line) in
-    let agree = filter_agree (λ line. not (names_line olds line)) fresh
-    (λ line. ap not (sym (is_among-lines_named olds line) ∙ ap (λ (t : List ℕ). is_among t line) same)) own in
-    omega (arith, ap length agree, touched_few olds touched same, length-append touched (filter fresh own))
 
 -- each line of a run is among those touched with it
 pub is_among-with_lines : (touched own : List ℕ) (line : ℕ) → is_among own line ≡ true → is_among

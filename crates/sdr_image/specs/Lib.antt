@@ -1,8 +1,12 @@
+pub mod Buffer
+pub mod Cache
 pub mod Changed
 pub mod Format
+pub mod Lines
+pub mod Marks
 pub mod Opened
 pub mod Opening
-pub mod Saved
-pub mod Undo
 pub mod Peeking
+pub mod QuietLaws
+pub mod Saved
 pub mod Still

@@ -1,38 +1,17 @@
--- What a commit needs, and what it leaves on the disk.
-use Rattle.std.specs.Prelude.{◌≡◌, ◌≢◌, ◌≤◌, ◌<◌, ◌+◌, ◌*◌, ℕ, zero, suc, true, List, [], length}
-use Rattle.std.specs.Prelude.{Option, Some}
-use Rattle.sdr_base.specs.declared.line.TheConstants.{LINE}
-use Rattle.sdr_disk.specs.Told.{Both, IfTold}
-use Rattle.sdr_log.specs.Batch.{batch_size}
-use Rattle.sdr_log.specs.Frame.{room_of}
-use Rattle.sdr_log.specs.Log.{AreLines, are_good, put_back_of}
-use Rattle.sdr_log.specs.declared.frame.Frame.{Frame}
-use Rattle.sdr_log.specs.declared.record.Record.{Record}
-use Rattle.sdr_image.specs.Changed.{HasChanged, lines_in}
+-- What a commit leaves on the disk.
+use Rattle.std.specs.Prelude.{◌≡◌, ◌≢◌, ◌+◌, ℕ, zero, suc, Bool, List, [], Some}
+use Rattle.sdr_log.specs.Log.{first_gate, put_back_of}
+use Rattle.sdr_image.specs.Changed.{HasChanged}
 use Rattle.sdr_image.specs.Opened.{Opened, Rests}
 
--- so many old lines have room, so many new ones, and their batch in so many bytes
-pub record HasMemory (room olds news batch : ℕ) : Type 0 where
-  pub olds_fit : room ≤ olds
-  pub news_fit : room ≤ news
-  pub batch_fits : batch_size room ≤ batch
-
--- old lines of a region, for which there is memory
-pub record MaySave (f : Frame) (memory : ℕ) (olds : List Record) (region : List ℕ) : Type 0 where
-  pub some : 0 < length olds
-  pub few : length olds ≤ room_of f
-  pub reserved : room_of f ≤ memory
-  pub good : are_good f.heap_lines olds ≡ true
-  pub whole : AreLines olds
-  pub long : length region ≡ LINE * f.heap_lines
-
--- The touched lines are changed on the disk, and opening it gives the bytes now. Where there were any, the disk rests.
-pub record Saves {D : Type 0} (told : D → Option (List ℕ)) (moment : D → ℕ) (may_hold_after : D → ℕ → List ℕ → Type 0)
-    (old new : Opened D) : Type 0 where
-  pub written : old.touched ≢ [] → Both (told old.disk) (told new.disk)
-      (HasChanged old.frame (lines_in old.begun old.touched) old.bytes)
-  pub back : IfTold (told new.disk) (λ x. put_back_of x ≡ Some old.bytes)
-  pub rests : old.touched ≢ [] → Rests told moment may_hold_after new
+-- Opening the disk gives the bytes now. Where a line was touched, the disk rests; and where no batch was open before, the
+-- touched lines were changed on it in one batch.
+pub record Saves {D : Type 0} (bytes : D → List ℕ) (tells : D → Bool) (moment : D → ℕ)
+    (may_hold_after : D → ℕ → List ℕ → Type 0) (old new : Opened D) : Type 0 where
+  pub back : put_back_of (bytes new.disk) ≡ Some old.bytes
+  pub written : first_gate (bytes old.disk) ≡ 0 → old.touched ≢ [] →
+      HasChanged old.frame old.begun old.bytes old.touched (bytes old.disk) (bytes new.disk)
+  pub rests : old.touched ≢ [] → Rests bytes tells moment may_hold_after new
 
 -- how many writes and syncs the end of a transaction that touched so many lines makes at most: one for each and seven
 -- more, none without a line

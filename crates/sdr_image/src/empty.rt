@@ -1,13 +1,12 @@
 // An empty heap, written to a disk.
-ghost use Rattle.std.specs.Prelude.{◌≡◌, ◌≤◌, ◌<◌, ◌+◌, ◌↔◌, ◌++◌, ◌∷◌, [], length, OnOk, IsErrOf};
-ghost use Rattle.std.specs.Prelude.{Some, is_some, replicate};
+ghost use Rattle.std.specs.Prelude.{◌≡◌, ◌≤◌, ◌<◌, ◌+◌, ◌∷◌, [], length, OnOk};
+ghost use Rattle.std.specs.Prelude.{replicate};
 ghost use Rattle.sdr_base.specs.Causes.{HasCause};
 ghost use Rattle.sdr_base.specs.FreshHeap.{fresh_heap};
 ghost use Rattle.sdr_base.specs.Parts.{overwrite};
-ghost use Rattle.sdr_disk.specs.Moments.{Only};
-ghost use Rattle.sdr_disk.specs.Told.{IfTold};
 ghost use Rattle.sdr_log.specs.Frame.{IsInLimits, disk_bytes, heap_place, head_of};
 ghost use Rattle.sdr_image.specs.Format.{formatted, HasFormatCause, IfTooSmall};
+ghost use Rattle.sdr_disk.specs.Pending.{IsSynced};
 
 use crate::FormatError;
 use crate::fresh::fresh_control;
@@ -18,11 +17,11 @@ use sdr_log::Frame;
 
 // Step 1: no head, so that from here on the disk gives no heap.
 fn erase_head<D: Disk>(disk: &mut D) -> Result<(), DiskFault>
-    requires { 64 ≤ D.size disk.old }
-    ensures written { OnOk result (IfTold (D.bytes disk.old)
-        (λ x. D.bytes disk.new ≡ Some (overwrite 0 (replicate 64 0) x))) }
-    ensures tells { is_some (D.bytes disk.new) ≡ is_some (D.bytes disk.old) }
-    ensures size { D.size disk.new ≡ D.size disk.old }
+    requires { 64 ≤ length (D.bytes disk.old) }
+    ensures written { OnOk result (D.bytes disk.new ≡ overwrite 0 (replicate 64 0)
+        (D.bytes disk.old)) }
+    ensures tells { D.tells_crashes disk.new ≡ D.tells_crashes disk.old }
+    ensures size { length (D.bytes disk.new) ≡ length (D.bytes disk.old) }
     ensures cause { HasCause (D.faults disk.old) (D.faults disk.new) result }
 {
     disk.write_at(0, &[0; 64])?;
@@ -32,11 +31,11 @@ fn erase_head<D: Disk>(disk: &mut D) -> Result<(), DiskFault>
 // The heap region of a fresh heap, in pieces, without a sync.
 fn write_heap<D: Disk>(disk: &mut D, frame: &Frame) -> Result<(), DiskFault>
     requires limits { IsInLimits frame.now }
-    requires inside { disk_bytes frame.now ≤ D.size disk.old }
-    ensures written { OnOk result (IfTold (D.bytes disk.old) (λ x. D.bytes disk.new
-        ≡ Some (overwrite (heap_place frame.now) (fresh_heap frame.now.heap_lines) x))) }
-    ensures tells { is_some (D.bytes disk.new) ≡ is_some (D.bytes disk.old) }
-    ensures size { D.size disk.new ≡ D.size disk.old }
+    requires inside { disk_bytes frame.now ≤ length (D.bytes disk.old) }
+    ensures written { OnOk result (D.bytes disk.new ≡ overwrite (heap_place frame.now) (fresh_heap
+        frame.now.heap_lines) (D.bytes disk.old)) }
+    ensures tells { D.tells_crashes disk.new ≡ D.tells_crashes disk.old }
+    ensures size { length (D.bytes disk.new) ≡ length (D.bytes disk.old) }
     ensures cause { HasCause (D.faults disk.old) (D.faults disk.new) result }
 {
     disk.write_at(frame.heap_place(), &fresh_control(frame.heap_lines))?;
@@ -51,12 +50,11 @@ fn write_heap<D: Disk>(disk: &mut D, frame: &Frame) -> Result<(), DiskFault>
 // Step 2: the first gate, closed, and the heap region.
 fn write_regions<D: Disk>(disk: &mut D, frame: &Frame) -> Result<(), DiskFault>
     requires limits { IsInLimits frame.now }
-    requires inside { disk_bytes frame.now ≤ D.size disk.old }
-    ensures written { OnOk result (IfTold (D.bytes disk.old) (λ x. D.bytes disk.new
-        ≡ Some (overwrite (heap_place frame.now) (fresh_heap frame.now.heap_lines)
-        (overwrite LINE (0 ∷ []) x)))) }
-    ensures tells { is_some (D.bytes disk.new) ≡ is_some (D.bytes disk.old) }
-    ensures size { D.size disk.new ≡ D.size disk.old }
+    requires inside { disk_bytes frame.now ≤ length (D.bytes disk.old) }
+    ensures written { OnOk result (D.bytes disk.new ≡ overwrite (heap_place frame.now) (fresh_heap
+        frame.now.heap_lines) (overwrite LINE (0 ∷ []) (D.bytes disk.old))) }
+    ensures tells { D.tells_crashes disk.new ≡ D.tells_crashes disk.old }
+    ensures size { length (D.bytes disk.new) ≡ length (D.bytes disk.old) }
     ensures cause { HasCause (D.faults disk.old) (D.faults disk.new) result }
 {
     disk.write_at(LINE, &[0])?;
@@ -67,14 +65,14 @@ fn write_regions<D: Disk>(disk: &mut D, frame: &Frame) -> Result<(), DiskFault>
 // Step 3: the head. At `Ok` the disk gives the fresh heap.
 fn write_head<D: Disk>(disk: &mut D, frame: &Frame) -> Result<(), DiskFault>
     requires limits { IsInLimits frame.now }
-    requires inside { disk_bytes frame.now ≤ D.size disk.old }
-    ensures written { OnOk result (IfTold (D.bytes disk.old)
-        (λ x. D.bytes disk.new ≡ Some (overwrite 0 (head_of frame.now) x))) }
-    ensures tells { is_some (D.bytes disk.new) ≡ is_some (D.bytes disk.old) }
-    ensures size { D.size disk.new ≡ D.size disk.old }
+    requires inside { disk_bytes frame.now ≤ length (D.bytes disk.old) }
+    ensures written { OnOk result (D.bytes disk.new ≡ overwrite 0 (head_of frame.now)
+        (D.bytes disk.old)) }
+    ensures tells { D.tells_crashes disk.new ≡ D.tells_crashes disk.old }
+    ensures size { length (D.bytes disk.new) ≡ length (D.bytes disk.old) }
     ensures cause { HasCause (D.faults disk.old) (D.faults disk.new) result }
-    ensures durable { OnOk result (IfTold (D.bytes disk.new)
-        (λ x. Only x (D.may_hold_after disk.new (D.moment disk.new)))) }
+    ensures durable { OnOk result (IsSynced D.bytes D.tells_crashes D.moment D.may_hold_after
+        disk.new) }
 {
     disk.write_at(0, &frame.head())?;
     disk.sync()
@@ -85,18 +83,17 @@ fn write_head<D: Disk>(disk: &mut D, frame: &Frame) -> Result<(), DiskFault>
 /// again.
 pub fn format<D: Disk>(disk: &mut D, frame: Frame) -> Result<(), FormatError>
     requires { IsInLimits frame }
-    ensures formatted { OnOk result (IfTold (D.bytes disk.old)
-        (λ x. D.bytes disk.new ≡ Some (formatted frame x))) }
+    ensures formatted { OnOk result (D.bytes disk.new ≡ formatted frame (D.bytes disk.old)) }
 
-    ensures durable { OnOk result (IfTold (D.bytes disk.new)
-        (λ x. Only x (D.may_hold_after disk.new (D.moment disk.new)))) }
+    ensures durable { OnOk result (IsSynced D.bytes D.tells_crashes D.moment D.may_hold_after
+        disk.new) }
 
     ensures same { IfTooSmall result (disk.new ≡ disk.old) }
-    ensures cause { HasFormatCause (disk_bytes frame) (D.size disk.old)
-        (D.faults disk.old) (D.faults disk.new) result }
+    ensures cause { HasFormatCause (disk_bytes frame) (length (D.bytes disk.old)) (D.faults
+        disk.old) (D.faults disk.new) result }
 
-    ensures tells { is_some (D.bytes disk.new) ≡ is_some (D.bytes disk.old) }
-    ensures size { D.size disk.new ≡ D.size disk.old }
+    ensures tells { D.tells_crashes disk.new ≡ D.tells_crashes disk.old }
+    ensures size { length (D.bytes disk.new) ≡ length (D.bytes disk.old) }
 {
     let need = frame.disk_bytes();
     let have = disk.len();

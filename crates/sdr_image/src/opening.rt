@@ -1,90 +1,84 @@
 // A disk, read for the first time.
-ghost use Rattle.std.specs.Prelude.{◌≡◌, ◌≤◌, ◌+◌, ◌*◌, IfOk, IfErr, OnErr, OnOk, None, length};
-ghost use Rattle.sdr_base.specs.Causes.{HasCause};
+ghost use Rattle.std.specs.Prelude.{◌≡◌, ◌≤◌, ◌+◌, ◌*◌, IfOk, IfErr, OnErr, OnOk, None};
 ghost use Rattle.sdr_disk.specs.Moments.{AtEach, Only, Reads};
 ghost use Rattle.sdr_disk.specs.Pending.{IsSynced};
-ghost use Rattle.sdr_disk.specs.Told.{Both, IfTold};
+ghost use Rattle.sdr_disk.specs.Tells.{IfTells};
 ghost use Rattle.sdr_log.specs.Calls.{IsFramed, KeepsDisk, KeepsOutside, KeepsRest, PutsBack};
-ghost use Rattle.sdr_log.specs.Frame.{IsInLimits, disk_bytes};
+ghost use Rattle.sdr_log.specs.Frame.{IsInLimits};
 ghost use Rattle.sdr_log.specs.Left.{IsLeftFrom};
-ghost use Rattle.sdr_log.specs.Log.{first_gate, heap_of, put_back_of};
+ghost use Rattle.sdr_log.specs.Log.{first_gate, put_back_of};
 ghost use Rattle.sdr_log.specs.Logged.{GivesSame};
-ghost use Rattle.sdr_image.specs.Opened.{HasBytes};
-ghost use Rattle.sdr_image.specs.Opening.{FailsOpening, HasImageCause, IsReserved, MayBeOpened};
+ghost use Rattle.sdr_image.specs.Lines.{IsFresh};
+ghost use Rattle.sdr_image.specs.Opening.{FailsOpening, HasImageCause, MayBeOpened};
 ghost use Rattle.sdr_image.specs.Opening.{OnNotFormatted, UnlessFault};
 
 use crate::ImageError;
-use crate::region::Region;
-use crate::saving::Saving;
-use crate::undo::Undo;
-use sdr_base::{LINE, NoMemory};
-use sdr_disk::{Disk, DiskFault};
+use crate::buffer::Buffer;
+use crate::cache::Cache;
+use crate::lines::Lines;
+use crate::marks::Marks;
+use sdr_base::NoMemory;
+use sdr_disk::Disk;
 use sdr_log::{BackError, Frame, put_back_found, read_frame};
 use std::alloc::Global;
 
-// All the memory of an image.
-#[derive(Drop)]
-struct Memory {
-    bytes: Vec<u8>,
-    undo: Undo,
-    saving: Saving,
-}
+/// How many bytes a batch of as many lines as a buffer holds takes behind its gate.
+const BATCH_BYTES: usize = 4_357;
 
 /// What opening takes from a disk, and the memory of an image.
 #[derive(Drop)]
 pub struct Loaded {
     pub frame: Frame,
-    pub bytes: Region,
-    pub undo: Undo,
-    pub saving: Saving,
+    pub lines: Lines,
     /// How many lines were put back.
     pub restored: u64,
 }
 
 // All the memory of an image with these regions.
-fn reserve(alloc: Global, frame: &Frame) -> Result<Memory, NoMemory>
+fn reserve(alloc: Global, frame: &Frame) -> Result<Lines, NoMemory>
     requires limits { IsInLimits frame.now }
-    ensures ready { IfOk result
-        (λ m. IsReserved frame.now (length m.bytes.items) m.undo m.saving) }
+    ensures fresh { IfOk result (IsFresh frame.now) }
 {
-    let room = frame.room() as usize;
-    Ok(Memory {
-        bytes: vec![in alloc; 0; (LINE * frame.heap_lines) as usize]?,
-        undo: Undo::new(alloc, frame.heap_lines as usize, room)?,
-        saving: Saving::new(alloc, room)?,
+    Ok(Lines {
+        place: 0,
+        logged: 0,
+        buffer: Buffer::new(alloc)?,
+        marks: Marks::new(alloc, frame.heap_lines as usize)?,
+        batch: vec![in alloc; 0; BATCH_BYTES]?,
+        cache: Cache::new(alloc)?,
     })
 }
 
 // Puts back the open batches of a disk with the head of these regions, and gives how many lines
 // that were.
 fn restore<D: Disk>(alloc: Global, disk: &mut D, frame: Frame) -> Result<u64, ImageError>
-    requires framed { IsFramed (D.size disk.old) (D.bytes disk.old) frame }
-    ensures back { IfOk result (λ count. Both (D.bytes disk.old) (D.bytes disk.new)
-        (PutsBack frame count)) }
-    ensures not_formatted { IfErr result (λ why. OnNotFormatted why
-        (IfTold (D.bytes disk.old) (λ x. put_back_of x ≡ None))) }
+    requires framed { IsFramed (D.bytes disk.old) frame }
+    ensures back { IfOk result (λ count. PutsBack frame count (D.bytes disk.old)
+        (D.bytes disk.new)) }
+    ensures not_formatted { IfErr result (λ why. OnNotFormatted why (put_back_of (D.bytes disk.old)
+        ≡ None)) }
     ensures cause { HasImageCause (D.faults disk.old) (D.faults disk.new) result }
-    ensures disk { KeepsDisk D.size D.bytes disk.old disk.new }
-    ensures inside { Both (D.bytes disk.old) (D.bytes disk.new) (KeepsOutside frame) }
-    ensures same { IfErr result (λ why. UnlessFault why
-        (Reads D.bytes D.moment D.may_hold_after disk.old disk.new)) }
-    ensures synced { OnOk result (IfTold (D.bytes disk.old)
-        (λ x. MayBeOpened x (D.may_hold_after disk.old (D.moment disk.old))
-        → IsSynced D.bytes D.moment D.may_hold_after disk.new)) }
-    ensures faulted { OnErr result
-        (FailsOpening D.bytes D.moment D.may_hold_after disk.old disk.new) }
-    ensures quiet { IfTold (D.bytes disk.old) (λ x. first_gate x ≡ 0
-        → Reads D.bytes D.moment D.may_hold_after disk.old disk.new) }
+    ensures disk { KeepsDisk D.bytes D.tells_crashes disk.old disk.new }
+    ensures inside { KeepsOutside frame (D.bytes disk.old) (D.bytes disk.new) }
+    ensures same { IfErr result (λ why. UnlessFault why (Reads D.bytes D.tells_crashes D.moment
+        D.may_hold_after disk.old disk.new)) }
+    ensures synced { OnOk result (IfTells (D.tells_crashes disk.old)
+        (MayBeOpened (D.bytes disk.old) (D.may_hold_after disk.old (D.moment disk.old))
+        → IsSynced D.bytes D.tells_crashes D.moment D.may_hold_after disk.new)) }
+    ensures faulted { OnErr result (FailsOpening D.bytes D.tells_crashes D.moment D.may_hold_after
+        disk.old disk.new) }
+    ensures quiet { first_gate (D.bytes disk.old) ≡ 0
+        → Reads D.bytes D.tells_crashes D.moment D.may_hold_after disk.old disk.new }
     ensures forward { D.moment disk.old ≤ D.moment disk.new }
     ensures calls { IfOk result (λ count.
         D.moment disk.new ≤ D.moment disk.old + 2 * (count + 3)) }
     // Where nothing was pending, a crash leaves what a recovery that was stopped may leave.
-    ensures left { IfTold (D.bytes disk.old)
-        (λ x. Only x (D.may_hold_after disk.old (D.moment disk.old))
-        → AtEach D.moment D.may_hold_after disk.old disk.new (IsLeftFrom x)) }
-    ensures any_moment { IfTold (D.bytes disk.old)
-        (λ x. MayBeOpened x (D.may_hold_after disk.old (D.moment disk.old))
-        → AtEach D.moment D.may_hold_after disk.old disk.new (GivesSame x)) }
+    ensures left { IfTells (D.tells_crashes disk.old)
+        (Only (D.bytes disk.old) (D.may_hold_after disk.old (D.moment disk.old))
+        → AtEach D.moment D.may_hold_after disk.old disk.new (IsLeftFrom (D.bytes disk.old))) }
+    ensures any_moment { IfTells (D.tells_crashes disk.old)
+        (MayBeOpened (D.bytes disk.old) (D.may_hold_after disk.old (D.moment disk.old))
+        → AtEach D.moment D.may_hold_after disk.old disk.new (GivesSame (D.bytes disk.old))) }
 {
     match put_back_found(alloc, disk, frame) {
         Ok(count) => Ok(count),
@@ -94,69 +88,49 @@ fn restore<D: Disk>(alloc: Global, disk: &mut D, frame: Frame) -> Result<u64, Im
     }
 }
 
-// The heap region of a disk, read into memory of its length.
-fn read_heap<D: Disk>(disk: &mut D, frame: &Frame, mut bytes: Vec<u8>) -> Result<Region, DiskFault>
-    requires limits { IsInLimits frame.now }
-    requires fits { disk_bytes frame.now ≤ D.size disk.old }
-    requires long { length bytes.items ≡ LINE * frame.now.heap_lines }
-    ensures given { IfOk result (λ region. IfTold (D.bytes disk.old)
-        (λ x. region ≡ heap_of frame.now x)) }
-    ensures long { IfOk result (λ region. length region ≡ LINE * frame.now.heap_lines) }
-    ensures cause { HasCause (D.faults disk.old) (D.faults disk.new) result }
-    ensures size { D.size disk.new ≡ D.size disk.old }
-    ensures reads { Reads D.bytes D.moment D.may_hold_after disk.old disk.new }
-{
-    disk.read_at(frame.heap_place(), &mut bytes)?;
-    Ok(Region::of(bytes))
-}
-
 /// Takes all the memory of an image, and what it holds from a disk, whose open batches are put
 /// back.
 pub fn load<D: Disk>(alloc: Global, disk: &mut D) -> Result<Loaded, ImageError>
-    ensures found { IfOk result (λ l. IsFramed (D.size disk.old) (D.bytes disk.old) l.frame) }
-    ensures back { IfOk result (λ l. Both (D.bytes disk.old) (D.bytes disk.new)
-        (PutsBack l.frame l.restored)) }
-    ensures ready { IfOk result (λ l. IsReserved l.frame (length l.bytes) l.undo l.saving) }
-    ensures bytes { IfOk result (λ l. IfTold (D.bytes disk.new) (HasBytes l.frame l.bytes)) }
-    ensures synced { OnOk result (IfTold (D.bytes disk.old)
-        (λ x. MayBeOpened x (D.may_hold_after disk.old (D.moment disk.old))
-        → IsSynced D.bytes D.moment D.may_hold_after disk.new)) }
+    ensures found { IfOk result (λ l. IsFramed (D.bytes disk.old) l.frame) }
+    ensures back { IfOk result (λ l. PutsBack l.frame l.restored (D.bytes disk.old)
+        (D.bytes disk.new)) }
+    ensures fresh { IfOk result (λ l. IsFresh l.frame l.lines) }
+    ensures synced { OnOk result (IfTells (D.tells_crashes disk.old)
+        (MayBeOpened (D.bytes disk.old) (D.may_hold_after disk.old (D.moment disk.old))
+        → IsSynced D.bytes D.tells_crashes D.moment D.may_hold_after disk.new)) }
 
-    ensures not_formatted { IfErr result (λ why. OnNotFormatted why
-        (IfTold (D.bytes disk.old) (λ x. put_back_of x ≡ None))) }
+    ensures not_formatted { IfErr result (λ why. OnNotFormatted why (put_back_of (D.bytes disk.old)
+        ≡ None)) }
     ensures cause { HasImageCause (D.faults disk.old) (D.faults disk.new) result }
-    ensures same { IfErr result (λ why. UnlessFault why
-        (Reads D.bytes D.moment D.may_hold_after disk.old disk.new)) }
+    ensures same { IfErr result (λ why. UnlessFault why (Reads D.bytes D.tells_crashes D.moment
+        D.may_hold_after disk.old disk.new)) }
     // After a fault it may be opened again, or it failed as the first gate was being closed.
-    ensures faulted { OnErr result
-        (FailsOpening D.bytes D.moment D.may_hold_after disk.old disk.new) }
+    ensures faulted { OnErr result (FailsOpening D.bytes D.tells_crashes D.moment D.may_hold_after
+        disk.old disk.new) }
 
-    ensures disk { KeepsDisk D.size D.bytes disk.old disk.new }
-    ensures inside { Both (D.bytes disk.old) (D.bytes disk.new) KeepsRest }
-    ensures quiet { IfTold (D.bytes disk.old) (λ x. first_gate x ≡ 0
-        → Reads D.bytes D.moment D.may_hold_after disk.old disk.new) }
+    ensures disk { KeepsDisk D.bytes D.tells_crashes disk.old disk.new }
+    ensures inside { KeepsRest (D.bytes disk.old) (D.bytes disk.new) }
+    ensures quiet { first_gate (D.bytes disk.old) ≡ 0
+        → Reads D.bytes D.tells_crashes D.moment D.may_hold_after disk.old disk.new }
     ensures forward { D.moment disk.old ≤ D.moment disk.new }
     ensures calls { IfOk result (λ l.
         D.moment disk.new ≤ D.moment disk.old + 2 * (l.restored + 3)) }
     // Where nothing was pending, a crash leaves what a recovery that was stopped may leave.
-    ensures left { IfTold (D.bytes disk.old)
-        (λ x. Only x (D.may_hold_after disk.old (D.moment disk.old))
-        → AtEach D.moment D.may_hold_after disk.old disk.new (IsLeftFrom x)) }
-    ensures any_moment { IfTold (D.bytes disk.old)
-        (λ x. MayBeOpened x (D.may_hold_after disk.old (D.moment disk.old))
-        → AtEach D.moment D.may_hold_after disk.old disk.new (GivesSame x)) }
+    ensures left { IfTells (D.tells_crashes disk.old)
+        (Only (D.bytes disk.old) (D.may_hold_after disk.old (D.moment disk.old))
+        → AtEach D.moment D.may_hold_after disk.old disk.new (IsLeftFrom (D.bytes disk.old))) }
+    ensures any_moment { IfTells (D.tells_crashes disk.old)
+        (MayBeOpened (D.bytes disk.old) (D.may_hold_after disk.old (D.moment disk.old))
+        → AtEach D.moment D.may_hold_after disk.old disk.new (GivesSame (D.bytes disk.old))) }
 {
     let Some(frame) = read_frame(disk)? else {
         return Err(ImageError::NotFormatted);
     };
-    let memory = reserve(alloc, &frame)?;
+    let lines = reserve(alloc, &frame)?;
     let restored = restore(alloc, disk, frame)?;
-    let bytes = read_heap(disk, &frame, memory.bytes)?;
     Ok(Loaded {
         frame,
-        bytes,
-        undo: memory.undo,
-        saving: memory.saving,
+        lines,
         restored,
     })
 }

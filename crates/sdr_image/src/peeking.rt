@@ -1,9 +1,8 @@
 // The heap that a disk gives, put back in memory.
-ghost use Rattle.std.specs.Prelude.{◌≡◌, ◌≢◌, ◌≤◌, ◌<◌, IfErr, IfOk, IsTrue, None, Some};
+ghost use Rattle.std.specs.Prelude.{◌≡◌, ◌≢◌, ◌≤◌, ◌<◌, IfErr, IfOk, IsTrue, None, Some, length};
 ghost use Rattle.sdr_base.specs.Causes.{HasCause};
-ghost use Rattle.sdr_disk.specs.MemoryDisk.{bytes_now, size_now};
+ghost use Rattle.sdr_disk.specs.MemoryDisk.{bytes_now};
 ghost use Rattle.sdr_disk.specs.Moments.{Reads};
-ghost use Rattle.sdr_disk.specs.Told.{Both, IfTold};
 ghost use Rattle.sdr_image.specs.Opening.{HasImageCause, OnNotFormatted};
 ghost use Rattle.sdr_log.specs.Calls.{GivesNone, IsFramed};
 ghost use Rattle.sdr_log.specs.Frame.{IsInLimits, disk_bytes};
@@ -19,14 +18,12 @@ use std::alloc::Global;
 
 // The head and the regions of a disk, as a disk in memory.
 fn copied<D: Disk>(alloc: Global, disk: &mut D, frame: &Frame) -> Result<MemoryDisk, ImageError>
-    requires framed { IsFramed (D.size disk.old) (D.bytes disk.old) frame.now }
-    ensures copy { IfOk result (λ copy. Both (D.bytes disk.old) (bytes_now copy)
-        (IsCopied frame.now)) }
-    ensures size { IfOk result (λ copy. size_now copy ≡ disk_bytes frame.now) }
+    requires framed { IsFramed (D.bytes disk.old) frame.now }
+    ensures copy { IfOk result (λ copy. IsCopied frame.now (D.bytes disk.old) (bytes_now copy)) }
+    ensures size { IfOk result (λ copy. length (bytes_now copy) ≡ disk_bytes frame.now) }
     ensures formatted { IfErr result (λ why. OnNotFormatted why ⊥) }
     ensures cause { HasImageCause (D.faults disk.old) (D.faults disk.new) result }
-    ensures kept { D.size disk.new ≡ D.size disk.old }
-    ensures reads { Reads D.bytes D.moment D.may_hold_after disk.old disk.new }
+    ensures reads { Reads D.bytes D.tells_crashes D.moment D.may_hold_after disk.old disk.new }
 {
     let mut bytes = vec![in alloc; 0; frame.disk_bytes() as usize]?;
     disk.read_at(0, &mut bytes)?;
@@ -35,12 +32,10 @@ fn copied<D: Disk>(alloc: Global, disk: &mut D, frame: &Frame) -> Result<MemoryD
 
 // Whether the first gate of a disk is closed.
 fn is_closed<D: Disk>(disk: &mut D) -> Result<bool, DiskFault>
-    requires long { LINE < D.size disk.old }
-    ensures closed { IfOk result (λ closed. IsTrue closed
-        → IfTold (D.bytes disk.old) (λ x. first_gate x ≡ 0)) }
+    requires long { LINE < length (D.bytes disk.old) }
+    ensures closed { IfOk result (λ closed. IsTrue closed → first_gate (D.bytes disk.old) ≡ 0) }
     ensures cause { HasCause (D.faults disk.old) (D.faults disk.new) result }
-    ensures size { D.size disk.new ≡ D.size disk.old }
-    ensures reads { Reads D.bytes D.moment D.may_hold_after disk.old disk.new }
+    ensures reads { Reads D.bytes D.tells_crashes D.moment D.may_hold_after disk.old disk.new }
 {
     let mut gate = [0; 1];
     disk.read_at(LINE, &mut gate)?;
@@ -50,12 +45,11 @@ fn is_closed<D: Disk>(disk: &mut D) -> Result<bool, DiskFault>
 // The heap region of a disk, as it stands.
 fn heap_region<D: Disk>(alloc: Global, disk: &mut D, frame: &Frame) -> Result<Still, ImageError>
     requires limits { IsInLimits frame.now }
-    requires fits { disk_bytes frame.now ≤ D.size disk.old }
-    ensures heap { IfOk result (λ s. IfTold (D.bytes disk.old) (λ x. s ≡ heap_of frame.now x)) }
+    requires fits { disk_bytes frame.now ≤ length (D.bytes disk.old) }
+    ensures heap { IfOk result (λ s. s ≡ heap_of frame.now (D.bytes disk.old)) }
     ensures formatted { IfErr result (λ why. OnNotFormatted why ⊥) }
     ensures cause { HasImageCause (D.faults disk.old) (D.faults disk.new) result }
-    ensures size { D.size disk.new ≡ D.size disk.old }
-    ensures reads { Reads D.bytes D.moment D.may_hold_after disk.old disk.new }
+    ensures reads { Reads D.bytes D.tells_crashes D.moment D.may_hold_after disk.old disk.new }
 {
     let mut bytes = vec![in alloc; 0; (LINE * frame.heap_lines) as usize]?;
     disk.read_at(frame.heap_place(), &mut bytes)?;
@@ -66,10 +60,9 @@ fn heap_region<D: Disk>(alloc: Global, disk: &mut D, frame: &Frame) -> Result<St
 // only where its record of writes finds no memory.
 fn put_back_copy(alloc: Global, copy: &mut MemoryDisk, frame: Frame) -> Result<Still, ImageError>
     requires limits { IsInLimits frame }
-    requires fits { disk_bytes frame ≤ size_now copy.old }
-    ensures heap { IfOk result (λ s. IfTold (bytes_now copy.old) (GivesHeap s)) }
-    ensures none { IfErr result (λ why. OnNotFormatted why
-        (IfTold (bytes_now copy.old) (GivesNone frame))) }
+    requires fits { disk_bytes frame ≤ length (bytes_now copy.old) }
+    ensures heap { IfOk result (λ s. GivesHeap s (bytes_now copy.old)) }
+    ensures none { IfErr result (λ why. OnNotFormatted why (GivesNone frame (bytes_now copy.old))) }
     ensures sound { IfErr result (λ why. why ≢ ImageError.DiskFault) }
 {
     match put_back(alloc, copy, frame) {
@@ -89,12 +82,11 @@ fn put_back_copy(alloc: Global, copy: &mut MemoryDisk, frame: Frame) -> Result<S
 /// Memory is taken for the heap region, and where a batch is open for a copy of the regions and for what
 /// recovery takes.
 pub fn peek<D: Disk>(alloc: Global, disk: &mut D) -> Result<Still, ImageError>
-    ensures heap { IfOk result (λ s. IfTold (D.bytes disk.old) (λ x. put_back_of x ≡ Some s)) }
-    ensures not_formatted { IfErr result (λ why. OnNotFormatted why
-        (IfTold (D.bytes disk.old) (λ x. put_back_of x ≡ None))) }
+    ensures heap { IfOk result (λ s. put_back_of (D.bytes disk.old) ≡ Some s) }
+    ensures not_formatted { IfErr result (λ why. OnNotFormatted why (put_back_of (D.bytes disk.old)
+        ≡ None)) }
     ensures cause { HasImageCause (D.faults disk.old) (D.faults disk.new) result }
-    ensures size { D.size disk.new ≡ D.size disk.old }
-    ensures reads { Reads D.bytes D.moment D.may_hold_after disk.old disk.new }
+    ensures reads { Reads D.bytes D.tells_crashes D.moment D.may_hold_after disk.old disk.new }
 {
     let Some(frame) = read_frame(disk)? else {
         return Err(ImageError::NotFormatted);

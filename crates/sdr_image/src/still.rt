@@ -71,6 +71,4 @@ impl Cells for Still {
     ghost quiet_refl = { λ a. refl };
 
     ghost quiet_trans = { λ a b c f g. g ∙ f };
-
-    ghost quiet_begun = { λ a b f. f };
 }

@@ -35,8 +35,8 @@
 //! cancelled.
 //!
 //! Proved: `take` and `give` follow the rules of the pool exactly, with cutting and merging (`taken`, `given`).
-//! Other blocks in use stay (`others`), and no two free blocks touch. At most 20 lines are touched (`room`). The
-//! calls of each pool keep the other pool.
+//! Other blocks in use stay (`others`), and no two free blocks touch. At most 20 lines are touched (`room`), and
+//! none by a take that gives no block (`none`). The calls of each pool keep the other pool.
 //!
 //! Only tested: that calls succeed, with the addresses of the rules (`tests/cases`).
 #![tactic(auto)]

@@ -1,7 +1,7 @@
 // Taking a block from the large pool.
 ghost use Rattle.std.specs.Prelude.{◌≡◌, ◌+◌, ◌*◌, ◌-◌, ◌≤◌, ◌<◌, length, Some, IfOk, OnOk, IfErr};
 ghost use Rattle.sdr_base.specs.Objects.{OnlyFull};
-ghost use Rattle.sdr_base.specs.Transaction.{HasReason, TouchesAtMost};
+ghost use Rattle.sdr_base.specs.Transaction.{HasReason, NoneLeaves, TouchesAtMost};
 ghost use Rattle.sdr_base.specs.KeptLarge.{KeepsSomeLarge};
 ghost use Rattle.sdr_large.specs.Calls.{TakesLarge, TakesNew, IsGiveable, KeepsOthers, CanCut, Cuts};
 
@@ -27,6 +27,7 @@ pub fn take<C: Cells>(c: &mut C, words: u64) -> Result<Option<Addr>, Stop>
     ensures refused { IfErr result OnlyFull }
     ensures size { length (C.bytes c.new) ≡ length (C.bytes c.old) }
     ensures room { TouchesAtMost 13 (C.transaction c.old) (C.transaction c.new) result }
+    ensures none { NoneLeaves (C.transaction c.old) (C.transaction c.new) result }
     ensures cause { HasReason (C.transaction c.old) (C.transaction c.new) result }
     ensures quiet { C.quiet c.old c.new }
 {
@@ -75,6 +76,7 @@ fn take_new<C: Cells>(c: &mut C, words: u64) -> Result<Option<Addr>, Stop>
     ensures refused { IfErr result OnlyFull }
     ensures size { length (C.bytes c.new) ≡ length (C.bytes c.old) }
     ensures room { TouchesAtMost 6 (C.transaction c.old) (C.transaction c.new) result }
+    ensures none { NoneLeaves (C.transaction c.old) (C.transaction c.new) result }
     ensures cause { HasReason (C.transaction c.old) (C.transaction c.new) result }
     ensures quiet { C.quiet c.old c.new }
 {

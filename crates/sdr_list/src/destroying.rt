@@ -4,6 +4,8 @@ ghost use Rattle.sdr_base.specs.Blocks.{UsesRange};
 ghost use Rattle.sdr_base.specs.Moves.{KeepsSome};
 ghost use Rattle.sdr_base.specs.Objects.{OnlyUnmoved, with_given};
 ghost use Rattle.sdr_base.specs.Words.{HasWord};
+ghost use Rattle.sdr_base.specs.Transaction.{LeavesTouched};
+ghost use Rattle.sdr_base.specs.Wanting.{OnlyWanting};
 ghost use Rattle.sdr_base.specs.Works.{Spends};
 ghost use Rattle.sdr_list.specs.Destroying.{DestroysList, DestroyStops};
 ghost use Rattle.sdr_list.specs.Giving.{GivesChain, GiveStops, SomeChain};
@@ -15,12 +17,14 @@ use sdr_base::{Addr, Objects, Stop, check_failed, word};
 
 /// Gives the elements of a list back, the first one first, and then the list. What the data name
 /// stays.
+#[tactic(auto, using(sdr_base::proofs::LeavingLemmas::leaving))]
 pub fn destroy<O: Objects>(o: &mut O, list: Addr) -> Result<(), Stop>
     requires kept { KeepsSome (O.keeps o.old) }
     requires spare { elements_in ((O.heap o.old).blocks list) + 1 ≤ (O.heap o.old).spare }
     requires list { IsList (O.heap o.old).blocks list }
     ensures destroyed { OnOk result (DestroysList list (O.heap o.old) (O.heap o.new)) }
     ensures refused { IfErr result (DestroyStops list (O.heap o.old) (O.heap o.new)) }
+    ensures untouched { IfErr result (LeavesTouched (O.transaction o.old) (O.transaction o.new)) }
     ensures works { Spends O.HasHeap
         (24 * (elements_in ((O.heap o.old).blocks list) + 1)) o.old o.new result }
 {
@@ -46,12 +50,14 @@ fn give_one<O: Objects>(o: &mut O, element: Addr) -> Result<Addr, Stop>
 }
 
 // Gives so many elements of a chain back, the first one first.
+#[tactic(auto, using(sdr_base::proofs::LeavingLemmas::wanting))]
 fn give_chain<O: Objects>(o: &mut O, first: Addr, count: u64) -> Result<(), Stop>
     requires kept { KeepsSome (O.keeps o.old) }
     requires spare { count ≤ (O.heap o.old).spare }
     requires chain { SomeChain (O.heap o.old).blocks first count }
     ensures given { OnOk result (GivesChain (O.heap o.old) (O.heap o.new) first count) }
     ensures refused { IfErr result (GiveStops first count (O.heap o.old) (O.heap o.new)) }
+    ensures wants { IfErr result OnlyWanting }
     ensures works { Spends O.HasHeap (24 * count) o.old o.new result }
 {
     check_failed(o)?;

@@ -2,6 +2,7 @@
 ghost use Rattle.std.specs.Prelude.{◌+◌, set, IfOk, IfErr, OnOk};
 ghost use Rattle.sdr_base.specs.Moves.{KeepsSome};
 ghost use Rattle.sdr_base.specs.Objects.{Misses};
+ghost use Rattle.sdr_base.specs.Transaction.{LeavesTouched};
 ghost use Rattle.sdr_base.specs.Works.{Looks, Spends};
 ghost use Rattle.sdr_base.specs.declared.kind.Kind.TheVariants as kinds;
 ghost use Rattle.sdr_list.specs.Calls.{ChangeStops, SetsInElement, TellsOfElement};
@@ -51,6 +52,7 @@ pub fn datum<O: Objects>(o: &mut O, element: Addr) -> Result<u64, Stop>
 }
 
 /// Sets the datum of an element.
+#[tactic(auto, using(sdr_base::proofs::LeavingLemmas::leaving))]
 pub fn set_datum<O: Objects>(o: &mut O, element: Addr, datum: u64) -> Result<(), Stop>
     requires kept { KeepsSome (O.keeps o.old) }
     requires element { IsElement (O.heap o.old).blocks element }
@@ -58,6 +60,7 @@ pub fn set_datum<O: Objects>(o: &mut O, element: Addr, datum: u64) -> Result<(),
         (λ spot. with_datum spot.row spot.place element datum) (O.heap o.old) (O.heap o.new)) }
     ensures refused { IfErr result
         (ChangeStops kinds.Element element (O.heap o.old) (O.heap o.new)) }
+    ensures untouched { IfErr result (LeavesTouched (O.transaction o.old) (O.transaction o.new)) }
     ensures works { Spends O.HasHeap 2 o.old o.new result }
 {
     expect_kind(o, element, Kind::Element)?;

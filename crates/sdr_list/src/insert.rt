@@ -3,6 +3,7 @@ ghost use Rattle.std.specs.Prelude.{◌≡◌, ◌+◌, ◌≤◌, [], ◌∷◌
 ghost use Rattle.sdr_base.specs.Making.{Made};
 ghost use Rattle.sdr_base.specs.Moves.{KeepsSome};
 ghost use Rattle.sdr_base.specs.Objects.{OnlyShort};
+ghost use Rattle.sdr_base.specs.Transaction.{LeavesTouched};
 ghost use Rattle.sdr_base.specs.Works.{Spends};
 ghost use Rattle.sdr_base.specs.declared.kind.Kind.TheVariants as kinds;
 ghost use Rattle.sdr_base.specs.declared.moves.Move.TheVariants.{Took};
@@ -16,6 +17,7 @@ use sdr_base::layout::{element as element_words, list as words};
 use sdr_base::{Addr, Kind, Objects, Stop, set_word, take_words, word};
 
 /// Makes a new first element of a list.
+#[tactic(auto, using(sdr_base::proofs::LeavingLemmas::leaving))]
 pub fn insert_first<O: Objects>(o: &mut O, list: Addr, datum: u64) -> Result<Addr, Stop>
     requires kept { KeepsSome (O.keeps o.old) }
     requires spare { 1 ≤ (O.heap o.old).spare }
@@ -23,6 +25,7 @@ pub fn insert_first<O: Objects>(o: &mut O, list: Addr, datum: u64) -> Result<Add
     ensures inserted { IfOk result (λ addr.
         InsertsInList list (λ row. 0) datum addr (O.heap o.old) (O.heap o.new)) }
     ensures refused { IfErr result (InsertStops kinds.List list (O.heap o.old) (O.heap o.new)) }
+    ensures untouched { IfErr result (LeavesTouched (O.transaction o.old) (O.transaction o.new)) }
     ensures works { Spends O.HasHeap 35 o.old o.new result }
 {
     let first = list_word(o, list, words::FIRST)?;
@@ -30,6 +33,7 @@ pub fn insert_first<O: Objects>(o: &mut O, list: Addr, datum: u64) -> Result<Add
 }
 
 /// Makes a new last element of a list.
+#[tactic(auto, using(sdr_base::proofs::LeavingLemmas::leaving))]
 pub fn insert_last<O: Objects>(o: &mut O, list: Addr, datum: u64) -> Result<Addr, Stop>
     requires kept { KeepsSome (O.keeps o.old) }
     requires spare { 1 ≤ (O.heap o.old).spare }
@@ -37,6 +41,7 @@ pub fn insert_last<O: Objects>(o: &mut O, list: Addr, datum: u64) -> Result<Addr
     ensures inserted { IfOk result (λ addr. InsertsInList list
         (λ row. length row.elements) datum addr (O.heap o.old) (O.heap o.new)) }
     ensures refused { IfErr result (InsertStops kinds.List list (O.heap o.old) (O.heap o.new)) }
+    ensures untouched { IfErr result (LeavesTouched (O.transaction o.old) (O.transaction o.new)) }
     ensures works { Spends O.HasHeap 35 o.old o.new result }
 {
     let last = list_word(o, list, words::LAST)?;
@@ -44,6 +49,7 @@ pub fn insert_last<O: Objects>(o: &mut O, list: Addr, datum: u64) -> Result<Addr
 }
 
 /// Makes a new element before another, in its list.
+#[tactic(auto, using(sdr_base::proofs::LeavingLemmas::leaving))]
 pub fn insert_before<O: Objects>(o: &mut O, element: Addr, datum: u64) -> Result<Addr, Stop>
     requires kept { KeepsSome (O.keeps o.old) }
     requires spare { 1 ≤ (O.heap o.old).spare }
@@ -52,6 +58,7 @@ pub fn insert_before<O: Objects>(o: &mut O, element: Addr, datum: u64) -> Result
         InsertsBeside element (λ place. place) datum addr (O.heap o.old) (O.heap o.new)) }
     ensures refused { IfErr result
         (InsertStops kinds.Element element (O.heap o.old) (O.heap o.new)) }
+    ensures untouched { IfErr result (LeavesTouched (O.transaction o.old) (O.transaction o.new)) }
     ensures works { Spends O.HasHeap 35 o.old o.new result }
 {
     let list = element_word(o, element, element_words::LIST)?;
@@ -60,6 +67,7 @@ pub fn insert_before<O: Objects>(o: &mut O, element: Addr, datum: u64) -> Result
 }
 
 /// Makes a new element behind another, in its list.
+#[tactic(auto, using(sdr_base::proofs::LeavingLemmas::leaving))]
 pub fn insert_after<O: Objects>(o: &mut O, element: Addr, datum: u64) -> Result<Addr, Stop>
     requires kept { KeepsSome (O.keeps o.old) }
     requires spare { 1 ≤ (O.heap o.old).spare }
@@ -68,6 +76,7 @@ pub fn insert_after<O: Objects>(o: &mut O, element: Addr, datum: u64) -> Result<
         InsertsBeside element (λ place. place + 1) datum addr (O.heap o.old) (O.heap o.new)) }
     ensures refused { IfErr result
         (InsertStops kinds.Element element (O.heap o.old) (O.heap o.new)) }
+    ensures untouched { IfErr result (LeavesTouched (O.transaction o.old) (O.transaction o.new)) }
     ensures works { Spends O.HasHeap 35 o.old o.new result }
 {
     let list = element_word(o, element, element_words::LIST)?;

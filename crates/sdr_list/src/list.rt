@@ -5,6 +5,7 @@ ghost use Rattle.sdr_base.specs.Lists.{addr_of, list_entries};
 ghost use Rattle.sdr_base.specs.Making.{MakesThing};
 ghost use Rattle.sdr_base.specs.Moves.{KeepsSome};
 ghost use Rattle.sdr_base.specs.Objects.{Misses, OnlyShort};
+ghost use Rattle.sdr_base.specs.Transaction.{LeavesTouched};
 ghost use Rattle.sdr_base.specs.Works.{Looks, Spends};
 ghost use Rattle.sdr_base.specs.declared.kind.Kind.TheVariants as kinds;
 ghost use Rattle.sdr_list.specs.Calls.{ChangeStops, SetsInList, TellsOfList};
@@ -50,12 +51,14 @@ pub fn user_data<O: Objects>(o: &mut O, list: Addr) -> Result<u64, Stop>
 }
 
 /// Sets the user's number of a list.
+#[tactic(auto, using(sdr_base::proofs::LeavingLemmas::leaving))]
 pub fn set_user_data<O: Objects>(o: &mut O, list: Addr, user: u64) -> Result<(), Stop>
     requires kept { KeepsSome (O.keeps o.old) }
     requires list { IsList (O.heap o.old).blocks list }
     ensures set { OnOk result
         (SetsInList list (λ row. record row { user = user }) (O.heap o.old) (O.heap o.new)) }
     ensures refused { IfErr result (ChangeStops kinds.List list (O.heap o.old) (O.heap o.new)) }
+    ensures untouched { IfErr result (LeavesTouched (O.transaction o.old) (O.transaction o.new)) }
     ensures works { Spends O.HasHeap 2 o.old o.new result }
 {
     expect_kind(o, list, Kind::List)?;

@@ -2,6 +2,7 @@
 ghost use Rattle.std.specs.Prelude.{◌≡◌, ◌≢◌, ◌≤◌, IfOk, IfErr};
 ghost use Rattle.sdr_base.specs.Moves.{KeepsSome};
 ghost use Rattle.sdr_base.specs.Objects.{Misses, OnlyFault};
+ghost use Rattle.sdr_base.specs.Transaction.{LeavesTouched};
 ghost use Rattle.sdr_base.specs.Works.{Looks, Spends};
 ghost use Rattle.sdr_base.specs.declared.kind.Kind.TheVariants as kinds;
 ghost use Rattle.sdr_list.specs.Calls.{InsertsInList, InsertStops, TellsOfList};
@@ -20,6 +21,7 @@ use sdr_base::{Addr, Kind, Objects, Stop, expect_kind, word};
 
 /// Makes a new element of a list behind the last one whose key is less than or equal to that of
 /// the datum, else first. Each key is read once.
+#[tactic(auto, using(sdr_base::proofs::LeavingLemmas::leaving))]
 pub fn insert_ordered<O: Objects, F: Collate>(
     o: &mut O,
     list: Addr,
@@ -36,6 +38,7 @@ pub fn insert_ordered<O: Objects, F: Collate>(
     ensures ordered { IfOk result (StaysInOrder (F.order by.now.by) (O.heap o.old).blocks list
         (ordered_place (F.order by.now.by) (O.heap o.old).blocks datum) datum) }
     ensures refused { IfErr result (InsertStops kinds.List list (O.heap o.old) (O.heap o.new)) }
+    ensures untouched { IfErr result (LeavesTouched (O.transaction o.old) (O.transaction o.new)) }
     ensures works { Spends O.HasHeap 35 o.old o.new result }
 {
     expect_kind(o, list, Kind::List)?;

@@ -3,6 +3,7 @@ ghost use Rattle.std.specs.Prelude.{◌≤◌, [], ◌∷◌, OnOk, IfErr};
 ghost use Rattle.sdr_base.specs.Making.{Made};
 ghost use Rattle.sdr_base.specs.Moves.{KeepsSome};
 ghost use Rattle.sdr_base.specs.Objects.{OnlyUnmoved};
+ghost use Rattle.sdr_base.specs.Transaction.{LeavesTouched};
 ghost use Rattle.sdr_base.specs.Works.{Spends};
 ghost use Rattle.sdr_base.specs.declared.kind.Kind.TheVariants as kinds;
 ghost use Rattle.sdr_base.specs.declared.moves.Move.TheVariants.{Gave};
@@ -16,6 +17,7 @@ use sdr_base::layout::{element as words, list as list_words};
 use sdr_base::{Addr, Objects, Stop, set_word, word};
 
 /// Takes an element out of its list, and gives it back. What its datum names stays.
+#[tactic(auto, using(sdr_base::proofs::LeavingLemmas::leaving))]
 pub fn delete<O: Objects>(o: &mut O, element: Addr) -> Result<(), Stop>
     requires kept { KeepsSome (O.keeps o.old) }
     requires spare { 1 ≤ (O.heap o.old).spare }
@@ -23,6 +25,7 @@ pub fn delete<O: Objects>(o: &mut O, element: Addr) -> Result<(), Stop>
     ensures deleted { OnOk result (DeletesElement element (O.heap o.old) (O.heap o.new)) }
     ensures refused { IfErr result
         (ChangeStops kinds.Element element (O.heap o.old) (O.heap o.new)) }
+    ensures untouched { IfErr result (LeavesTouched (O.transaction o.old) (O.transaction o.new)) }
     ensures works { Spends O.HasHeap 30 o.old o.new result }
 {
     let list = element_word(o, element, words::LIST)?;

@@ -3,6 +3,7 @@ ghost use Rattle.std.specs.Prelude.{◌≡◌, ◌<◌, ◌≤◌, All, [], fals
 ghost use Rattle.std.specs.List.{list_any};
 ghost use Rattle.sdr_board.specs.Known.{published};
 ghost use Rattle.sdr_core.specs.CoreKept.{IsRunOf};
+ghost use Rattle.sdr_core.specs.Ended.{StandsEnded};
 ghost use Rattle.sdr_core.specs.Numbers.{numbers_done};
 ghost use Rattle.sdr_daemon.specs.Coming.{is_over};
 ghost use Rattle.sdr_daemon.specs.Progressing.{IsFresh, have_left};
@@ -177,6 +178,7 @@ pub fn run_all<
     requires writer { writer ≡ published board.now [] }
     ensures keeps { KeepsToScripts J.begins.told J.begins.first S.script result.journal }
     ensures run { IsRunOf T.HasGround J.begins result.journal result.base }
+    ensures ended { StandsEnded T.HasGround J.begins result.journal result.base }
     ensures failed { result.failed ≡ not (is_sound result.journal) }
     ensures starved { result.starved ≡ list_any is_memory_leave result.journal }
     ensures posted { result.writer ≡ published board.now result.journal }

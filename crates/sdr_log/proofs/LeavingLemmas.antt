@@ -1,5 +1,5 @@
 -- What recovery leaves at each moment, of a disk on which nothing is pending.
-use Rattle.std.proofs.Common.{◌<◌, ℕ, List, [], ◌∷◌, length, inl, inr, ◌⊎◌, ⊎_elim, sym, ◌∙◌, subst, arith}
+use Rattle.std.proofs.Common.{◌≡◌, ◌<◌, ℕ, List, [], ◌∷◌, length, inl, inr, ◌⊎◌, ⊎_elim, sym, ◌∙◌, subst, arith}
 use Rattle.sdr_disk.specs.Moments.{AtEach}
 use Rattle.sdr_disk.specs.Ranges.{Agrees, range}
 use Rattle.sdr_disk.proofs.MomentsLemmas.{at_both, at_then}
@@ -61,12 +61,12 @@ module _ {D : Type 0} (moment : D → ℕ) (may_hold_after : D → ℕ → List 
   at_lines_left = at_then moment may_hold_after old mid
       (Agrees (line_ranges f records) x) (IsLeftFrom x) lines (λ image g. left_lines f x image records l some g)
 
-  pub at_gate_left : (new : D) → AtEach moment may_hold_after mid new
-      (λ image. may_hold_after mid (moment mid) image ⊎ Agrees (range 64 1 ∷ []) (with_records f records x) image) →
+  pub at_gate_left : (new : D) (y : List ℕ) → y ≡ with_records f records x → AtEach moment may_hold_after mid new
+      (λ image. may_hold_after mid (moment mid) image ⊎ Agrees (range 64 1 ∷ []) y image) →
       AtEach moment may_hold_after old new (IsLeftFrom x)
-  at_gate_left new each =
+  at_gate_left new y is each =
       at_both moment may_hold_after old mid new (IsLeftFrom x) _ (IsLeftFrom x) at_lines_left each
       (λ image left. left)
       (λ image either. ⊎_elim
       (λ before. at_lines_left.each (moment mid) image lines.later (omega arith) before)
-      (λ g. left_gate f x image records l some g) either)
+      (λ g. left_gate f x image records l some (subst (λ (z : List ℕ). Agrees (range 64 1 ∷ []) z image) is g)) either)

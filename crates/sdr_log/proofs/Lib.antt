@@ -1,6 +1,8 @@
 pub mod BatchLemmas
+pub mod BatchesLemmas
 pub mod BehindLemmas
 pub mod ClosingLemmas
+pub mod EndingLemmas
 pub mod FaultedLemmas
 pub mod FoundLemmas
 pub mod FrameLemmas
@@ -17,5 +19,9 @@ pub mod ReadingLemmas
 pub mod RecordsLemmas
 pub mod RecoveryLemmas
 pub mod RestoringLemmas
+pub mod SpilledLemmas
+pub mod SpillingLemmas
 pub mod StoppedLemmas
 pub mod TransactionLemmas
+pub mod UndoingLemmas
+pub mod UndoneLemmas

@@ -12,6 +12,7 @@ use Rattle.sdr_base.specs.Parts.{part}
 use Rattle.sdr_disk.specs.Ranges.{Agrees, IsInNone, range}
 use Rattle.sdr_disk.proofs.RangesLemmas.{Agrees-nil, Agrees-one_more, Agrees-part, Agrees-refl}
 use Rattle.sdr_base.proofs.PartsLemmas.{get_or-part, length-part}
+use Rattle.sdr_log.specs.Batch.{end_of, log_end}
 use Rattle.sdr_log.specs.Frame.{IsInLimits, disk_bytes, frame_of, heap_place, first_number}
 use Rattle.sdr_log.specs.Log.{AreLines, batches_of, first_gate, heap_of, names_line, log_of, put_back_in}
 use Rattle.sdr_log.specs.Log.{put_back_of, put_records, read_log, records_of}
@@ -194,6 +195,11 @@ module _ (f : Frame) (x image : List ℕ) (records : List Record) (l : Logs f x 
   pub pending_log : read_log f image ≡ read_log f x
   unfolding read_log log_of
   pending_log = ap (batches_of (64 * f.log_lines))
+      (image_log f x image records (64 * f.log_lines) 0 l.regions (omega arith) wide)
+
+  pub pending_end : log_end f image ≡ log_end f x
+  unfolding log_end log_of
+  pending_end = ap (end_of (64 * f.log_lines))
       (image_log f x image records (64 * f.log_lines) 0 l.regions (omega arith) wide)
 
   pub pending_logs : Logs f image records

@@ -1,5 +1,5 @@
 -- What a crash may leave behind a call, and what is logged then.
-use Rattle.std.proofs.Common.{◌≡◌, ◌≤◌, ◌<◌, ◌⊎◌, inl, inr, ℕ, List, [], ◌∷◌, sym, subst, arith}
+use Rattle.std.proofs.Common.{◌≡◌, ◌≤◌, ◌<◌, ◌⊎◌, inl, inr, ℕ, List, [], ◌∷◌, sym, ◌∙◌, subst, arith}
 use Rattle.sdr_disk.specs.Moments.{IsTorn, Only, SamePast, Syncs, Writes}
 use Rattle.sdr_disk.specs.Ranges.{Agrees, range}
 use Rattle.sdr_disk.proofs.RangesLemmas.{Agrees-refl}
@@ -36,6 +36,10 @@ module _ {D : Type 0} (moment : D → ℕ) (may_hold_after : D → ℕ → List 
     | inl later ↦ s.waits (moment new) image later (omega arith) of_left
     | inr same ↦ stayed_left same s.past image of_left
   ]
+
+-- a crash leaves these bytes alone, which are those from before
+pub synced_only : {x y : List ℕ} (left : List ℕ → Type 0) → y ≡ x → Only y left → Only x left
+synced_only left same only image of_left = only image of_left ∙ same
 
 -- Open batches that name all that was pending.
 module _ (f : Frame) (x : List ℕ) (left left' : List ℕ → Type 0) (l : IsLogged f x left) where

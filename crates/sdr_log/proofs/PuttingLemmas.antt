@@ -1,20 +1,18 @@
 -- Lines that open batches name, written to their places.
 use Rattle.std.proofs.Common.{◌≡◌, ◌≤◌, ◌<◌, ◌⊎◌, inl, inr, ℕ, ◌+◌, ◌*◌, true, List, [], ◌∷◌}
-use Rattle.std.proofs.Common.{length, refl, sym, ap, ◌∙◌, subst, arith, Some}
-use Rattle.std.specs.Prelude.{Option}
-use Rattle.std.proofs.lemmas.Option.{same_Some}
+use Rattle.std.proofs.Common.{length, refl, sym, ap, ◌∙◌, subst, arith}
 use Rattle.std.proofs.lemmas.Bool.{cases_eq}
 use Rattle.std.proofs.lemmas.Bool.Decides.{nat_tests}
 use Rattle.sdr_base.proofs.PartsLemmas.{overwrite-inside, overwrite-part, part-overwrite}
 use Rattle.sdr_disk.specs.Moments.{AtEach, IsTorn, Only, Writes}
 use Rattle.sdr_base.specs.Parts.{overwrite, part}
 use Rattle.sdr_disk.specs.Ranges.{Agrees, IsInNone, range}
-use Rattle.sdr_disk.specs.Told.{Both}
 use Rattle.sdr_disk.proofs.MomentsLemmas.{at_first, at_written}
 use Rattle.sdr_base.proofs.PartsLemmas.{length-overwrite}
 use Rattle.sdr_disk.proofs.RangesLemmas.{Agrees-more, Agrees-one_more, Agrees-overwrite, Agrees-refl, Agrees-sym}
 use Rattle.sdr_disk.proofs.RangesLemmas.{Agrees-trans}
 use Rattle.sdr_base.proofs.PartsLemmas.{length-part}
+use Rattle.sdr_log.specs.Batch.{log_end}
 use Rattle.sdr_log.specs.Calls.{AreBelow, AreNamed, MayPut, Puts, with_records}
 use Rattle.sdr_log.specs.Frame.{disk_bytes, heap_place}
 use Rattle.sdr_log.specs.Log.{AreLines, first_gate, heap_of, names_line, put_records, read_log}
@@ -23,7 +21,7 @@ use Rattle.sdr_log.specs.declared.frame.Frame.{Frame}
 use Rattle.sdr_log.specs.declared.record.Record.{Record}
 use Rattle.sdr_log.proofs.GoodLemmas.{names_line-below}
 use Rattle.sdr_log.proofs.LoggedLemmas.{HasRegions-limits, logged_same, pending_gate, pending_log, pending_logs}
-use Rattle.sdr_log.proofs.LoggedLemmas.{pending_same}
+use Rattle.sdr_log.proofs.LoggedLemmas.{pending_end, pending_same}
 use Rattle.sdr_log.proofs.PendingLemmas.{written_left}
 
 -- a line written to the disk, as a line of the heap
@@ -89,6 +87,9 @@ module _ (f : Frame) (x : List ℕ) (left : List ℕ → Type 0) (l : IsLogged f
   pub put_log : read_log f put ≡ read_log f x
   put_log = pending_log f x put l.records l.logs put_agrees
 
+  pub put_end : log_end f put ≡ log_end f x
+  put_end = pending_end f x put l.records l.logs put_agrees
+
   pub put_gate : first_gate put ≡ first_gate x
   put_gate = let w = HasRegions-limits f x l.logs.regions in
       pending_gate f x put l.records l.logs put_agrees (omega (arith, w.least_log))
@@ -129,108 +130,112 @@ pub record PutSoFar {D : Type 0} (moment : D → ℕ) (may_hold_after : D → �
   pub may : MayPut f rest y (may_hold_after now (moment now))
   pub heap : put_records rest (heap_of f y) ≡ put_records lines (heap_of f x)
   pub log : read_log f y ≡ read_log f x
+  pub ends : log_end f y ≡ log_end f x
   pub gate : first_gate y ≡ first_gate x
   pub back : GivesSame x y
   pub each : AtEach moment may_hold_after old now (GivesSame x)
 
--- the bytes then, of a disk that tells them
+-- what stands on the disk then
 pub record Putting {D : Type 0} (moment : D → ℕ) (may_hold_after : D → ℕ → List ℕ → Type 0)
-    (bytes : D → Option (List ℕ)) (f : Frame) (lines rest : List Record) (old now : D) (x : List ℕ) : Type 0 where
-  pub y : List ℕ
-  pub told : bytes now ≡ Some y
-  pub written : with_records f rest y ≡ with_records f lines x
-  pub so_far : MayPut f lines x (may_hold_after old (moment old)) →
-      PutSoFar moment may_hold_after f lines rest old now x y
+    (bytes : D → List ℕ) (f : Frame) (lines rest : List Record) (old now : D) : Type 0 where
+  pub written : with_records f rest (bytes now) ≡ with_records f lines (bytes old)
+  pub so_far : MayPut f lines (bytes old) (may_hold_after old (moment old)) →
+      PutSoFar moment may_hold_after f lines rest old now (bytes old) (bytes now)
 
-module _ {D : Type 0} (moment : D → ℕ) (may_hold_after : D → ℕ → List ℕ → Type 0) (bytes : D → Option (List ℕ))
-    (f : Frame) (lines : List Record) (old : D) (x : List ℕ) where
-  pub putting_none : bytes old ≡ Some x → Putting moment may_hold_after bytes f lines lines old old x
-  putting_none is = record {
-    y = x;
-    told = is;
+module _ {D : Type 0} (moment : D → ℕ) (may_hold_after : D → ℕ → List ℕ → Type 0) (bytes : D → List ℕ)
+    (f : Frame) (lines : List Record) (old : D) where
+  pub putting_none : Putting moment may_hold_after bytes f lines lines old old
+  putting_none = record {
     written = refl;
     so_far = λ m. record {
       may = m;
       heap = refl;
       log = refl;
+      ends = refl;
       gate = refl;
       back = refl;
-      each = at_first moment may_hold_after old (GivesSame x) (λ image l. logged_same f x image _ m.logged l);
+      each = at_first moment may_hold_after old (GivesSame (bytes old))
+          (λ image l. logged_same f (bytes old) image _ m.logged l);
     };
   }
 
   -- One line more.
   module _ (now new : D) (all rest : List Record) (r : Record) (split : all ≡ r ∷ rest) (long : length r.bytes ≡ 64)
-      (p : Putting moment may_hold_after bytes f lines all old now x)
+      (p : Putting moment may_hold_after bytes f lines all old now)
       (w : Writes moment may_hold_after (heap_place f + 64 * r.line) 64 now new) where
     abbrev place : ℕ
     place = heap_place f + 64 * r.line
 
     -- at each moment of its write
-    pub putting_each : MayPut f lines x (may_hold_after old (moment old)) → AtEach moment may_hold_after old new
-        (GivesSame x)
+    pub putting_each : MayPut f lines (bytes old) (may_hold_after old (moment old)) →
+        AtEach moment may_hold_after old new (GivesSame (bytes old))
     putting_each m =
         let s = p.so_far m in
         let named = (subst (λ (l : List Record). AreNamed s.may.logged.records l) split s.may.named).0 in
-        at_written moment may_hold_after old now new (GivesSame x) place 64 s.each w
-        (λ whole image of_left g. torn_same f p.y _ s.may.logged r named long whole image of_left g ∙ s.back)
+        at_written moment may_hold_after old now new (GivesSame (bytes old)) place 64 s.each w
+        (λ whole image of_left g. torn_same f (bytes now) _ s.may.logged r named long whole image of_left g ∙ s.back)
 
     -- where it failed
-    pub putting_failed : (y : List ℕ) → bytes new ≡ Some y → Both (bytes now) (bytes new) (Agrees (range place 64 ∷ [])) →
-        MayPut f lines x (may_hold_after old (moment old)) → IsLogged f y (may_hold_after new (moment new))
-    putting_failed y is others m =
+    pub putting_failed : Agrees (range place 64 ∷ []) (bytes now) (bytes new) →
+        MayPut f lines (bytes old) (may_hold_after old (moment old)) →
+        IsLogged f (bytes new) (may_hold_after new (moment new))
+    putting_failed others m =
         let s = p.so_far m in
         let named = (subst (λ (l : List Record). AreNamed s.may.logged.records l) split s.may.named).0 in
-        still_logged f p.y _ s.may.logged r named long y (may_hold_after new (moment new)) (others p.y p.told y is)
+        still_logged f (bytes now) _ s.may.logged r named long (bytes new) (may_hold_after new (moment new)) others
         (written_left moment may_hold_after now new place 64 w)
 
     -- and once it is done
-    pub putting_more : bytes new ≡ Some (overwrite place r.bytes p.y) → moment new ≡ moment now + 2 →
-        Putting moment may_hold_after bytes f lines rest old new x
+    pub putting_more : bytes new ≡ overwrite place r.bytes (bytes now) → moment new ≡ moment now + 2 →
+        Putting moment may_hold_after bytes f lines rest old new
     unfolding put_logged still_logged
     putting_more is rises = record {
-      y = overwrite place r.bytes p.y;
-      told = is;
-      written = subst (λ (l : List Record). with_records f l p.y ≡ with_records f lines x) split p.written;
+      written = subst (λ (y : List ℕ). with_records f rest y ≡ with_records f lines (bytes old)) (sym is)
+          (subst (λ (l : List Record). with_records f l (bytes now) ≡ with_records f lines (bytes old)) split p.written);
       so_far = λ m.
           let s = p.so_far m in
+          let x = bytes now in
           let named = subst (λ (l : List Record). AreNamed s.may.logged.records l) split s.may.named in
           let l = s.may.logged in
+          subst (λ (y : List ℕ). PutSoFar moment may_hold_after f lines rest old new (bytes old) y) (sym is)
           record {
             may = record {
-              logged = put_logged f p.y _ l r named.0 long (may_hold_after new (moment new))
+              logged = put_logged f x _ l r named.0 long (may_hold_after new (moment new))
                   (λ image of_left. w.torn (moment new) image (omega arith) (omega arith) of_left);
               named = named.1;
             };
-            heap = ap (put_records rest) (put_heap f p.y _ l r named.0 long)
-                ∙ subst (λ (l : List Record). put_records l (heap_of f p.y) ≡ put_records lines (heap_of f x)) split
-                s.heap;
-            log = put_log f p.y _ l r named.0 long ∙ s.log;
-            gate = put_gate f p.y _ l r named.0 long ∙ s.gate;
-            back = put_same f p.y _ l r named.0 long ∙ s.back;
+            heap = ap (put_records rest) (put_heap f x _ l r named.0 long)
+                ∙ subst (λ (l : List Record). put_records l (heap_of f x) ≡ put_records lines (heap_of f (bytes old)))
+                split s.heap;
+            log = put_log f x _ l r named.0 long ∙ s.log;
+            ends = put_end f x _ l r named.0 long ∙ s.ends;
+            gate = put_gate f x _ l r named.0 long ∙ s.gate;
+            back = put_same f x _ l r named.0 long ∙ s.back;
             each = putting_each m;
           };
     }
 
   -- all lines put
   pub putting_all : (now : D) (rest : List Record) → rest ≡ [] →
-      (p : Putting moment may_hold_after bytes f lines rest old now x) → (y : List ℕ) → bytes now ≡ Some y →
-      MayPut f lines x (may_hold_after old (moment old)) → Puts f lines x y (may_hold_after now (moment now))
-  putting_all now rest none p y is m =
+      Putting moment may_hold_after bytes f lines rest old now →
+      MayPut f lines (bytes old) (may_hold_after old (moment old)) →
+      Puts f lines (bytes old) (bytes now) (may_hold_after now (moment now))
+  putting_all now rest none p m =
       let s = p.so_far m in
-      subst (λ (z : List ℕ). Puts f lines x z (may_hold_after now (moment now))) (same_Some p.y y (sym p.told ∙ is))
       record {
         logged = s.may.logged;
-        heap = subst (λ (l : List Record). put_records l (heap_of f p.y) ≡ put_records lines (heap_of f x)) none s.heap;
+        heap = subst (λ (l : List Record). put_records l (heap_of f (bytes now))
+            ≡ put_records lines (heap_of f (bytes old))) none s.heap;
         log = s.log;
+        ends = s.ends;
         gate = s.gate;
         back = s.back;
       }
 
   pub putting_written : (now : D) (rest : List Record) → rest ≡ [] →
-      Putting moment may_hold_after bytes f lines rest old now x → bytes now ≡ Some (with_records f lines x)
+      Putting moment may_hold_after bytes f lines rest old now → bytes now ≡ with_records f lines (bytes old)
   putting_written now rest none p =
-      p.told ∙ ap Some (subst (λ (l : List Record). with_records f l p.y ≡ with_records f lines x) none p.written)
+      subst (λ (l : List Record). with_records f l (bytes now) ≡ with_records f lines (bytes old)) none p.written
 
 -- Where nothing was pending.
 

@@ -7,9 +7,7 @@ use Rattle.std.proofs.lemmas.Bool.{le-leb}
 use Rattle.std.proofs.lemmas.List.{take_at}
 use Rattle.std.proofs.lemmas.Option.{none-some, same_Some}
 use Rattle.sdr_base.specs.Parts.{part}
-use Rattle.sdr_disk.specs.Told.{IsLong}
 use Rattle.sdr_base.proofs.PartsLemmas.{length-part}
-use Rattle.sdr_disk.proofs.ToldLemmas.{told_long}
 use Rattle.sdr_log.specs.Frame.{disk_bytes, frame_of}
 use Rattle.sdr_log.specs.Calls.{GivesNone, IsFramed}
 use Rattle.sdr_log.specs.Log.{are_good, batches_of, heap_of, log_of, put_back_in, put_back_of, put_records, read_log}
@@ -33,10 +31,8 @@ put_back_of-tiny x tiny =
     (omega (arith, tiny, length-take 64 (drop 0 x), length-drop 0 x)))
 
 -- a disk with the head of these regions, and room for them, has them
-pub HasRegions-framed : (f : Frame) (size : ℕ) (told : Option (List ℕ)) (x : List ℕ) → IsFramed size told f →
-    IsLong told size → told ≡ Some x → HasRegions f x
-HasRegions-framed f size told x framed long is =
-    record { head = framed.head x is; inside = omega (arith, framed.fits, told_long told size x long is) }
+pub HasRegions-framed : (f : Frame) (x : List ℕ) → IsFramed x f → HasRegions f x
+HasRegions-framed f x framed = record { head = framed.head; inside = framed.fits }
 
 length-log_of : (f : Frame) (x : List ℕ) → HasRegions f x → length (log_of f x) ≡ 64 * f.log_lines
 unfolding log_of

@@ -58,7 +58,7 @@ at_closed moment may_hold_after f old mid new x y records left' l p before each 
 -- Without a crash.
 
 -- nothing is pending on it
-pub alone : (f : Frame) (x : List ℕ) (records : List Record) → Logs f x records → IsLogged f x (λ image. image ≡ x)
+unfoldable pub alone : (f : Frame) (x : List ℕ) (records : List Record) → Logs f x records → IsLogged f x (λ image. image ≡ x)
 alone f x records l = record {
   records = records;
   logs = l;
@@ -151,6 +151,11 @@ closed_again x shut le =
     ap (take 1) (drop_more x 64 0 (omega (arith, le))) ∙ ap (λ (n : ℕ). n ∷ []) shut in
     ap (λ (l : List ℕ). overwrite 64 l x) (sym gate) ∙ overwrite-part 64 1 x le
 
+-- the same batches of the same bytes
+pub logs_behind : (f : Frame) (x y : List ℕ) (records : List Record) {others : List Record} → x ≡ y → records ≡ others →
+    Logs f x records → Logs f y others
+logs_behind f x y records same is l = subst (λ (rs : List Record). Logs f y rs) is (subst (λ (z : List ℕ). Logs f z records) same l)
+
 -- no line is put back
 pub restored_none : (f : Frame) (x y : List ℕ) → Logs f x [] → y ≡ x → PutsBack f 0 x y
 restored_none f x y l is =
@@ -172,71 +177,68 @@ pub back_same : (f : Frame) (x image : List ℕ) (left : List ℕ → Type 0) �
 back_same f x image left (inl only) l = ap put_back_of (only image l)
 back_same f x image left (inr logged) l = logged_same f x image left logged l
 
-module _ {D : Type 0} (bytes : D → Option (List ℕ)) (moment : D → ℕ) (may_hold_after : D → ℕ → List ℕ → Type 0)
-    (old now : D) (r : Reads bytes moment may_hold_after old now) where
+module _ {D : Type 0} {bytes : D → List ℕ} {tells : D → Bool} {moment : D → ℕ}
+    {may_hold_after : D → ℕ → List ℕ → Type 0} {old now : D} (r : Reads bytes tells moment may_hold_after old now) where
   -- what a crash leaves now it left before
-  left_before : (image : List ℕ) → may_hold_after now (moment now) image → may_hold_after old (moment old) image
+  pub left_before : (image : List ℕ) → may_hold_after now (moment now) image → may_hold_after old (moment old) image
   left_before image l =
       r.past.now_then (moment old) image (omega arith) (subst (λ (k : ℕ). may_hold_after now k image) r.time l)
 
   -- nothing is pending still
-  pub reads_only : (x : List ℕ) → Only x (may_hold_after old (moment old)) → Only x (may_hold_after now (moment now))
-  reads_only x only image of_left = only image (left_before image of_left)
+  pub reads_only : Only (bytes old) (may_hold_after old (moment old)) → Only (bytes now) (may_hold_after now (moment now))
+  reads_only only image of_left = only image (left_before image of_left) ∙ sym r.same
 
-  module _ (P : List ℕ → Type 0) (before : (image : List ℕ) → may_hold_after old (moment old) image → P image) where
-    -- while it is read
-    pub at_reads : AtEach moment may_hold_after old now P
-    at_reads = at_read moment may_hold_after old old now P (at_first moment may_hold_after old P before) r.time r.past
+  -- while it is read
+  pub at_reads : (P : List ℕ → Type 0) → ((image : List ℕ) → may_hold_after old (moment old) image → P image) →
+      AtEach moment may_hold_after old now P
+  at_reads P before =
+      at_read moment may_hold_after old old now P (at_first moment may_hold_after old P before) r.time r.past
 
-    -- and while the batches are put back
-    pub at_restored : (new : D) → AtEach moment may_hold_after now new P → AtEach moment may_hold_after old new P
-    at_restored new each =
-        at_both moment may_hold_after old now new P P P at_reads each (λ image p. p) (λ image p. p)
+  -- and while the batches are put back, what is said of the bytes
+  pub at_restored : (P : List ℕ → List ℕ → Type 0) →
+      ((image : List ℕ) → may_hold_after old (moment old) image → P (bytes old) image) → (new : D) →
+      AtEach moment may_hold_after now new (P (bytes now)) → AtEach moment may_hold_after old new (P (bytes old))
+  at_restored P before new each =
+      at_both moment may_hold_after old now new (P (bytes old)) (P (bytes old)) (P (bytes old))
+      (at_reads (P (bytes old)) before)
+      (subst (λ (x : List ℕ). AtEach moment may_hold_after now new (P x)) r.same each) (λ image p. p) (λ image p. p)
 
--- Batches that may be put back, once they are read.
-module _ {D : Type 0} (bytes : D → Option (List ℕ)) (moment : D → ℕ) (may_hold_after : D → ℕ → List ℕ → Type 0)
-    (f : Frame) (old now : D) (x : List ℕ) (r : Reads bytes moment may_hold_after old now)
-    (m : MayPutBack f x (may_hold_after old (moment old))) where
-  before_reads : (image : List ℕ) → may_hold_after now (moment now) image → may_hold_after old (moment old) image
-  before_reads image l = left_before bytes moment may_hold_after old now r image l
+  -- Batches that may be put back, once they are read.
+  module _ (f : Frame) (m : MayPutBack f (bytes old) (may_hold_after old (moment old))) where
+    logged_before : IsLogged f (bytes old) (may_hold_after old (moment old)) →
+        IsLogged f (bytes now) (may_hold_after now (moment now))
+    logged_before logged =
+        subst (λ (x : List ℕ). IsLogged f x (may_hold_after now (moment now))) (sym r.same) record {
+          records = logged.records;
+          logs = logged.logs;
+          pending = λ image of_left. logged.pending image (left_before image of_left);
+        }
 
-  -- the batches may still be put back
-  pub reads_may : MayPutBack f x (may_hold_after now (moment now))
-  reads_may = by m
-    where
-      by : MayPutBack f x (may_hold_after old (moment old)) → MayPutBack f x (may_hold_after now (moment now))
-      by (inl only) = inl (λ image of_left. only image (before_reads image of_left))
-      by (inr logged) = inr record {
-        records = logged.records;
-        logs = logged.logs;
-        pending = λ image of_left. logged.pending image (before_reads image of_left);
-      }
+    -- the batches may still be put back
+    pub reads_may : MayPutBack f (bytes now) (may_hold_after now (moment now))
+    reads_may = ⊎_elim (λ only. inl (reads_only only)) (λ logged. inr (logged_before logged)) m
 
-  -- all that is pending is logged
-  pub reads_logged : (records : List Record) → Logs f x records → IsLogged f x (may_hold_after now (moment now))
-  reads_logged records l = by m
-    where
-      by : MayPutBack f x (may_hold_after old (moment old)) → IsLogged f x (may_hold_after now (moment now))
-      by (inl only) = record {
-        records = records;
-        logs = l;
-        pending = λ image of_left. subst (λ (z : List ℕ). Agrees (line_ranges f records) x z)
-            (sym (only image (before_reads image of_left))) (Agrees-refl (line_ranges f records) x);
-      }
-      by (inr logged) = record {
-        records = logged.records;
-        logs = logged.logs;
-        pending = λ image of_left. logged.pending image (before_reads image of_left);
-      }
+    -- all that is pending is logged
+    pub reads_logged : (records : List Record) → Logs f (bytes now) records →
+        IsLogged f (bytes now) (may_hold_after now (moment now))
+    reads_logged records l = ⊎_elim
+        (λ only. record {
+          records = records;
+          logs = l;
+          pending = λ image of_left. subst (λ (z : List ℕ). Agrees (line_ranges f records) (bytes now) z)
+              (sym (reads_only only image of_left)) (Agrees-refl (line_ranges f records) (bytes now));
+        })
+        (λ logged. logged_before logged) m
 
-  pub reads_open : (records : List Record) → Logs f x records → 0 < length records →
-      IsOpen f x (may_hold_after now (moment now))
-  reads_open records l some = record { logged = reads_logged records l; gate = logs_gate f x records l some }
+    pub reads_open : (records : List Record) → Logs f (bytes now) records → 0 < length records →
+        IsOpen f (bytes now) (may_hold_after now (moment now))
+    reads_open records l some =
+        record { logged = reads_logged records l; gate = logs_gate f (bytes now) records l some }
 
-  -- with no batch open, the disk is at rest
-  pub reads_rest : (y : List ℕ) → y ≡ x → Logs f x [] → IsAtRest f y (may_hold_after now (moment now))
-  reads_rest y is l = subst (λ (z : List ℕ). IsAtRest f z (may_hold_after now (moment now))) (sym is) record {
-    regions = l.regions;
-    gate = none_closed f x l;
-    only = closed_only f x (may_hold_after now (moment now)) (reads_logged [] l) (none_closed f x l);
-  }
+    -- with no batch open, the disk is at rest
+    pub reads_rest : Logs f (bytes now) [] → IsAtRest f (bytes now) (may_hold_after now (moment now))
+    reads_rest l = record {
+      regions = l.regions;
+      gate = none_closed f (bytes now) l;
+      only = closed_only f (bytes now) (may_hold_after now (moment now)) (reads_logged [] l) (none_closed f (bytes now) l);
+    }

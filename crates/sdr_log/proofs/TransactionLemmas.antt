@@ -26,7 +26,7 @@ rest_fresh f bytes r shut = record {
 }
 
 -- where no batch is open, the open batches end at the first place
-log_end-closed : (f : Frame) (x : List ℕ) → HasRegions f x → first_gate x ≡ 0 → log_end f x ≡ Some 0
+pub log_end-closed : (f : Frame) (x : List ℕ) → HasRegions f x → first_gate x ≡ 0 → log_end f x ≡ Some 0
 unfolding log_end
 log_end-closed f x r shut =
     let w = HasRegions-limits f x r in

@@ -1,11 +1,10 @@
 -- When the calls of the log may be made, and what they change.
-use Rattle.std.specs.Prelude.{◌≡◌, ◌≤◌, ◌<◌, ℕ, ◌+◌, ◌*◌, ◌⊎◌, ⊤, true, List, [], ◌∷◌, ◌++◌, length}
-use Rattle.std.specs.Prelude.{Option, Some, None, is_some, option_map}
+use Rattle.std.specs.Prelude.{◌≡◌, ◌≤◌, ◌<◌, ℕ, ◌+◌, ◌*◌, ◌⊎◌, ⊤, Bool, true, List, [], ◌∷◌, ◌++◌, length}
+use Rattle.std.specs.Prelude.{Some, None, option_map}
 use Rattle.sdr_base.specs.declared.line.TheConstants.{LINE}
 use Rattle.sdr_disk.specs.Moments.{Only}
 use Rattle.sdr_base.specs.Parts.{overwrite, part}
 use Rattle.sdr_disk.specs.Ranges.{Agrees, Range, range}
-use Rattle.sdr_disk.specs.Told.{IfTold}
 use Rattle.sdr_log.specs.Batch.{batch_size, log_end}
 use Rattle.sdr_log.specs.Frame.{IsInLimits, disk_bytes, frame_of, heap_place}
 use Rattle.sdr_log.specs.Log.{are_good, first_gate, heap_of, names_line, put_back_of, put_records}
@@ -67,6 +66,7 @@ pub record Puts (f : Frame) (lines : List Record) (x y : List ℕ) (left : List 
   pub logged : IsLogged f y left
   pub heap : heap_of f y ≡ put_records lines (heap_of f x)
   pub log : read_log f y ≡ read_log f x
+  pub ends : log_end f y ≡ log_end f x
   pub gate : first_gate y ≡ first_gate x
   pub back : GivesSame x y
 
@@ -76,11 +76,11 @@ pub record Closes (f : Frame) (x y : List ℕ) (left : List ℕ → Type 0) : Ty
   pub heap : heap_of f y ≡ heap_of f x
   pub gives : GivesHeap (heap_of f x) y
 
--- a disk of so many bytes has the head of these regions, and room for them
-pub record IsFramed (size : ℕ) (told : Option (List ℕ)) (f : Frame) : Type 0 where
+-- a disk of these bytes has the head of these regions, and room for them
+pub record IsFramed (x : List ℕ) (f : Frame) : Type 0 where
   pub limits : IsInLimits f
-  pub fits : disk_bytes f ≤ size
-  pub head : IfTold told (λ x. frame_of (part 0 LINE x) ≡ Some f)
+  pub fits : disk_bytes f ≤ length x
+  pub head : frame_of (part 0 LINE x) ≡ Some f
 
 -- nothing is pending, or all that is pending is logged
 abbrev pub MayPutBack : Frame → List ℕ → (List ℕ → Type 0) → Type 0
@@ -101,10 +101,10 @@ pub record PutsBack (f : Frame) (count : ℕ) (x y : List ℕ) : Type 0 where
   pub regions : HasRegions f y
   pub gate : first_gate y ≡ 0
 
--- the disk is as long as it was, and tells its bytes if it did
-pub record KeepsDisk {D : Type 0} (size_of : D → ℕ) (bytes : D → Option (List ℕ)) (old new : D) : Type 0 where
-  pub size : size_of new ≡ size_of old
-  pub tells : is_some (bytes new) ≡ is_some (bytes old)
+-- the disk is as long as it was, and tells what a crash may leave if it did
+pub record KeepsDisk {D : Type 0} (bytes : D → List ℕ) (tells_crashes : D → Bool) (old new : D) : Type 0 where
+  pub size : length (bytes new) ≡ length (bytes old)
+  pub tells : tells_crashes new ≡ tells_crashes old
 
 -- where the log region and the heap region lie on the disk
 abbrev pub regions_of : Frame → Range

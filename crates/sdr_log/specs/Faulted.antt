@@ -1,8 +1,8 @@
 -- What a recovery in which the disk failed leaves of it.
-use Rattle.std.specs.Prelude.{◌<◌, ◌+◌, ◌*◌, ◌⊎◌, ℕ, List, [], ◌∷◌, length, Option}
+use Rattle.std.specs.Prelude.{◌<◌, ◌+◌, ◌*◌, ◌⊎◌, ℕ, Bool, List, [], ◌∷◌, length}
 use Rattle.sdr_base.specs.declared.line.TheConstants.{LINE}
 use Rattle.sdr_disk.specs.Ranges.{Agrees, range}
-use Rattle.sdr_disk.specs.Told.{Both}
+use Rattle.sdr_disk.specs.Tells.{IfTells}
 use Rattle.sdr_log.specs.Calls.{MayPutBack, with_records}
 use Rattle.sdr_log.specs.Log.{first_gate}
 use Rattle.sdr_log.specs.Logged.{Logs}
@@ -26,7 +26,9 @@ pub record FailsAtGate {D : Type 0} (moment : D → ℕ) (may_hold_after : D →
     pub gate : PendsAtGate (with_records frame records x) y (may_hold_after new (moment new))
 
 -- a disk that might be put back may be put back again, or it failed as its recovery closed the first gate
-abbrev pub FailsBack : {D : Type 0} → Frame → (D → Option (List ℕ)) → (D → ℕ) → (D → ℕ → List ℕ → Type 0) → D → D → Type 0
-FailsBack f told moment may_hold_after old new =
-    Both (told old) (told new) (λ x y. MayPutBack f x (may_hold_after old (moment old))
-    → MayPutBack f y (may_hold_after new (moment new)) ⊎ FailsAtGate moment may_hold_after old new x y)
+abbrev pub FailsBack : {D : Type 0} → Frame → (D → List ℕ) → (D → Bool) → (D → ℕ) → (D → ℕ → List ℕ → Type 0) → D → D
+    → Type 0
+FailsBack f bytes tells moment may_hold_after old new =
+    IfTells (tells old) (MayPutBack f (bytes old) (may_hold_after old (moment old))
+    → MayPutBack f (bytes new) (may_hold_after new (moment new))
+    ⊎ FailsAtGate moment may_hold_after old new (bytes old) (bytes new))

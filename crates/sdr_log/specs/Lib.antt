@@ -7,3 +7,5 @@ pub mod Left
 pub mod Log
 pub mod Logged
 pub mod Reading
+pub mod Spilled
+pub mod Undoing

@@ -1,8 +1,7 @@
 // The head of a disk, read.
-ghost use Rattle.std.specs.Prelude.{◌≡◌, ◌≤◌, IfOk, IfSome, IsNone, None};
+ghost use Rattle.std.specs.Prelude.{◌≡◌, IfOk, IfSome, IsNone, None};
 ghost use Rattle.sdr_base.specs.Causes.{HasCause};
 ghost use Rattle.sdr_disk.specs.Moments.{Reads};
-ghost use Rattle.sdr_disk.specs.Told.{IfTold};
 ghost use Rattle.sdr_log.specs.Calls.{IsFramed};
 ghost use Rattle.sdr_log.specs.Log.{put_back_of};
 
@@ -13,14 +12,11 @@ use sdr_disk::{Disk, DiskFault};
 /// The regions that the head of a disk tells of, where the disk has a head and is as long as it
 /// tells; else it gives no heap. It makes one read, and none where there is no room for a head.
 pub fn read_frame<D: Disk>(disk: &mut D) -> Result<Option<Frame>, DiskFault>
-    ensures found { IfOk result (λ found. IfSome found
-        (IsFramed (D.size disk.old) (D.bytes disk.old))) }
-    ensures none { IfOk result (λ found. IsNone found →
-        IfTold (D.bytes disk.old) (λ x. put_back_of x ≡ None)) }
+    ensures found { IfOk result (λ found. IfSome found (IsFramed (D.bytes disk.old))) }
+    ensures none { IfOk result (λ found. IsNone found → put_back_of (D.bytes disk.old) ≡ None) }
     ensures cause { HasCause (D.faults disk.old) (D.faults disk.new) result }
 
-    ensures size { D.size disk.new ≡ D.size disk.old }
-    ensures reads { Reads D.bytes D.moment D.may_hold_after disk.old disk.new }
+    ensures reads { Reads D.bytes D.tells_crashes D.moment D.may_hold_after disk.old disk.new }
 {
     let have = disk.len();
     if have < LINE {

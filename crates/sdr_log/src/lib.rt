@@ -13,7 +13,11 @@
 //!    gate; `put_lines` writes the lines; `close` closes the first gate.
 //! 6. Up to there a crash leaves what is put back to the heap from before, and from there on the
 //!    lines as changed.
-//! 7. `read_frame` reads the head. `put_back_found` then checks all open batches, puts their lines
+//! 7. A transaction may write lines before it ends: `spill` opens a batch of their old bytes behind the open ones
+//!    and puts the lines, and `put_through` puts a line that is named already. Up to its end a crash leaves the
+//!    bytes at begin. It ends with `end_with` or `end_spilled`, or is undone by `undo`, which puts the old bytes
+//!    back as it reads them and closes the first gate.
+//! 8. `read_frame` reads the head. `put_back_found` then checks all open batches, puts their lines
 //!    back and closes the first gate; `put_back` does both. A crash on the way leaves what is put
 //!    back to the same heap.
 //!
@@ -31,6 +35,7 @@
 
 mod batch;
 mod closing;
+mod ending;
 mod error;
 mod finding;
 mod frame;
@@ -41,12 +46,17 @@ mod reading;
 mod record;
 mod recovery;
 mod saving;
+mod spilling;
+mod undoing;
 
 pub use batch::write_batch;
 pub use closing::close;
+pub use ending::{end_spilled, end_with};
 pub use error::BackError;
 pub use finding::read_frame;
 pub use frame::{Frame, LEAST_LOG, MOST_LOG};
 pub use lines::put_lines;
 pub use record::Record;
 pub use recovery::{put_back, put_back_found};
+pub use spilling::{put_through, spill};
+pub use undoing::undo;

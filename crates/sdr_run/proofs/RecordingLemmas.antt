@@ -4,6 +4,7 @@ use Rattle.sdr_core.proofs.CoreRunLemmas.{core_run}
 use Rattle.sdr_core.specs.Caused.{AreCaused, from_to, media_on}
 use Rattle.sdr_core.specs.CoreKept.{BeginsOn, IsRunOf, LoggedLock, RunStart}
 use Rattle.sdr_core.specs.CoreRun.{CoreAt}
+use Rattle.sdr_core.specs.Ended.{StandsEnded}
 use Rattle.sdr_machine.specs.Core.{Core, RunsCore, first_core}
 use Rattle.sdr_machine.specs.Crash.{is_sound}
 use Rattle.sdr_machine.specs.Leaving.{AllLeave}
@@ -29,9 +30,9 @@ pub plays_out : {T : Type 0} (g : Ghosts T) (b : RunStart) (base : T) (script : 
     (out out' : Output) (journal : List Entry) (left : T) (failed : Bool) → daemons ≡ daemons_of script → BeginsOn g b daemons base
     → k ≡ record { lock = record { roll = first_roll daemons; base = base }; log = record { works = []; journal = [] } }
     → Plays (core_run g) k last script out out' played → journal ≡ last.log.journal → left ≡ last.lock.base → IsRunOf g b journal left
-    → failed ≡ not (is_sound journal)
+    → StandsEnded g b journal left → failed ≡ not (is_sound journal)
     → PlaysOut g b script base out out' (record { journal = journal; base = left; failed = failed; starved = played.starved; printing = played.printing })
-plays_out {T} g b base script daemons k last played out out' journal left failed named begins made plays journal_is left_is run failed_is =
+plays_out {T} g b base script daemons k last played out out' journal left failed named begins made plays journal_is left_is run ended failed_is =
     let p : PlaysFrom (core_run g) (first_core daemons b.first) k last script out out' played = plays.each (first_core daemons b.first) (begun_at g b daemons base k begins made) in
     let begun : k.lock.base ≡ base = ap (λ (x : LoggedLock T). x.lock.base) made in
     record {
@@ -53,5 +54,6 @@ plays_out {T} g b base script daemons k last played out out' journal left failed
         printed = (p.all, p.printed);
       };
       run = run;
+      ended = ended;
       failed = failed_is;
     }

@@ -2,6 +2,7 @@
 use Rattle.std.specs.Prelude.{◌≡◌, List, not}
 use Rattle.sdr_core.specs.Caused.{MediaChange, from_to, media_on}
 use Rattle.sdr_core.specs.CoreKept.{IsRunOf, RunStart}
+use Rattle.sdr_core.specs.Ended.{StandsEnded}
 use Rattle.sdr_machine.specs.Crash.{is_sound}
 use Rattle.sdr_machine.specs.Ground.{State}
 use Rattle.sdr_machine.specs.declared.has_ground.HasGround.{Ghosts}
@@ -19,5 +20,7 @@ pub record PlaysOut {T : Type 0} (g : Ghosts T) (b : RunStart) (script : List Sc
   pub replays : RunsScript (from_to (media_on g before) (media_on g ran.base)) b.first script out out' ran
   -- what a crash leaves is told by the journal
   pub run : IsRunOf g b ran.journal ran.base
+  -- unless the disk failed in an entry, no transaction is open on the ground
+  pub ended : StandsEnded g b ran.journal ran.base
   -- the disk failed just where it did in an entry
   pub failed : ran.failed ≡ not (is_sound ran.journal)

@@ -1,5 +1,5 @@
 // A disk that was handed in.
-ghost use Rattle.std.specs.Prelude.{◌≡◌, is_some, ⊤};
+ghost use Rattle.std.specs.Prelude.{◌≡◌, ⊤};
 ghost use Rattle.sdr_run.specs.Handed.{HandedDisk, no_disk};
 
 use sdr_disk::{Disk, DiskFault};
@@ -19,7 +19,7 @@ impl HandedIn for Brand {
     ghost condition = { ⊤ };
 }
 
-/// A disk that is as long as it was handed in, and tells its bytes if it did. Whatever is made of it,
+/// A disk that tells what a crash may leave if it did as it was handed in. Whatever is made of it,
 /// this stays.
 pub struct Handed<D: Disk, J: HandedIn> {
     disk: D,
@@ -27,20 +27,18 @@ pub struct Handed<D: Disk, J: HandedIn> {
 }
 
 impl<D: Disk, J: HandedIn> Model for Handed<D, J> {
-    ghost use Rattle.std.specs.Prelude.{◌≡◌, is_some};
+    ghost use Rattle.std.specs.Prelude.{◌≡◌};
 
     ghost Value = { D };
 
     ghost view = { λ h. h.disk };
 
-    ghost invariant = { λ h. (D.size h.disk ≡ J.was.size)
-        × (is_some (D.bytes h.disk) ≡ is_some J.was.bytes) };
+    ghost invariant = { λ h. D.tells_crashes h.disk ≡ J.was.tells };
 }
 
 impl<D: Disk, J: HandedIn> Handed<D, J> {
     pub fn new(disk: D) -> Handed<D, J>
-        requires size { D.size disk ≡ J.was.size }
-        requires tells { is_some (D.bytes disk) ≡ is_some J.was.bytes }
+        requires { D.tells_crashes disk ≡ J.was.tells }
         ensures { result ≡ disk }
     {
         Handed {
@@ -51,8 +49,7 @@ impl<D: Disk, J: HandedIn> Handed<D, J> {
 
     pub fn into_disk(self) -> D
         ensures disk { result ≡ self }
-        ensures size { D.size result ≡ J.was.size }
-        ensures tells { is_some (D.bytes result) ≡ is_some J.was.bytes }
+        ensures tells { D.tells_crashes result ≡ J.was.tells }
     {
         let Handed { disk, of: _ } = self;
         disk
@@ -60,17 +57,15 @@ impl<D: Disk, J: HandedIn> Handed<D, J> {
 }
 
 impl<D: Disk, J: HandedIn> Disk for Handed<D, J> {
-    ghost size = { λ d. D.size d };
-
     ghost bytes = { λ d. D.bytes d };
+
+    ghost tells_crashes = { λ d. D.tells_crashes d };
 
     ghost faults = { λ d. D.faults d };
 
     ghost moment = { λ d. D.moment d };
 
     ghost may_hold_after = { λ d m image. D.may_hold_after d m image };
-
-    ghost told = { λ d. D.told d };
 
     ghost long = { λ d. D.long d };
 

@@ -27,12 +27,13 @@ impl<D: Disk, M: Media, J: HandedIn> Model for HandedGround<D, M, J> {
 }
 
 impl<D: Disk, M: Media, J: HandedIn> HandedGround<D, M, J> {
-    ghost use Rattle.std.specs.Prelude.{◌≡◌, OnErr, OnOk, false, true};
+    ghost use Rattle.std.specs.Prelude.{◌≡◌, [], IfOk, OnErr, OnOk, false, true};
     ghost use Rattle.sdr_base.specs.Causes.{Rose};
+    ghost use Rattle.sdr_image.specs.Opened.{Holds};
     ghost use Rattle.sdr_machine.specs.Serving.{Brings, Calls, RollsBack};
     ghost use Rattle.sdr_model.specs.Reading.{is_reading, reads_media};
     ghost use Rattle.sdr_run.specs.Handed.{StaysAsHanded};
-    ghost use Rattle.sdr_run.specs.Quiet.{StaysQuiet};
+    ghost use Rattle.sdr_run.specs.Quiet.{IsSame, StaysQuiet};
     ghost use Rattle.sdr_station.specs.Grounded.{StandsInMemory};
 
     pub fn new(ground: HeapGround<Handed<D, J>, M, Compares>) -> HandedGround<D, M, J>
@@ -42,27 +43,37 @@ impl<D: Disk, M: Media, J: HandedIn> HandedGround<D, M, J> {
         HandedGround { ground }
     }
 
-    /// Rolls the open transaction back. It makes no call of the disk.
-    pub fn restore(&mut self) -> Result<(), Fault>
-        ensures back { OnOk result (Brings StandsInMemory self.old self.new RollsBack) }
-        ensures going { OnOk result (self.old.heap.cells.failed ≡ false → self.new.stopped ≡ false) }
-        ensures fault { OnErr result (Rose (D.faults self.old.heap.cells.disk)
-            (D.faults self.new.heap.cells.disk)) }
-        ensures still { StaysQuiet self.old self.new }
+    /// Rolls back a transaction that has touched no line. It makes no call of the disk, and doesn't fail.
+    pub fn restore(&mut self)
+        requires untouched { self.old.heap.cells.touched ≡ [] }
+        requires sound { self.old.heap.cells.failed ≡ false }
+        ensures back { Brings StandsInMemory self.old self.new RollsBack }
+        ensures going { self.new.stopped ≡ false }
+        ensures untouched { self.new.heap.cells.touched ≡ [] }
+        ensures same { IsSame self.old self.new }
+        ensures holds { Holds D.bytes self.old.heap.cells }
         ensures seen { self.old.moment ≡ D.moment self.old.heap.cells.disk }
     {
-        self.ground.restore()
+        match self.ground.restore() {
+            Ok(()) => {}
+            Err(Fault) => unreachable!(),
+        }
     }
 
-    /// Makes a call that reads, and asks no media, in a transaction in which none was stopped. It makes no call of the disk.
-    pub fn read(&mut self, call: &Call) -> Reply
+    /// Makes a call that reads, and asks no media, in a transaction that has touched no line and in which none was stopped.
+    /// The disk is only read.
+    pub fn read(&mut self, call: &Call) -> Result<Reply, Fault>
         requires reads { is_reading call.now ≡ true }
         requires unasked { reads_media call.now ≡ false }
         requires going { self.old.stopped ≡ false }
-        ensures answered { Brings StandsInMemory self.old self.new
-            (Calls (M.told self.old.media) call.now result) }
-        ensures going { self.new.stopped ≡ false }
-        ensures still { StaysQuiet self.old self.new }
+        requires untouched { self.old.heap.cells.touched ≡ [] }
+        ensures answered { IfOk result (λ reply. Brings StandsInMemory self.old self.new
+            (Calls (M.told self.old.media) call.now reply)) }
+        ensures going { OnOk result (self.new.stopped ≡ false) }
+        ensures untouched { self.new.heap.cells.touched ≡ [] }
+        ensures cause { OnErr result (Rose (D.faults self.old.heap.cells.disk)
+            (D.faults self.new.heap.cells.disk)) }
+        ensures still { StaysQuiet D.Disk self.old self.new }
     {
         self.ground.serve(call)
     }
@@ -72,8 +83,9 @@ impl<D: Disk, M: Media, J: HandedIn> HandedGround<D, M, J> {
         ensures disk { result.0 ≡ self.heap.cells.disk }
         ensures media { result.1 ≡ self.media }
         ensures seen { D.moment result.0 ≡ self.moment }
-        ensures size { D.size result.0 ≡ J.was.size }
+        ensures tells { D.tells_crashes result.0 ≡ J.was.tells }
         ensures stays { StaysAsHanded J.was.bytes (D.bytes result.0) self.heap.cells.frame }
+        ensures holds { Holds D.bytes self.heap.cells }
     {
         let HandedGround { ground } = self;
         let (disk, media) = ground.into_parts();
@@ -86,7 +98,8 @@ impl<D: Disk, M: Media, J: HandedIn> HasGround for HandedGround<D, M, J> {
     ghost use Rattle.sdr_run.specs.Settled as under;
     ghost use Rattle.sdr_station.specs.Grounded as grounded;
 
-    ghost stands = { λ g v. under.StandsWhere J.condition D.bytes D.moment D.may_hold_after g v };
+    ghost stands = { λ g v.
+        under.StandsWhere J.condition D.bytes D.tells_crashes D.moment D.may_hold_after g v };
 
     ghost moment = { λ g. g.moment };
 
@@ -107,12 +120,13 @@ impl<D: Disk, M: Media, J: HandedIn> HasGround for HandedGround<D, M, J> {
     ghost idle = { λ g. grounded.HasNoCalls g };
 
     ghost left = { λ g m image.
-        under.LeavesWhere J.condition D.bytes D.may_hold_after g.heap.cells.disk m image };
+        under.LeavesWhere J.condition D.tells_crashes D.may_hold_after g.heap.cells.disk m image };
 
     ghost opens = { λ image s. grounded.OpensAs image s };
 
     ghost crash_now = { λ g v image at left.
-        under.crash_now J.condition D.bytes D.moment D.may_hold_after g v image at left };
+        under.crash_now J.condition D.bytes D.tells_crashes D.moment D.may_hold_after
+        g v image at left };
 
     ghost lasts_less = { λ g n lasts. lasts };
 
@@ -139,7 +153,7 @@ impl<D: Disk, M: Media, J: HandedIn> Backing for HandedGround<D, M, J> {
     }
 
     fn look(&mut self, ticket: u64) -> Result<Option<bool>, Fault> {
-        Ok(HeapGround::look(&mut self.ground, ticket))
+        HeapGround::look(&mut self.ground, ticket)
     }
 }
 

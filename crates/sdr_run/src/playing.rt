@@ -1,7 +1,8 @@
 // A schedule that is played on a run.
-ghost use Rattle.std.specs.Prelude.{◌≡◌, ◌≤◌, ◌<◌, ◌+◌, ◌^◌, ◌⊎◌, [], false, true, length};
+ghost use Rattle.std.specs.Prelude.{◌≡◌, ◌≤◌, ◌<◌, ◌+◌, ◌^◌, ◌⊎◌, [], None, false, true, length};
 ghost use Rattle.std.specs.Prelude.{IfOk, OnErr, OnOk};
 ghost use Rattle.sdr_core.specs.Going.{MakesNext};
+ghost use Rattle.sdr_machine.specs.Holders.{hold_none};
 ghost use Rattle.sdr_run.specs.Playing.{IsPrinted, Plays, PrintsMore, leave_of, output};
 ghost use Rattle.sdr_run.specs.Running.{AnswersStep, HasRun, MakesStep, TellsGiven};
 ghost use Rattle.sdr_text.specs.Text.{line_text};
@@ -134,7 +135,7 @@ fn leave_of(starved: bool) -> Leave
 
 /// Plays a schedule: makes its steps in order, where no name holds anything yet, prints the line of each answer, and makes the leaves at the end,
 /// which print nothing. Where an event, a name or the next step finds no memory, no further step is made, and the leaves tell so. Where the
-/// output fails, nothing more is printed, and the run goes on.
+/// output fails, nothing more is printed, and the run goes on. Unless the disk has failed, no number is held then.
 pub fn play<R: Runs, S: Steps, K: Sink>(
     alloc: Global,
     run: &mut R,
@@ -145,6 +146,8 @@ pub fn play<R: Runs, S: Steps, K: Sink>(
     requires lasts { R.lasts run.old }
     ensures plays { Plays R.HasRun run.old run.new (S.left steps.old)
         (output K.taken K.faults out.old) (output K.taken K.faults out.new) result }
+    ensures none { (R.roll_of run.new).failed ≡ None →
+        hold_none (R.roll_of run.new).daemons ≡ true }
     ensures later { K.faults out.old ≤ K.faults out.new }
 {
     let mut printing = true;

@@ -51,7 +51,8 @@ fn is_sound(journal: &[Entry]) -> bool
     journal.iter().all(|entry| !is_fault(&entry.what))
 }
 
-/// Plays a schedule on a core of these daemons, which are those that it names, and gives its journal out. Where memory is wanting before the first
+/// Plays a schedule on a core of these daemons, which are those that it names, and gives its journal out. Unless the disk failed
+/// in an entry, no transaction is open on the ground then. Where memory is wanting before the first
 /// step, the ground is given back and nothing is printed.
 pub fn play_recorded<T: Tells, J: Origin, S: Steps, K: Sink>(
     alloc: Global,

@@ -1,5 +1,6 @@
 // A schedule that runs on the heap of a disk.
 ghost use Rattle.std.specs.Prelude.{◌≡◌, ◌≤◌, ◌↔◌, IfErr, IfOk, length};
+ghost use Rattle.sdr_image.specs.Opened.{Holds};
 ghost use Rattle.sdr_run.specs.Handed.{StaysAsHanded, handed_as};
 ghost use Rattle.sdr_run.specs.Playing.{output};
 ghost use Rattle.sdr_run.specs.Replaying.{IsNotRun, IsSettled, ReplaysOn, with_base};
@@ -20,8 +21,9 @@ use std::marker::Brand;
 fn with_parts<D: Disk, M: Media, J: HandedIn>(ran: Ran<HandedGround<D, M, J>>) -> Ran<(D, M)>
     ensures same { result ≡ with_base ran result.base }
     ensures disk { result.base.0 ≡ ran.base.heap.cells.disk }
-    ensures size { D.size result.base.0 ≡ J.was.size }
+    ensures tells { D.tells_crashes result.base.0 ≡ J.was.tells }
     ensures stays { StaysAsHanded J.was.bytes (D.bytes result.base.0) ran.base.heap.cells.frame }
+    ensures holds { Holds D.bytes ran.base.heap.cells }
     ensures seen { D.moment result.base.0 ≡ ran.base.moment }
     ensures media { result.base.1 ≡ ran.base.media }
 {

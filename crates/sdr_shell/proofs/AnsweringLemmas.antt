@@ -1,5 +1,5 @@
 -- What is answered to words of a form follows from what the form answers.
-use Rattle.std.proofs.Common.{◌≡◌, ◌≤◌, ◌+◌, ℕ, Bool, [], Option, None, Some, IfSome, length, is_some, refl, sym, ap, subst, inl, inr, true≢false, arith}
+use Rattle.std.proofs.Common.{◌≡◌, ◌≤◌, ◌+◌, ℕ, Bool, [], Option, None, Some, IfSome, List, length, refl, sym, ap, subst, inl, inr, true≢false, arith}
 use Rattle.std.specs.Prelude.{codes}
 use Rattle.sdr_base.specs.declared.media.Media.{Ghosts as MediaGhosts}
 use Rattle.sdr_base.specs.declared.sink.Sink.{Ghosts as SinkGhosts}
@@ -110,7 +110,7 @@ module _ {D M S K : Type 0} (d : DiskGhosts D) (m : MediaGhosts M) (s : SourceGh
     media = failed_refl (seen_media m.told m.faults m.short files);
     unread = λ _ _ _ _. refl;
     same = λ _ _. refl;
-    told = (refl, refl);
+    keeps = record { size = refl; tells = refl };
   }
 
   -- to `dry`
@@ -136,17 +136,17 @@ module _ {D M S K : Type 0} (d : DiskGhosts D) (m : MediaGhosts M) (s : SourceGh
     media = media;
     unread = λ other _ _ _. absurd (other refl);
     same = λ _ _. refl;
-    told = (refl, refl);
+    keeps = record { size = refl; tells = refl };
   }
 
   -- to `format`
   pub answers_format : (frame : Frame) (status : ℕ) (disk' : D)
-      → AnswersFormat status frame (d.size disk) (seen d.bytes d.faults disk) (seen d.bytes d.faults disk') (sink output) (sink output')
-      → (HasFormatted status → IsSynced d.bytes d.moment d.may_hold_after disk')
+      → AnswersFormat d status frame disk disk' (sink output) (sink output')
+      → (HasFormatted status → IsSynced d.bytes d.tells_crashes d.moment d.may_hold_after disk')
       → (d.faults disk ≤ d.faults disk') × (k.faults output ≤ k.faults output') → (status ≡ TOO_SMALL → disk' ≡ disk)
-      → is_some (d.bytes disk') ≡ is_some (d.bytes disk) → d.size disk' ≡ d.size disk
+      → KeepsDisk d.bytes d.tells_crashes disk disk'
       → AnswersForm d m s k (Some (forms.Format frame)) disk files input input output output' (unrun status disk' files)
-  answers_format frame status disk' answers synced later small tells size = record {
+  answers_format frame status disk' answers synced later small keeps = record {
     usage = (λ is. absurd (format_not_usage status answers.known is), λ none. absurd (cc));
     usage_text = λ is. absurd (format_not_usage status answers.known is);
     usage_input = λ none. absurd (cc);
@@ -164,7 +164,7 @@ module _ {D M S K : Type 0} (d : DiskGhosts D) (m : MediaGhosts M) (s : SourceGh
     media = failed_refl (seen_media m.told m.faults m.short files);
     unread = λ _ _ _ _. refl;
     same = λ _ leaves. small (format_leaves status answers.known leaves);
-    told = (tells, size);
+    keeps = keeps;
   }
 
   -- to `replay`
@@ -192,7 +192,7 @@ module _ {D M S K : Type 0} (d : DiskGhosts D) (m : MediaGhosts M) (s : SourceGh
         media = e.media;
         unread = λ _ other _ _. absurd (other refl);
         same = λ opens. absurd (true≢false opens);
-        told = (e.keeps.tells, e.keeps.size);
+        keeps = e.keeps;
       }
 
   -- to `run`, with totals or without
@@ -223,14 +223,14 @@ module _ {D M S K : Type 0} (d : DiskGhosts D) (m : MediaGhosts M) (s : SourceGh
         media = e.media;
         unread = λ _ _ other _. absurd (true≢false other);
         same = λ opens. absurd (true≢false opens);
-        told = (e.keeps.tells, e.keeps.size);
+        keeps = e.keeps;
       }
 
   -- to `load`
   pub answers_load : (rounds : ℕ) (r : RunOutcome D M)
       → AnswersLoad rounds d m r.status disk r.disk files r.media r.journal (sink output) (sink output')
       → HaveFailed 0 0 (change_of m files r.media) → (k.faults output ≤ k.faults output') × (d.faults disk ≤ d.faults r.disk)
-      → KeepsDisk d.size d.bytes disk r.disk → AnswersForm d m s k (Some (forms.Load rounds)) disk files input input output output' r
+      → KeepsDisk d.bytes d.tells_crashes disk r.disk → AnswersForm d m s k (Some (forms.Load rounds)) disk files input input output output' r
   answers_load rounds r answers media later keeps =
       let never : r.status ≡ USAGE → ⊥ =
       load.never_usage d m rounds disk r.disk files r.media r.journal (sink output) (sink output') r.status answers.comes in
@@ -254,13 +254,13 @@ module _ {D M S K : Type 0} (d : DiskGhosts D) (m : MediaGhosts M) (s : SourceGh
         media = media;
         unread = λ _ _ _ other. absurd (true≢false other);
         same = λ opens. absurd (true≢false opens);
-        told = (keeps.tells, keeps.size);
+        keeps = keeps;
       }
 
   -- to `recover`
   pub answers_recover : (status : ℕ) (disk' : D)
       → AnswersRecover d status disk disk' (sink output) (sink output') → (k.faults output ≤ k.faults output') × (d.faults disk ≤ d.faults disk')
-      → KeepsDisk d.size d.bytes disk disk'
+      → KeepsDisk d.bytes d.tells_crashes disk disk'
       → AnswersForm d m s k (Some forms.Recover) disk files input input output output' (unrun status disk' files)
   answers_recover status disk' answers later keeps =
       let never : status ≡ USAGE → ⊥ = recovery.never_usage d status disk disk' (sink output) (sink output') answers.comes in
@@ -282,15 +282,14 @@ module _ {D M S K : Type 0} (d : DiskGhosts D) (m : MediaGhosts M) (s : SourceGh
         media = failed_refl (seen_media m.told m.faults m.short files);
         unread = λ _ _ _ _. refl;
         same = λ opens. absurd (true≢false opens);
-        told = (keeps.tells, keeps.size);
+        keeps = keeps;
       }
 
   -- to `inspect`
   pub answers_inspect : (status : ℕ) (disk' : D)
       → AnswersInspect d status disk disk' (sink output) (sink output') → (k.faults output ≤ k.faults output') × (d.faults disk ≤ d.faults disk')
-      → d.size disk' ≡ d.size disk
       → AnswersForm d m s k (Some forms.Inspect) disk files input input output output' (unrun status disk' files)
-  answers_inspect status disk' answers later size =
+  answers_inspect status disk' answers later =
       let never : status ≡ USAGE → ⊥ = inspection.never_usage d status disk disk' (sink output) (sink output') answers.comes in
       record {
         usage = (λ is. absurd (never is), λ none. absurd (cc));
@@ -310,5 +309,5 @@ module _ {D M S K : Type 0} (d : DiskGhosts D) (m : MediaGhosts M) (s : SourceGh
         media = failed_refl (seen_media m.told m.faults m.short files);
         unread = λ _ _ _ _. refl;
         same = λ opens. absurd (true≢false opens);
-        told = (ap is_some answers.reads.same, size);
+        keeps = record { size = ap (λ (x : List ℕ). length x) answers.reads.same; tells = answers.reads.tells };
       }

@@ -47,9 +47,9 @@ script_answers d m R t source source' sink sink' disk files script r read had (i
     (ran_comes d m R t source source' sink sink' disk r.disk files r.media r.journal was.failed was.starved was.printing r.status was.mid read
     was.later was.tells was.failed_is (record { script = script; input = had; ran = was.ran }))
 
--- the disk keeps its length, and tells its bytes as before, whether a script was run on it or not
+-- the disk keeps its length, and tells what a crash may leave as before, whether a script was run on it or not
 kept : {D M : Type 0} (d : DiskGhosts D) (m : MediaGhosts M) (R : HowRun) (disk : D) (files : M) (script : List ScriptStep) (sink sink' : Seen)
-    (r : RunOutcome D M) → RunsOrNot d m R disk files script sink sink' r → KeepsDisk d.size d.bytes disk r.disk
+    (r : RunOutcome D M) → RunsOrNot d m R disk files script sink sink' r → KeepsDisk d.bytes d.tells_crashes disk r.disk
 kept d m R disk files script sink sink' r (inl not) = not.not_run.keeps
 kept d m R disk files script sink sink' r (inr was) = was.ran.leaves.keeps
 

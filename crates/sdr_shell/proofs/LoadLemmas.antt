@@ -89,17 +89,17 @@ module _ {D M : Type 0} (d : DiskGhosts D) (m : MediaGhosts M) (rounds : ℕ) (d
   completes status no_output no_disk (LoadComesTo.starved is sound had wrote) = inr (inr (inr is))
   completes status no_output no_disk (LoadComesTo.shut why is was) = shut_status why status _ _ _ no_disk is was.not_run.why
 
-  takes_standing : (status : ℕ) (x heap : List ℕ) (w : World) (P : Pools) → d.bytes disk ≡ Some x → put_back_of x ≡ Some heap → StandsForWhole heap w P
+  takes_standing : (status : ℕ) (heap : List ℕ) (w : World) (P : Pools) → put_back_of (d.bytes disk) ≡ Some heap → StandsForWhole heap w P
       → ¬ Rose sink.faults sink'.faults → ¬ Rose (d.faults disk) (d.faults disk')
       → LoadComesTo d m rounds status disk disk' files files' journal sink sink' → (status ≡ DONE) ⊎ (status ≡ NO_MEMORY)
-  takes_standing status x heap w P has gives stands no_output no_disk (LoadComesTo.done is whole) = inl is
-  takes_standing status x heap w P has gives stands no_output no_disk (LoadComesTo.unwritten is rose whole) = absurd (no_output rose)
-  takes_standing status x heap w P has gives stands no_output no_disk (LoadComesTo.failed is broken starved had none) =
+  takes_standing status heap w P gives stands no_output no_disk (LoadComesTo.done is whole) = inl is
+  takes_standing status heap w P gives stands no_output no_disk (LoadComesTo.unwritten is rose whole) = absurd (no_output rose)
+  takes_standing status heap w P gives stands no_output no_disk (LoadComesTo.failed is broken starved had none) =
       absurd (no_disk (had.ran.leaves.cause broken))
-  takes_standing status x heap w P has gives stands no_output no_disk (LoadComesTo.unread is sound rose had none) = absurd (no_disk rose)
-  takes_standing status x heap w P has gives stands no_output no_disk (LoadComesTo.starved is sound had wrote) = inr is
-  takes_standing status x heap w P has gives stands no_output no_disk (LoadComesTo.shut why is was) =
-      (by_shut why status _ _ _ x has no_disk is was.not_run.why).taken heap w P gives stands
+  takes_standing status heap w P gives stands no_output no_disk (LoadComesTo.unread is sound rose had none) = absurd (no_disk rose)
+  takes_standing status heap w P gives stands no_output no_disk (LoadComesTo.starved is sound had wrote) = inr is
+  takes_standing status heap w P gives stands no_output no_disk (LoadComesTo.shut why is was) =
+      (by_shut why status _ _ (d.bytes disk) no_disk is was.not_run.why).taken heap w P gives stands
 
   -- no load answers that the words are no form
   pub never_usage : (status : ℕ) → LoadComesTo d m rounds status disk disk' files files' journal sink sink' → status ≡ USAGE → ⊥
@@ -119,7 +119,7 @@ module _ {D M : Type 0} (d : DiskGhosts D) (m : MediaGhosts M) (rounds : ℕ) (d
   load_answers status comes = record {
     comes = comes;
     complete = λ no_output no_disk. completes status no_output no_disk comes;
-    taken = λ x heap w P has gives stands no_output no_disk. takes_standing status x heap w P has gives stands no_output no_disk comes;
+    taken = λ heap w P gives stands no_output no_disk. takes_standing status heap w P gives stands no_output no_disk comes;
   }
 
 -- a load that was run, and what was told of it

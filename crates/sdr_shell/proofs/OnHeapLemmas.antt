@@ -207,20 +207,20 @@ module _ {D M : Type 0} (d : DiskGhosts D) (m : MediaGhosts M) (R : HowRun) (t :
   completes status bytes told ok no_input no_output no_disk (ComesTo.unheld is same wrote) = inr (inr (inr is))
 
   takes_standing : (status : ℕ) (bytes : List ℕ) → source.bytes ≡ Some bytes → IsOk (input_script bytes)
-      → (x heap : List ℕ) (w : World) (P : Pools) → d.bytes disk ≡ Some x → put_back_of x ≡ Some heap → StandsForWhole heap w P
+      → (heap : List ℕ) (w : World) (P : Pools) → put_back_of (d.bytes disk) ≡ Some heap → StandsForWhole heap w P
       → ¬ Rose source.faults source'.faults → ¬ Rose sink.faults sink'.faults → ¬ Rose (d.faults disk) (d.faults disk')
       → ComesTo d m R status source source' disk disk' files files' journal sink sink' → (status ≡ DONE) ⊎ (status ≡ NO_MEMORY)
-  takes_standing status bytes told ok x heap w P has gives stands no_input no_output no_disk (ComesTo.done is whole) = inl is
-  takes_standing status bytes told ok x heap w P has gives stands no_input no_output no_disk (ComesTo.unwritten is rose whole) = absurd (no_output rose)
-  takes_standing status bytes told ok x heap w P has gives stands no_input no_output no_disk (ComesTo.failed is ran) =
+  takes_standing status bytes told ok heap w P gives stands no_input no_output no_disk (ComesTo.done is whole) = inl is
+  takes_standing status bytes told ok heap w P gives stands no_input no_output no_disk (ComesTo.unwritten is rose whole) = absurd (no_output rose)
+  takes_standing status bytes told ok heap w P gives stands no_input no_output no_disk (ComesTo.failed is ran) =
       absurd (no_disk (ran.ran.ran.leaves.cause ran.failed))
-  takes_standing status bytes told ok x heap w P has gives stands no_input no_output no_disk (ComesTo.starved is ran) = inr is
-  takes_standing status bytes told ok x heap w P has gives stands no_input no_output no_disk (ComesTo.shut why is was) =
-      (by_shut why status _ _ _ x has no_disk is was.not_run.why).taken heap w P gives stands
-  takes_standing status bytes told ok x heap w P has gives stands no_input no_output no_disk (ComesTo.unread is rose same wrote) = absurd (no_input rose)
-  takes_standing status bytes told ok x heap w P has gives stands no_input no_output no_disk (ComesTo.refused is same line) =
+  takes_standing status bytes told ok heap w P gives stands no_input no_output no_disk (ComesTo.starved is ran) = inr is
+  takes_standing status bytes told ok heap w P gives stands no_input no_output no_disk (ComesTo.shut why is was) =
+      (by_shut why status _ _ _ no_disk is was.not_run.why).taken heap w P gives stands
+  takes_standing status bytes told ok heap w P gives stands no_input no_output no_disk (ComesTo.unread is rose same wrote) = absurd (no_input rose)
+  takes_standing status bytes told ok heap w P gives stands no_input no_output no_disk (ComesTo.refused is same line) =
       absurd (none_refused source.bytes bytes line.line told ok line.input)
-  takes_standing status bytes told ok x heap w P has gives stands no_input no_output no_disk (ComesTo.unheld is same wrote) = inr is
+  takes_standing status bytes told ok heap w P gives stands no_input no_output no_disk (ComesTo.unheld is same wrote) = inr is
 
   -- no such form answers that the words are no form
   pub never_usage : (status : ℕ) → ComesTo d m R status source source' disk disk' files files' journal sink sink' → status ≡ USAGE → ⊥
@@ -242,6 +242,6 @@ module _ {D M : Type 0} (d : DiskGhosts D) (m : MediaGhosts M) (R : HowRun) (t :
     comes = comes;
     exact = λ bytes told refused. refused_only status bytes told refused comes;
     complete = λ bytes told ok no_input no_output no_disk. completes status bytes told ok no_input no_output no_disk comes;
-    taken = λ bytes told ok x heap w P has gives stands no_input no_output no_disk.
-        takes_standing status bytes told ok x heap w P has gives stands no_input no_output no_disk comes;
+    taken = λ bytes told ok heap w P gives stands no_input no_output no_disk.
+        takes_standing status bytes told ok heap w P gives stands no_input no_output no_disk comes;
   }

@@ -3,10 +3,12 @@ use Rattle.std.proofs.Common.{◌≡◌, ◌⊎◌, ℕ, inl, inr, subst, sym, a
 use Rattle.std.specs.Io.KnownBytes.{Appends}
 use Rattle.sdr_base.specs.Causes.{Rose}
 use Rattle.sdr_base.specs.Written.{AppendsPart}
-use Rattle.sdr_disk.specs.Moments.{AtEach}
-use Rattle.sdr_disk.specs.Told.{IfTold}
+use Rattle.sdr_disk.specs.Moments.{AtEach, Reads}
+use Rattle.sdr_disk.specs.Tells.{IfTells}
 use Rattle.sdr_disk.specs.declared.disk.Disk.{Ghosts as DiskGhosts}
 use Rattle.sdr_image.specs.Opening.{MayBeOpened}
+use Rattle.sdr_log.proofs.LoggedLemmas.{closed_only}
+use Rattle.sdr_log.specs.Log.{first_gate}
 use Rattle.sdr_log.specs.Logged.{GivesSame}
 use Rattle.sdr_shell.proofs.ShutLemmas.{by_shut, by_world, shut_not_usage, shut_status}
 use Rattle.sdr_shell.specs.Answers.{Seen, Wrote}
@@ -17,65 +19,74 @@ use Rattle.sdr_station.specs.Grounded.{Grounded}
 use Rattle.sdr_station.specs.Opening.{IsOpen, first_on}
 use Rattle.sdr_station.specs.declared.error.OpenError.{OpenError}
 
+-- a disk on which no batch is open was only read
+abbrev ReadsAtRest : {D : Type 0} → DiskGhosts D → D → D → Type 0
+ReadsAtRest d disk disk' = first_gate (d.bytes disk) ≡ 0 → Reads d.bytes d.tells_crashes d.moment d.may_hold_after disk disk'
+
 -- a heap that was opened is put back
-pub opened_recovered : {D M : Type 0} (d : DiskGhosts D) (disk : D) (g : Grounded D M) → IsOpen d.bytes d.moment d.may_hold_after disk g
+pub opened_recovered : {D M : Type 0} (d : DiskGhosts D) (disk : D) (g : Grounded D M) → IsOpen d.bytes d.tells_crashes d.moment d.may_hold_after disk g
     → IsRecovered d disk g.heap.cells.disk g.restored
 opened_recovered d disk g o = record {
   frame = g.heap.cells.frame;
   back = o.back;
-  world = λ x told. record {
+  world = record {
     heap = g.heap.cells.begun;
-    gives = o.gives x told;
+    gives = o.gives;
     world = (first_on g).world;
     pools = o.memory.before.pools;
     stands = o.memory.before.stands;
   };
-  synced = λ may x told. ((o.stands may).rests o.sound x told).rest.only;
+  synced = λ may told.
+      let now = g.heap.cells.disk in
+      closed_only g.heap.cells.frame (d.bytes now) (d.may_hold_after now (d.moment now)) ((o.stands may).rests o.sound told).keeps.logged o.back.gate;
 }
 
 -- what a recovery came to gives its answers
 pub recover_answers : {D : Type 0} (d : DiskGhosts D) (status : ℕ) (disk disk' : D) (sink sink' : Seen) → RecoversTo d status disk disk' sink sink'
-    → IfTold (d.bytes disk) (λ x. MayBeOpened x (d.may_hold_after disk (d.moment disk)) → AtEach d.moment d.may_hold_after disk disk' (GivesSame x))
-    → AnswersRecover d status disk disk' sink sink'
-recover_answers d status disk disk' sink sink' comes moments = record {
+    → IfTells (d.tells_crashes disk) (MayBeOpened (d.bytes disk) (d.may_hold_after disk (d.moment disk))
+    → AtEach d.moment d.may_hold_after disk disk' (GivesSame (d.bytes disk)))
+    → ReadsAtRest d disk disk' → AnswersRecover d status disk disk' sink sink'
+recover_answers d status disk disk' sink sink' comes moments quiet = record {
   comes = comes;
+  quiet = quiet;
   any_moment = moments;
   complete = λ no_disk no_sink. elim comes [
     | RecoversTo.done count is so text ↦ inl is
     | RecoversTo.unwritten count is so rose text ↦ absurd (no_sink rose)
     | RecoversTo.shut why is so text ↦ shut_status why status _ _ _ no_disk is so.explained
   ];
-  exact = λ no_disk no_sink x told. elim comes [
-    | RecoversTo.done count is so text ↦ by_world status x is (so.world x told)
+  exact = λ no_disk no_sink. elim comes [
+    | RecoversTo.done count is so text ↦ by_world status (d.bytes disk) is so.world
     | RecoversTo.unwritten count is so rose text ↦ absurd (no_sink rose)
-    | RecoversTo.shut why is so text ↦ by_shut why status _ _ _ x told no_disk is so.explained
+    | RecoversTo.shut why is so text ↦ by_shut why status _ _ _ no_disk is so.explained
   ];
 }
 
 -- a heap that was opened answers so, where the line that tells of it was written, or the output failed
 pub opened_answers : {D M : Type 0} (d : DiskGhosts D) (status : ℕ) (disk disk' : D) (sink sink' : Seen) (g : Grounded D M) (count : ℕ)
-    → count ≡ g.restored → disk' ≡ g.heap.cells.disk → IsOpen d.bytes d.moment d.may_hold_after disk g
-    → IfTold (d.bytes disk) (λ x. MayBeOpened x (d.may_hold_after disk (d.moment disk))
-    → AtEach d.moment d.may_hold_after disk g.heap.cells.disk (GivesSame x))
-    → (status ≡ DONE) ⊎ (status ≡ OUTPUT_FAULT)
+    → count ≡ g.restored → disk' ≡ g.heap.cells.disk → IsOpen d.bytes d.tells_crashes d.moment d.may_hold_after disk g
+    → IfTells (d.tells_crashes disk) (MayBeOpened (d.bytes disk) (d.may_hold_after disk (d.moment disk))
+    → AtEach d.moment d.may_hold_after disk g.heap.cells.disk (GivesSame (d.bytes disk)))
+    → ReadsAtRest d disk g.heap.cells.disk → (status ≡ DONE) ⊎ (status ≡ OUTPUT_FAULT)
     → (status ≡ DONE → Appends sink.bytes sink'.bytes (line_recovered count))
     → (status ≡ OUTPUT_FAULT → AppendsPart sink.bytes sink'.bytes (line_recovered count))
     → (status ≡ OUTPUT_FAULT → Rose sink.faults sink'.faults) → AnswersRecover d status disk disk' sink sink'
-opened_answers {D} d status disk disk' sink sink' g count count_is same opened moments known text part rose =
+opened_answers {D} d status disk disk' sink sink' g count count_is same opened moments quiet known text part rose =
     let back = subst (λ (n : ℕ). IsRecovered d disk g.heap.cells.disk n) (sym count_is) (opened_recovered d disk g opened) in
     subst (λ (n : D). AnswersRecover d status disk n sink sink') (sym same)
     (recover_answers d status disk g.heap.cells.disk sink sink' (elim known [
       | inl is ↦ RecoversTo.done count is back (text is)
       | inr is ↦ RecoversTo.unwritten count is back (rose is) (part is)
-    ]) moments)
+    ]) moments quiet)
 
 -- one that wasn't opened answers so, where the last line tells why
 pub shut_answers : {D : Type 0} (d : DiskGhosts D) (status : ℕ) (disk disk' : D) (why : OpenError) (sink sink' : Seen) → status ≡ status_shut why
     → IsNotOpened d disk disk' why
-    → IfTold (d.bytes disk) (λ x. MayBeOpened x (d.may_hold_after disk (d.moment disk)) → AtEach d.moment d.may_hold_after disk disk' (GivesSame x))
-    → Wrote sink sink' (line_shut why) → AnswersRecover d status disk disk' sink sink'
-shut_answers d status disk disk' why sink sink' is shut moments written =
-    recover_answers d status disk disk' sink sink' (RecoversTo.shut why is shut written) moments
+    → IfTells (d.tells_crashes disk) (MayBeOpened (d.bytes disk) (d.may_hold_after disk (d.moment disk))
+    → AtEach d.moment d.may_hold_after disk disk' (GivesSame (d.bytes disk)))
+    → ReadsAtRest d disk disk' → Wrote sink sink' (line_shut why) → AnswersRecover d status disk disk' sink sink'
+shut_answers d status disk disk' why sink sink' is shut moments quiet written =
+    recover_answers d status disk disk' sink sink' (RecoversTo.shut why is shut written) moments quiet
 
 -- no recovery answers that the words are no form
 pub never_usage : {D : Type 0} (d : DiskGhosts D) (status : ℕ) (disk disk' : D) (sink sink' : Seen) → RecoversTo d status disk disk' sink sink'

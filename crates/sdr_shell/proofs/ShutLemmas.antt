@@ -28,35 +28,35 @@ by_world status x done g = record {
 }
 
 -- a heap that isn't opened is told so by its status, where the disk didn't fail
-pub by_shut : (why : OpenError) (status before now : ℕ) (told : Option (List ℕ)) (x : List ℕ) → told ≡ Some x
-    → ¬ Rose before now → status ≡ status_shut why → ExplainsOpen told before now why → IsByHeap status x
-by_shut errors.NotFormatted status before now told x is sound tells explained = record {
+pub by_shut : (why : OpenError) (status before now : ℕ) (x : List ℕ) → ¬ Rose before now → status ≡ status_shut why
+    → ExplainsOpen x before now why → IsByHeap status x
+by_shut errors.NotFormatted status before now x sound tells explained = record {
   none = λ _. inl tells;
-  damaged = λ heap gives nobody. absurd (no_heap (put_back_of x) heap (explained x is) gives);
-  taken = λ heap w P gives stands. absurd (no_heap (put_back_of x) heap (explained x is) gives);
+  damaged = λ heap gives nobody. absurd (no_heap (put_back_of x) heap explained gives);
+  taken = λ heap w P gives stands. absurd (no_heap (put_back_of x) heap explained gives);
 }
-by_shut (errors.Damaged place why) status before now told x is sound tells explained =
-    let damaged = explained x is in
+by_shut (errors.Damaged place why) status before now x sound tells explained =
+    let damaged = explained in
     record {
       none = λ none. absurd (no_heap (put_back_of x) damaged.heap none damaged.gives);
       damaged = λ heap gives nobody. inl tells;
       taken = λ heap w P gives stands. absurd (damaged.none w P
           (subst (λ (h : List ℕ). StandsForWhole h w P) (one_heap (put_back_of x) damaged.heap heap damaged.gives gives) stands));
     }
-by_shut errors.DiskFault status before now told x is sound tells explained = absurd (sound explained)
-by_shut errors.NoMemory status before now told x is sound tells explained = record {
+by_shut errors.DiskFault status before now x sound tells explained = absurd (sound explained)
+by_shut errors.NoMemory status before now x sound tells explained = record {
   none = λ _. inr tells;
   damaged = λ heap gives nobody. inr tells;
   taken = λ heap w P gives stands. inr tells;
 }
 
 -- and its status is one of three
-pub shut_status : (why : OpenError) (status before now : ℕ) (told : Option (List ℕ)) → ¬ Rose before now → status ≡ status_shut why
-    → ExplainsOpen told before now why → (status ≡ DONE) ⊎ (status ≡ NOT_FORMATTED) ⊎ (status ≡ DAMAGED) ⊎ (status ≡ NO_MEMORY)
-shut_status errors.NotFormatted status before now told sound tells explained = inr (inl tells)
-shut_status (errors.Damaged place why) status before now told sound tells explained = inr (inr (inl tells))
-shut_status errors.DiskFault status before now told sound tells explained = absurd (sound explained)
-shut_status errors.NoMemory status before now told sound tells explained = inr (inr (inr tells))
+pub shut_status : (why : OpenError) (status before now : ℕ) (x : List ℕ) → ¬ Rose before now → status ≡ status_shut why
+    → ExplainsOpen x before now why → (status ≡ DONE) ⊎ (status ≡ NOT_FORMATTED) ⊎ (status ≡ DAMAGED) ⊎ (status ≡ NO_MEMORY)
+shut_status errors.NotFormatted status before now x sound tells explained = inr (inl tells)
+shut_status (errors.Damaged place why) status before now x sound tells explained = inr (inr (inl tells))
+shut_status errors.DiskFault status before now x sound tells explained = absurd (sound explained)
+shut_status errors.NoMemory status before now x sound tells explained = inr (inr (inr tells))
 
 -- it is never that of words which are no form
 pub shut_not_usage : (why : OpenError) (status : ℕ) → status ≡ status_shut why → status ≡ USAGE → ⊥

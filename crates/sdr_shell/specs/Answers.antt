@@ -1,10 +1,11 @@
 -- What each form answers: by status, what was read, written and changed.
-use Rattle.std.specs.Prelude.{◌≡◌, ◌≢◌, ◌≤◌, ◌<◌, ◌↔◌, ◌⊎◌, ℕ, List, Option, Some, IsOk, IsErr, codes, ◌&&◌, MatchBool}
+use Rattle.std.specs.Prelude.{◌≡◌, ◌≢◌, ◌≤◌, ◌<◌, ◌↔◌, ◌⊎◌, ℕ, List, Option, Some, IsOk, IsErr, codes, ◌&&◌, MatchBool, length}
 use Rattle.std.specs.Io.KnownBytes.{Appends}
 use Rattle.sdr_base.specs.Causes.{Rose}
 use Rattle.sdr_base.specs.Media.{Told}
 use Rattle.sdr_base.specs.Written.{AppendsPart}
 use Rattle.sdr_base.specs.declared.media.Media.{Ghosts as MediaGhosts}
+use Rattle.sdr_disk.specs.declared.disk.Disk.{Ghosts as DiskGhosts}
 use Rattle.sdr_log.specs.Frame.{disk_bytes}
 use Rattle.sdr_log.specs.declared.frame.Frame.{Frame}
 use Rattle.sdr_shell.specs.Formatting.{line_formatted, line_too_small, IsFormatted, HasFormatted, IsFormatStatus}
@@ -79,15 +80,17 @@ pub record AnswersDry {M : Type 0} (m : MediaGhosts M) (status : ℕ) (source so
   pub complete : (bytes : List ℕ) → source.bytes ≡ Some bytes → IsOk (input_script bytes) → ¬ Rose source.faults source'.faults
       → ¬ Rose sink.faults sink'.faults → (status ≡ DONE) ⊎ (status ≡ NO_MEMORY)
 
--- What formatting a disk of this size answers. One that is long enough is formatted, unless there is a fault.
-pub record AnswersFormat (status : ℕ) (frame : Frame) (size : ℕ) (disk disk' sink sink' : Seen) : Type 0 where
+-- What formatting a disk answers. One that is long enough is formatted, unless there is a fault.
+pub record AnswersFormat {D : Type 0} (d : DiskGhosts D) (status : ℕ) (frame : Frame) (disk disk' : D) (sink sink' : Seen) : Type 0 where
   pub known : IsFormatStatus status
-  pub formatted : HasFormatted status → IsFormatted frame disk.bytes disk'.bytes
+  pub formatted : HasFormatted status → IsFormatted frame (d.bytes disk) (d.bytes disk')
   pub text : status ≡ DONE → Appends sink.bytes sink'.bytes (line_formatted frame)
   pub output : status ≡ OUTPUT_FAULT → Rose sink.faults sink'.faults
   pub part : status ≡ OUTPUT_FAULT → AppendsPart sink.bytes sink'.bytes (line_formatted frame)
-  pub small : (status ≡ TOO_SMALL) ↔ (size < disk_bytes frame)
-  pub small_text : status ≡ TOO_SMALL → Wrote sink sink' (line_too_small (disk_bytes frame) size)
-  pub fault : status ≡ DISK_FAULT → Rose disk.faults disk'.faults
+  pub small : (status ≡ TOO_SMALL) ↔ (length (d.bytes disk) < disk_bytes frame)
+  pub small_text : status ≡ TOO_SMALL → Wrote sink sink' (line_too_small (disk_bytes frame) (length (d.bytes disk)))
+  pub fault : status ≡ DISK_FAULT → Rose (d.faults disk) (d.faults disk')
   pub fault_text : status ≡ DISK_FAULT → Wrote sink sink' (codes "disk fault\n")
-  pub complete : disk_bytes frame ≤ size → ¬ Rose disk.faults disk'.faults → ¬ Rose sink.faults sink'.faults → status ≡ DONE
+  pub complete :
+      disk_bytes frame ≤ length (d.bytes disk) → ¬ Rose (d.faults disk) (d.faults disk') → ¬ Rose sink.faults sink'.faults
+      → status ≡ DONE

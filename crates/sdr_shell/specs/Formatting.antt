@@ -1,7 +1,5 @@
 -- What `format` answers: by status, what it leaves on the disk and what is written.
-use Rattle.std.specs.Prelude.{◌≡◌, ℕ, List, ◌++◌, ◌⊎◌, Some, codes, decimal}
-use Rattle.std.specs.declared.option.Option.{Option}
-use Rattle.sdr_disk.specs.Told.{IfTold}
+use Rattle.std.specs.Prelude.{◌≡◌, ℕ, List, ◌++◌, ◌⊎◌, codes, decimal}
 use Rattle.sdr_image.specs.Format.{formatted}
 use Rattle.sdr_log.specs.declared.frame.Frame.{Frame}
 use Rattle.sdr_shell.specs.declared.status.TheConstants.{DONE, USAGE, INPUT_FAULT, OUTPUT_FAULT, DISK_FAULT, REFUSED_LINE, NO_MEMORY, TOO_SMALL}
@@ -14,9 +12,9 @@ line_formatted frame = codes "formatted " ++ decimal frame.log_lines ++ codes " 
 abbrev pub line_too_small : ℕ → ℕ → List ℕ
 line_too_small need have = codes "too small " ++ decimal need ++ codes " " ++ decimal have ++ codes "\n"
 
--- the disk has the head and a fresh heap of these regions, and its other bytes as before, where it tells them
-abbrev pub IsFormatted : Frame → Option (List ℕ) → Option (List ℕ) → Type 0
-IsFormatted frame old new = IfTold old (λ x. new ≡ Some (formatted frame x))
+-- the disk has the head and a fresh heap of these regions, and its other bytes as before
+abbrev pub IsFormatted : Frame → List ℕ → List ℕ → Type 0
+IsFormatted frame old new = new ≡ formatted frame old
 
 -- the statuses with which formatting ends
 abbrev pub IsFormatStatus : ℕ → Type 0

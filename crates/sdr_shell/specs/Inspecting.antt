@@ -1,7 +1,6 @@
 -- What `inspect` answers: by status, what is written. The disk is only read.
 use Rattle.std.specs.Prelude.{◌≡◌, ℕ, List, ◌⊎◌, Some}
 use Rattle.std.specs.Io.KnownBytes.{Appends}
-use Rattle.std.specs.declared.option.Option.{Option}
 use Rattle.sdr_stands.specs.Standing.{StandsForWhole}
 use Rattle.sdr_base.specs.Causes.{Rose}
 use Rattle.sdr_base.specs.Pools.{Pools}
@@ -9,7 +8,6 @@ use Rattle.sdr_base.specs.Written.{AppendsPart}
 use Rattle.sdr_audit.specs.Census.{IsCensus}
 use Rattle.sdr_audit.specs.declared.census.Census.{Census}
 use Rattle.sdr_disk.specs.Moments.{Reads}
-use Rattle.sdr_disk.specs.Told.{IfTold}
 use Rattle.sdr_disk.specs.declared.disk.Disk.{Ghosts as DiskGhosts}
 use Rattle.sdr_log.specs.Log.{put_back_of}
 use Rattle.sdr_model.specs.World.{World}
@@ -29,11 +27,11 @@ pub record GivesThis (world : World) (census : Census) (x : List ℕ) : Type 0 w
   pub stands : StandsForWhole heap world pools
   pub counts : IsCensus heap census
 
--- The text of a world was written, as P tells: of the world for which the heap stands that the disk gives, where it tells its bytes.
-pub record HasShown (told : Option (List ℕ)) (P : List ℕ → Type 0) : Type 0 where
+-- The text of a world was written, as P tells: of the world for which the heap stands that a disk of these bytes gives.
+pub record HasShown (x : List ℕ) (P : List ℕ → Type 0) : Type 0 where
   pub world : World
   pub census : Census
-  pub given : IfTold told (GivesThis world census)
+  pub given : GivesThis world census x
   pub text : P (world_text world census)
 
 -- what an inspection came to, which its status tells
@@ -50,9 +48,9 @@ pub data InspectsTo {D : Type 0} (d : DiskGhosts D) (status : ℕ) (disk disk' :
 -- What `inspect` answers. Whatever its status, the disk was only read.
 pub record AnswersInspect {D : Type 0} (d : DiskGhosts D) (status : ℕ) (disk disk' : D) (sink sink' : Seen) : Type 0 where
   pub comes : InspectsTo d status disk disk' sink sink'
-  pub reads : Reads d.bytes d.moment d.may_hold_after disk disk'
-  -- unless there is a fault, the status is by the heap that the disk gives, where it tells its bytes
+  pub reads : Reads d.bytes d.tells_crashes d.moment d.may_hold_after disk disk'
+  -- unless there is a fault, the status is by the heap that the disk gives
   pub complete :
       ¬ Rose (d.faults disk) (d.faults disk') → ¬ Rose sink.faults sink'.faults
       → (status ≡ DONE) ⊎ (status ≡ NOT_FORMATTED) ⊎ (status ≡ DAMAGED) ⊎ (status ≡ NO_MEMORY)
-  pub exact : ¬ Rose (d.faults disk) (d.faults disk') → ¬ Rose sink.faults sink'.faults → IfTold (d.bytes disk) (IsByHeap status)
+  pub exact : ¬ Rose (d.faults disk) (d.faults disk') → ¬ Rose sink.faults sink'.faults → IsByHeap status (d.bytes disk)

@@ -89,6 +89,6 @@ pub record AnswersLoad {D M : Type 0} (rounds : ℕ) (d : DiskGhosts D) (m : Med
       → (status ≡ DONE) ⊎ (status ≡ NOT_FORMATTED) ⊎ (status ≡ DAMAGED) ⊎ (status ≡ NO_MEMORY)
   -- each heap is taken for which a world stands
   pub taken :
-      (x heap : List ℕ) (w : World) (P : Pools) → d.bytes disk ≡ Some x → put_back_of x ≡ Some heap → StandsForWhole heap w P
+      (heap : List ℕ) (w : World) (P : Pools) → put_back_of (d.bytes disk) ≡ Some heap → StandsForWhole heap w P
       → ¬ Rose sink.faults sink'.faults → ¬ Rose (d.faults disk) (d.faults disk')
       → (status ≡ DONE) ⊎ (status ≡ NO_MEMORY)

@@ -113,6 +113,6 @@ pub record AnswersOnHeap {D M : Type 0} (d : DiskGhosts D) (m : MediaGhosts M) (
   -- each heap is taken for which a world stands
   pub taken :
       (bytes : List ℕ) → source.bytes ≡ Some bytes → IsOk (input_script bytes)
-      → (x heap : List ℕ) (w : World) (P : Pools) → d.bytes disk ≡ Some x → put_back_of x ≡ Some heap → StandsForWhole heap w P
+      → (heap : List ℕ) (w : World) (P : Pools) → put_back_of (d.bytes disk) ≡ Some heap → StandsForWhole heap w P
       → ¬ Rose source.faults source'.faults → ¬ Rose sink.faults sink'.faults → ¬ Rose (d.faults disk) (d.faults disk')
       → (status ≡ DONE) ⊎ (status ≡ NO_MEMORY)

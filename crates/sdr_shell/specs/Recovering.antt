@@ -5,13 +5,13 @@ use Rattle.sdr_stands.specs.Standing.{StandsForWhole}
 use Rattle.sdr_base.specs.Causes.{Rose}
 use Rattle.sdr_base.specs.Pools.{Pools}
 use Rattle.sdr_base.specs.Written.{AppendsPart}
-use Rattle.sdr_disk.specs.Moments.{AtEach}
+use Rattle.sdr_disk.specs.Moments.{AtEach, Reads}
 use Rattle.sdr_disk.specs.Pending.{IsSynced}
-use Rattle.sdr_disk.specs.Told.{Both, IfTold}
+use Rattle.sdr_disk.specs.Tells.{IfTells}
 use Rattle.sdr_disk.specs.declared.disk.Disk.{Ghosts as DiskGhosts}
 use Rattle.sdr_image.specs.Opening.{MayBeOpened}
 use Rattle.sdr_log.specs.Calls.{KeepsRest, PutsBack}
-use Rattle.sdr_log.specs.Log.{put_back_of}
+use Rattle.sdr_log.specs.Log.{first_gate, put_back_of}
 use Rattle.sdr_log.specs.Logged.{GivesSame}
 use Rattle.sdr_log.specs.declared.frame.Frame.{Frame}
 use Rattle.sdr_model.specs.World.{World}
@@ -48,10 +48,10 @@ pub record IsByHeap (status : ℕ) (x : List ℕ) : Type 0 where
 -- changed. A world stands for it. Nothing is pending, where nothing was, or a recovery was stopped.
 pub record IsRecovered {D : Type 0} (d : DiskGhosts D) (disk disk' : D) (count : ℕ) : Type 0 where
   pub frame : Frame
-  pub back : Both (d.bytes disk) (d.bytes disk') (PutsBack frame count)
-  pub world : IfTold (d.bytes disk) GivesWorld
-  pub synced : IfTold (d.bytes disk) (λ x. MayBeOpened x (d.may_hold_after disk (d.moment disk)))
-      → IsSynced d.bytes d.moment d.may_hold_after disk'
+  pub back : PutsBack frame count (d.bytes disk) (d.bytes disk')
+  pub world : GivesWorld (d.bytes disk)
+  pub synced : IfTells (d.tells_crashes disk) (MayBeOpened (d.bytes disk) (d.may_hold_after disk (d.moment disk)))
+      → IsSynced d.bytes d.tells_crashes d.moment d.may_hold_after disk'
 
 -- The heap of the disk isn't opened, for this reason. The disk's bytes are the same, where it gives no heap; and the open batches are
 -- put back and closed, where no world stands for it. No byte outside the regions of which its head tells has changed. Where it might be
@@ -60,8 +60,8 @@ pub record IsRecovered {D : Type 0} (d : DiskGhosts D) (disk disk' : D) (count :
 pub record IsNotOpened {D : Type 0} (d : DiskGhosts D) (disk disk' : D) (why : OpenError) : Type 0 where
   pub explained : ExplainsOpen (d.bytes disk) (d.faults disk) (d.faults disk') why
   pub bytes : LeavesBytes (d.bytes disk) (d.bytes disk') why
-  pub outside : Both (d.bytes disk) (d.bytes disk') KeepsRest
-  pub again : MayBeAgain d.bytes d.moment d.may_hold_after disk disk' why
+  pub outside : KeepsRest (d.bytes disk) (d.bytes disk')
+  pub again : MayBeAgain d.bytes d.tells_crashes d.moment d.may_hold_after disk disk' why
 
 -- what a recovery came to, which its status tells
 pub data RecoversTo {D : Type 0} (d : DiskGhosts D) (status : ℕ) (disk disk' : D) (sink sink' : Seen) : Type 0 where
@@ -75,14 +75,15 @@ pub data RecoversTo {D : Type 0} (d : DiskGhosts D) (status : ℕ) (disk disk' :
   shut : (why : OpenError) → status ≡ status_shut why → IsNotOpened d disk disk' why → Wrote sink sink' (line_shut why)
       → RecoversTo d status disk disk' sink sink'
 
--- What `recover` answers. Whatever its status, at each moment of the call a crash leaves what gives the same heap as before, or none as
--- before, where nothing was pending on the disk that was handed in, or a recovery of it was stopped.
+-- What `recover` answers. Whatever its status, a disk on which no batch is open was only read. At each moment of the call a crash leaves what
+-- gives the same heap as before, or none as before, where nothing was pending on the disk that was handed in, or a recovery of it was stopped.
 pub record AnswersRecover {D : Type 0} (d : DiskGhosts D) (status : ℕ) (disk disk' : D) (sink sink' : Seen) : Type 0 where
   pub comes : RecoversTo d status disk disk' sink sink'
-  pub any_moment : IfTold (d.bytes disk) (λ x.
-      MayBeOpened x (d.may_hold_after disk (d.moment disk)) → AtEach d.moment d.may_hold_after disk disk' (GivesSame x))
-  -- unless there is a fault, the status is by the heap that the disk gives, where it tells its bytes
+  pub quiet : first_gate (d.bytes disk) ≡ 0 → Reads d.bytes d.tells_crashes d.moment d.may_hold_after disk disk'
+  pub any_moment : IfTells (d.tells_crashes disk) (MayBeOpened (d.bytes disk) (d.may_hold_after disk (d.moment disk))
+      → AtEach d.moment d.may_hold_after disk disk' (GivesSame (d.bytes disk)))
+  -- unless there is a fault, the status is by the heap that the disk gives
   pub complete :
       ¬ Rose (d.faults disk) (d.faults disk') → ¬ Rose sink.faults sink'.faults
       → (status ≡ DONE) ⊎ (status ≡ NOT_FORMATTED) ⊎ (status ≡ DAMAGED) ⊎ (status ≡ NO_MEMORY)
-  pub exact : ¬ Rose (d.faults disk) (d.faults disk') → ¬ Rose sink.faults sink'.faults → IfTold (d.bytes disk) (IsByHeap status)
+  pub exact : ¬ Rose (d.faults disk) (d.faults disk') → ¬ Rose sink.faults sink'.faults → IsByHeap status (d.bytes disk)

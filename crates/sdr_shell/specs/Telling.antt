@@ -53,7 +53,7 @@ abbrev pub RunsOrNot : {D M : Type 0} → DiskGhosts D → MediaGhosts M → How
 RunsOrNot d m R disk files script sink sink' r = WasNotRun d disk files sink sink' r ⊎ WasRun d m R disk files script sink sink' r
 
 -- What is answered to an input whose script is run so on the heap of a disk: by what it came to. No count of faults falls, the input is read so
--- often at most, the disk keeps its length and tells its bytes as before, and media tell the same.
+-- often at most, the disk keeps its length and tells what a crash may leave as before, and media tell the same.
 pub record AnswersInput {D M S K : Type 0} (d : DiskGhosts D) (m : MediaGhosts M) (s : SourceGhosts S) (k : SinkGhosts K) (R : HowRun)
     (disk : D) (files : M) (input input' : S) (output output' : K) (result : RunOutcome D M) : Type 0 where
   pub answers : AnswersOnHeap d m R result.status (seen s.left s.faults input) (seen s.left s.faults input') disk result.disk files result.media
@@ -61,5 +61,5 @@ pub record AnswersInput {D M S K : Type 0} (d : DiskGhosts D) (m : MediaGhosts M
   pub later : (s.faults input ≤ s.faults input') × (k.faults output ≤ k.faults output') × (d.faults disk ≤ d.faults result.disk)
   pub reads : s.reads input' ≤ s.reads input + 1048577
   pub each : IfSome (s.left input) (λ bytes. s.reads input' ≤ s.reads input + length bytes + 1)
-  pub keeps : KeepsDisk d.size d.bytes disk result.disk
+  pub keeps : KeepsDisk d.bytes d.tells_crashes disk result.disk
   pub media : HaveFailed 0 0 (change_of m files result.media)

@@ -1,5 +1,5 @@
 -- What the public calls answer to the words of a command line.
-use Rattle.std.specs.Prelude.{◌≡◌, ◌≢◌, ◌≤◌, ◌+◌, ◌↔◌, ℕ, Bool, IfSome, List, [], Option, None, Some, codes, false, is_some, length}
+use Rattle.std.specs.Prelude.{◌≡◌, ◌≢◌, ◌≤◌, ◌+◌, ◌↔◌, ℕ, Bool, IfSome, List, [], Option, None, Some, codes, false, length}
 use Rattle.std.specs.declared.alloc.Global.{Global}
 use Rattle.std.specs.declared.rc.RcStr.{RcStr}
 use Rattle.sdr_base.specs.declared.media.Media.{Ghosts as MediaGhosts}
@@ -7,6 +7,7 @@ use Rattle.sdr_base.specs.declared.sink.Sink.{Ghosts as SinkGhosts}
 use Rattle.sdr_base.specs.declared.source.Source.{Ghosts as SourceGhosts}
 use Rattle.sdr_disk.specs.Pending.{IsSynced}
 use Rattle.sdr_disk.specs.declared.disk.Disk.{Ghosts as DiskGhosts}
+use Rattle.sdr_log.specs.Calls.{KeepsDisk}
 use Rattle.sdr_shell.specs.Answers.{AnswersDry, AnswersFormat, Wrote, seen}
 use Rattle.sdr_shell.specs.Form.{OnFormat, form_of, is_live, is_load, live_form, opens_heap, still_form}
 use Rattle.sdr_shell.specs.Inspecting.{AnswersInspect}
@@ -38,10 +39,9 @@ pub record AnswersForm {D M S K : Type 0} (d : DiskGhosts D) (m : MediaGhosts M)
   -- `format` reads no input, and answers by what it leaves on the disk
   pub format :
       OnFormat form (λ frame. (input' ≡ input)
-      × AnswersFormat result.status frame (d.size disk) (seen d.bytes d.faults disk) (seen d.bytes d.faults result.disk)
-      (seen k.taken k.faults output) (seen k.taken k.faults output'))
+      × AnswersFormat d result.status frame disk result.disk (seen k.taken k.faults output) (seen k.taken k.faults output'))
   -- on a disk that was formatted nothing is left to be synced
-  pub synced : OnFormat form (λ _. HasFormatted result.status → IsSynced d.bytes d.moment d.may_hold_after result.disk)
+  pub synced : OnFormat form (λ _. HasFormatted result.status → IsSynced d.bytes d.tells_crashes d.moment d.may_hold_after result.disk)
   -- no count of faults falls, and the input is read so often at most
   pub counts :
       (s.faults input ≤ s.faults input') × (k.faults output ≤ k.faults output') × (d.faults disk ≤ d.faults result.disk)
@@ -79,8 +79,8 @@ pub record AnswersForm {D M S K : Type 0} (d : DiskGhosts D) (m : MediaGhosts M)
   pub unread : (form ≢ Some forms.Dry) → (form ≢ Some forms.Replay) → is_live form ≡ false → is_load form ≡ false → result.media ≡ files
   -- by these statuses the disk is as it was, where the words ask for no heap to be opened
   pub same : opens_heap form ≡ false → LeavesDisk result.status → result.disk ≡ disk
-  -- the disk tells its bytes as before, and keeps its size
-  pub told : (is_some (d.bytes result.disk) ≡ is_some (d.bytes disk)) × (d.size result.disk ≡ d.size disk)
+  -- the disk is as long, and tells what a crash may leave if it did
+  pub keeps : KeepsDisk d.bytes d.tells_crashes disk result.disk
 
 -- What `top` answers to the words: by the form that they are.
 abbrev pub AnswersWords : {D M S K : Type 0} → DiskGhosts D → MediaGhosts M → SourceGhosts S → SinkGhosts K → List (RcStr Global) → D → M → S → S → K → K

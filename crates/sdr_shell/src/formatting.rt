@@ -1,10 +1,11 @@
 // An empty heap for a disk, and what is said of it.
-ghost use Rattle.std.specs.Prelude.{◌≡◌, ◌≤◌, ◌<◌, ◌↔◌, ◌⊎◌, codes, is_some};
+ghost use Rattle.std.specs.Prelude.{◌≡◌, ◌≤◌, ◌<◌, ◌↔◌, codes, length};
 ghost use Rattle.std.specs.Io.KnownBytes.{Appends};
 ghost use Rattle.sdr_base.specs.Causes.{Rose};
 ghost use Rattle.sdr_base.specs.Written.{AppendsPart};
 ghost use Rattle.sdr_disk.specs.Pending.{IsSynced};
 ghost use Rattle.sdr_image.specs.declared.error.FormatError.TheVariants as errors;
+ghost use Rattle.sdr_log.specs.Calls.{KeepsDisk};
 ghost use Rattle.sdr_log.specs.Frame.{IsInLimits, disk_bytes};
 ghost use Rattle.sdr_shell.specs.Formatting.{line_formatted, line_too_small, IsFormatted, HasFormatted, IsFormatStatus};
 ghost use Rattle.sdr_shell.specs.Still.{WritesOut};
@@ -63,7 +64,8 @@ pub fn format_disk<D: Disk, K: Sink>(frame: Frame, disk: &mut D, output: &mut K)
     // done
     ensures formatted { HasFormatted result →
         IsFormatted frame (D.bytes disk.old) (D.bytes disk.new) }
-    ensures synced { HasFormatted result → IsSynced D.bytes D.moment D.may_hold_after disk.new }
+    ensures synced { HasFormatted result
+        → IsSynced D.bytes D.tells_crashes D.moment D.may_hold_after disk.new }
     ensures text { result ≡ DONE →
         Appends (K.taken output.old) (K.taken output.new) (line_formatted frame) }
     ensures part { result ≡ OUTPUT_FAULT →
@@ -71,10 +73,10 @@ pub fn format_disk<D: Disk, K: Sink>(frame: Frame, disk: &mut D, output: &mut K)
     ensures output { result ≡ OUTPUT_FAULT → Rose (K.faults output.old) (K.faults output.new) }
 
     // not done
-    ensures small { (result ≡ TOO_SMALL) ↔ (D.size disk.old < disk_bytes frame) }
-    ensures small_text { result ≡ TOO_SMALL →
-        WritesOut (K.taken output.old) (K.taken output.new) (K.faults output.old) (K.faults output.new)
-        (line_too_small (disk_bytes frame) (D.size disk.old)) }
+    ensures small { (result ≡ TOO_SMALL) ↔ (length (D.bytes disk.old) < disk_bytes frame) }
+    ensures small_text { result ≡ TOO_SMALL
+        → WritesOut (K.taken output.old) (K.taken output.new) (K.faults output.old) (K.faults
+        output.new) (line_too_small (disk_bytes frame) (length (D.bytes disk.old))) }
     ensures fault { result ≡ DISK_FAULT → Rose (D.faults disk.old) (D.faults disk.new) }
     ensures fault_text { result ≡ DISK_FAULT →
         WritesOut (K.taken output.old) (K.taken output.new) (K.faults output.old) (K.faults output.new)
@@ -82,8 +84,7 @@ pub fn format_disk<D: Disk, K: Sink>(frame: Frame, disk: &mut D, output: &mut K)
 
     // what stays
     ensures same { result ≡ TOO_SMALL → disk.new ≡ disk.old }
-    ensures tells { is_some (D.bytes disk.new) ≡ is_some (D.bytes disk.old) }
-    ensures size { D.size disk.new ≡ D.size disk.old }
+    ensures keeps { KeepsDisk D.bytes D.tells_crashes disk.old disk.new }
 {
     match format(disk, frame) {
         Ok(()) => tell_formatted(output, frame),

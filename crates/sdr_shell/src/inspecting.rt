@@ -4,7 +4,6 @@ ghost use Rattle.std.specs.Io.KnownBytes.{Appends};
 ghost use Rattle.sdr_base.specs.Causes.{Rose};
 ghost use Rattle.sdr_base.specs.Written.{AppendsPart};
 ghost use Rattle.sdr_disk.specs.Moments.{Reads};
-ghost use Rattle.sdr_disk.specs.Told.{IfTold};
 ghost use Rattle.sdr_shell.specs.Answers.{Wrote, seen};
 ghost use Rattle.sdr_shell.specs.Inspecting.{AnswersInspect, GivesThis};
 ghost use Rattle.sdr_shell.specs.Shutting.{line_shut};
@@ -47,14 +46,12 @@ fn why_unsound(error: AuditError) -> OpenError
 
 // The world that stands for the heap which the disk gives, and a census of its blocks.
 fn survey_disk<D: Disk>(alloc: Global, disk: &mut D) -> Result<Survey, OpenError>
-    ensures given { IfOk result (λ s.
-        IfTold (D.bytes disk.old) (GivesThis s.world s.census)) }
+    ensures given { IfOk result (λ s. GivesThis s.world s.census (D.bytes disk.old)) }
     ensures small { IfOk result (λ s. HasSmallSums s.world) }
     ensures why { IfErr result (ExplainsOpen (D.bytes disk.old)
         (D.faults disk.old) (D.faults disk.new)) }
     ensures later { D.faults disk.old ≤ D.faults disk.new }
-    ensures size { D.size disk.new ≡ D.size disk.old }
-    ensures reads { Reads D.bytes D.moment D.may_hold_after disk.old disk.new }
+    ensures reads { Reads D.bytes D.tells_crashes D.moment D.may_hold_after disk.old disk.new }
 {
     let mut still = match peek(alloc, disk) {
         Ok(still) => still,
@@ -94,7 +91,6 @@ pub fn inspect_disk<D: Disk, K: Sink>(alloc: Global, disk: &mut D, output: &mut 
         (seen K.taken K.faults output.old) (seen K.taken K.faults output.new) }
     ensures later { (K.faults output.old ≤ K.faults output.new)
         × (D.faults disk.old ≤ D.faults disk.new) }
-    ensures size { D.size disk.new ≡ D.size disk.old }
 {
     match survey_disk(alloc, disk) {
         Ok(survey) => show(alloc, &survey, output),

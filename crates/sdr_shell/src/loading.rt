@@ -49,7 +49,7 @@ pub fn load_disk<D: Disk, M: Media, K: Sink>(
     ensures media { HaveFailed 0 0 (media_change M.told M.faults M.short media result.media) }
     ensures later { (K.faults output.old ≤ K.faults output.new)
         × (D.faults disk ≤ D.faults result.disk) }
-    ensures keeps { KeepsDisk D.size D.bytes disk result.disk }
+    ensures keeps { KeepsDisk D.bytes D.tells_crashes disk result.disk }
 {
     match load(alloc, rounds, disk, media) {
         Ok(loaded) => {

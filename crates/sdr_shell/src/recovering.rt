@@ -48,7 +48,7 @@ pub fn recover_disk<D: Disk, K: Sink>(alloc: Global, disk: D, output: &mut K) ->
         (seen K.taken K.faults output.old) (seen K.taken K.faults output.new) }
     ensures later { (K.faults output.old ≤ K.faults output.new)
         × (D.faults disk ≤ D.faults result.disk) }
-    ensures keeps { KeepsDisk D.size D.bytes disk result.disk }
+    ensures keeps { KeepsDisk D.bytes D.tells_crashes disk result.disk }
 {
     match HeapGround::open(alloc, disk, NoMedia::new(), Notice::new(Compares)) {
         Ok(ground) => {

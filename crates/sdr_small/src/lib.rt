@@ -13,7 +13,8 @@
 //! cancelled.
 //!
 //! Proved: `take` and `give` follow the rules of the pool exactly (`taken`, `given`). A take touches at most 6
-//! lines, a give 20 (`room`). Both are refused only where the log has no room (`refused`).
+//! lines, a give 20 (`room`), and a take that gives no block none (`none`). Both are refused only where the log
+//! has no room (`refused`).
 //!
 //! Only tested: that calls succeed, with the addresses of the rules (`tests/cases`).
 #![tactic(auto)]

@@ -57,7 +57,7 @@ same_words : (lines : ℕ) → roots_by (fresh_roots lines) ≡ roots_of (fresh_
 same_words lines =
     ap
     (λ (occupied : Acct → Space → ℕ). roots_by
-    (root_words 0 0 (account_with (32 * lines) (occupied accts.Inbound))
+    (root_words 0 0 0 (account_with (32 * lines) (occupied accts.Inbound))
     (account_with (32 * lines) (occupied accts.Outbound)) 1))
     (λ i acct space. sym (nothing_occupied (32 * lines) acct space) i)
 

@@ -91,7 +91,7 @@ abbrev pub roots_where : World → (Acct → Space → ℕ) → ℕ → ℕ
 roots_where w occupied =
     let names = map name_row w.names in
     roots_by
-    (root_words (first_of name_addr 0 names) (last_of name_addr 0 names)
+    (root_words 0 (first_of name_addr 0 names) (last_of name_addr 0 names)
     (account_where w occupied accts.Inbound) (account_where w occupied accts.Outbound) w.accounts.next)
 
 -- the control words of the world stay as they were

@@ -1,6 +1,6 @@
 -- A transaction of a heap on an image that is kept or put back.
-use Rattle.std.proofs.Common.{◌≡◌, ◌∙◌, ◌≤◌, ◌⊎◌, ℕ, List, [], false, true, true≢false, Bool, Option, None, Some, Err, refl, sym, ap, subst, inl, inr, arith, length}
-use Rattle.std.specs.Prelude.{replicate, is_some}
+use Rattle.std.proofs.Common.{◌≡◌, ◌∙◌, ◌≤◌, ◌⊎◌, ℕ, List, [], false, true, true≢false, Bool, Err, refl, sym, ap, subst, inl, inr, arith, length}
+use Rattle.std.specs.Prelude.{replicate}
 use Rattle.sdr_stands.proofs.RestLemmas.{begins, ends}
 use Rattle.sdr_base.specs.KeptHeap.{block_in}
 use Rattle.sdr_base.specs.Causes.{Rose}
@@ -10,10 +10,9 @@ use Rattle.sdr_base.specs.declared.media.Media.{Ghosts as MediaGhosts}
 use Rattle.sdr_base.specs.declared.stop.Stop.{Stop}
 use Rattle.sdr_base.specs.declared.stop.Stop.TheVariants as stops
 use Rattle.sdr_disk.specs.Moments.{AtEach}
-use Rattle.sdr_disk.specs.Told.{IfTold}
+use Rattle.sdr_disk.specs.Tells.{IfTells}
 use Rattle.sdr_heap.proofs.FewLemmas.{block_in-few}
 use Rattle.sdr_heap.specs.Noted.{Held, marked_in}
-use Rattle.sdr_image.specs.Changed.{GivesEither}
 use Rattle.sdr_image.specs.Opened.{Opened, Rests, transaction_of}
 use Rattle.sdr_machine.specs.Crash.{LeavesBefore, LeavesEither, LeavesOr}
 use Rattle.sdr_machine.specs.Demand.{most_lines}
@@ -22,6 +21,7 @@ use Rattle.sdr_machine.specs.Serving.{Brings, Commits, KeepsGround, MeetsFault, 
 use Rattle.sdr_machine.specs.Standing.{GroundState}
 use Rattle.sdr_log.specs.Frame.{room_of}
 use Rattle.sdr_log.specs.Logged.{GivesHeap}
+use Rattle.sdr_log.specs.Spilled.{GivesEither}
 use Rattle.sdr_station.specs.Closing as closing
 use Rattle.sdr_station.specs.Grounded.{Grounded, IsGround, OpensAs, StandsAtRest, StandsForBoth, StandsInMemory, StandsWithin, heap_in}
 use Rattle.sdr_station.proofs.GroundLemmas.{ground_brought, heap_ground, keeps_later, unmarked}
@@ -105,6 +105,7 @@ memory_kept old disk now going = record {
           stood = stood_of within;
           now = λ _. within;
           idle = λ _. refl;
+          untouched = λ _. refl;
           moves = at.moves;
         };
         tells = (refl, refl);
@@ -131,6 +132,7 @@ memory_back old disk now = record {
           stood = stood_of within;
           now = λ _. within;
           idle = λ _. refl;
+          untouched = λ _. refl;
           moves = at.moves;
         };
         tells = (refl, refl);
@@ -138,34 +140,27 @@ memory_back old disk now = record {
 }
 
 -- what a close that was answered leaves of a ground
-pub record ClosesTo {D M : Type 0} (told : D → Option (List ℕ)) (moment faults : D → ℕ) (may_hold_after : D → ℕ → List ℕ → Type 0)
+pub record ClosesTo {D M : Type 0} (bytes : D → List ℕ) (tells : D → Bool) (moment faults : D → ℕ) (may_hold_after : D → ℕ → List ℕ → Type 0)
     (media : MediaGhosts M) (may_keep : Bool) (P : GroundState → GroundState → Type 0) (old new : Grounded D M) : Type
     0 where
   pub memory : Brings StandsInMemory old new P
-  pub brings : Brings (λ g v. StandsForBoth told moment may_hold_after g v) old new P
+  pub brings : Brings (λ g v. StandsForBoth bytes tells moment may_hold_after g v) old new P
   pub sound : new.heap.cells.failed ≡ false
   pub time : old.moment ≤ new.moment
-  pub keeps : KeepsGround (heap_ground told moment faults may_hold_after media) false old new
-  pub any_moment : LeavesOr may_keep (heap_ground told moment faults may_hold_after media) old new
+  pub keeps : KeepsGround (heap_ground bytes tells moment faults may_hold_after media) false old new
+  pub any_moment : LeavesOr may_keep (heap_ground bytes tells moment faults may_hold_after media) old new
   pub is_ground : IsGround moment new
 
-some_of : (o : Option (List ℕ)) → is_some o ≡ true → (x : List ℕ) × (o ≡ Some x)
-some_of None is = absurd (true≢false (sym is))
-some_of (Some x) is = (x, refl)
-
 -- A transaction closes on a disk, at each moment of which a crash leaves what P tells of.
-module _ {D M : Type 0} (told : D → Option (List ℕ)) (moment : D → ℕ) (faults : D → ℕ) (may_hold_after : D → ℕ → List ℕ → Type 0)
+module _ {D M : Type 0} (bytes : D → List ℕ) (tells : D → Bool) (moment : D → ℕ) (faults : D → ℕ) (may_hold_after : D → ℕ → List ℕ → Type 0)
     (media : MediaGhosts M) (old : Grounded D M) (disk : D) (now : ℕ) (is : now ≡ moment disk) (since : old.moment ≤ now) (sound : old.heap.cells.failed ≡ false)
-    (tells : is_some (told disk) ≡ is_some (told old.heap.cells.disk)) (P : List ℕ → Type 0)
-    (each : Rests told moment may_hold_after old.heap.cells
-    → IfTold (told old.heap.cells.disk) (λ _. AtEach moment may_hold_after old.heap.cells.disk disk P)) where
-  told_old : (y : List ℕ) → told disk ≡ Some y → (x : List ℕ) × (told old.heap.cells.disk ≡ Some x)
-  told_old y t = some_of (told old.heap.cells.disk) (sym tells ∙ ap is_some t)
-
+    (same : tells disk ≡ tells old.heap.cells.disk) (P : List ℕ → Type 0)
+    (each : Rests bytes tells moment may_hold_after old.heap.cells
+    → IfTells (tells old.heap.cells.disk) (AtEach moment may_hold_after old.heap.cells.disk disk P)) where
   -- what closes in memory closes on a disk that rests
   pub brings_closed : {P : GroundState → GroundState → Type 0} (new : Grounded D M) → new.heap.cells.disk ≡ disk → new.moment ≡ now
-      → (Rests told moment may_hold_after old.heap.cells → Rests told moment may_hold_after new.heap.cells)
-      → Brings StandsInMemory old new P → Brings (λ g v. StandsForBoth told moment may_hold_after g v) old new P
+      → (Rests bytes tells moment may_hold_after old.heap.cells → Rests bytes tells moment may_hold_after new.heap.cells)
+      → Brings StandsInMemory old new P → Brings (λ g v. StandsForBoth bytes tells moment may_hold_after g v) old new P
   brings_closed new on at_now rests brings = record {
     each = λ v at.
         let s = brings.each v at.memory in
@@ -173,7 +168,7 @@ module _ {D M : Type 0} (told : D → Option (List ℕ)) (moment : D → ℕ) (f
           for = s.for;
           holds = record {
             rests = rests at.rests;
-            moment_is = λ y t. at_now ∙ is ∙ ap moment (sym on);
+            moment_is = at_now ∙ is ∙ ap moment (sym on);
             memory = s.holds;
           };
           tells = s.tells;
@@ -182,30 +177,29 @@ module _ {D M : Type 0} (told : D → Option (List ℕ)) (moment : D → ℕ) (f
 
   -- each image gives what Q tells of, on a ground with this disk and moment
   at_each : (new : Grounded D M) → new.heap.cells.disk ≡ disk → new.moment ≡ now → (v : GroundState) → (Q : List ℕ → Type 0)
-      → StandsForBoth told moment may_hold_after old v → ((image : List ℕ) → P image → Q image)
-      → AtEach (heap_ground told moment faults may_hold_after media).moment (heap_ground told moment faults may_hold_after media).left old new Q
+      → StandsForBoth bytes tells moment may_hold_after old v → ((image : List ℕ) → P image → Q image)
+      → AtEach (heap_ground bytes tells moment faults may_hold_after media).moment (heap_ground bytes tells moment faults may_hold_after media).left old new Q
   at_each new on at_now v Q at also = record {
     later = omega (arith, since, at_now);
     each = λ m image ge le l.
-        let x = told_old l.bytes (ap told (sym on) ∙ l.tells) in
-        let e = each at.rests x.0 x.1 in
-        let was = at.moment_is x.0 x.1 in
+        let told = sym same ∙ ap tells (sym on) ∙ l.tells in
+        let e = each at.rests told in
+        let was = at.moment_is in
         also image (e.each m image (omega (arith, ge, was)) (omega (arith, le, is, at_now))
         (subst (λ (d : D). may_hold_after d m image) on l.left));
     past = λ m image le l.
-        let x = told_old l.bytes (ap told (sym on) ∙ l.tells) in
-        let e = each at.rests x.0 x.1 in
+        let told = sym same ∙ ap tells (sym on) ∙ l.tells in
+        let e = each at.rests told in
         record {
-          bytes = x.0;
-          tells = x.1;
-          left = e.past m image (omega (arith, le, at.moment_is x.0 x.1)) (subst (λ (d : D). may_hold_after d m image) on l.left);
+          tells = told;
+          left = e.past m image (omega (arith, le, at.moment_is)) (subst (λ (d : D). may_hold_after d m image) on l.left);
         };
   }
 
   -- where each image gives the bytes at begin, a crash leaves the state before
   pub leaves_back : (new : Grounded D M) → new.heap.cells.disk ≡ disk → new.moment ≡ now
       → ((image : List ℕ) → P image → GivesHeap old.heap.cells.begun image)
-      → LeavesBefore (heap_ground told moment faults may_hold_after media) old new
+      → LeavesBefore (heap_ground bytes tells moment faults may_hold_after media) old new
   leaves_back new on at_now also = record {
     each = λ v at. at_each new on at_now v (λ image. OpensAs image v.before) at (λ image p. record {
       heap = old.heap.cells.begun;
@@ -218,7 +212,7 @@ module _ {D M : Type 0} (told : D → Option (List ℕ)) (moment : D → ℕ) (f
   -- where each image gives those or the bytes now, it leaves the state before, or the one that is kept
   pub leaves_either : (new : Grounded D M) → new.heap.cells.disk ≡ disk → new.moment ≡ now → old.stopped ≡ false
       → ((image : List ℕ) → P image → GivesEither old.heap.cells.begun old.heap.cells.bytes image)
-      → LeavesEither (heap_ground told moment faults may_hold_after media) old new
+      → LeavesEither (heap_ground bytes tells moment faults may_hold_after media) old new
   leaves_either new on at_now going also = record {
     each = λ v at. at_each new on at_now v (λ image. OpensAs image v.before ⊎ OpensAs image (committed v.now)) at
         (λ image p. elim (also image p) [
@@ -236,14 +230,14 @@ module _ {D M : Type 0} (told : D → Option (List ℕ)) (moment : D → ℕ) (f
   closes_to : {keeps : Bool} {Q : GroundState → GroundState → Type 0} (new : Grounded D M) → new.heap.cells.disk ≡ disk → new.moment ≡ now → new.media ≡ old.media
       → new.heap.cells.failed ≡ false → (new.idle ≡ true → new.stopped ≡ false) → IsGround moment old
       → faults old.heap.cells.disk ≤ faults disk
-      → (Rests told moment may_hold_after old.heap.cells → Rests told moment may_hold_after new.heap.cells) → Brings StandsInMemory old new Q
-      → LeavesOr keeps (heap_ground told moment faults may_hold_after media) old new → ClosesTo told moment faults may_hold_after media keeps Q old new
+      → (Rests bytes tells moment may_hold_after old.heap.cells → Rests bytes tells moment may_hold_after new.heap.cells) → Brings StandsInMemory old new Q
+      → LeavesOr keeps (heap_ground bytes tells moment faults may_hold_after media) old new → ClosesTo bytes tells moment faults may_hold_after media keeps Q old new
   closes_to new on at_now unread still going ground later rests brings leaves = record {
     memory = brings;
     brings = brings_closed new on at_now rests brings;
     sound = still;
     time = omega (arith, since, at_now);
-    keeps = keeps_later told moment faults may_hold_after media old new unread (subst (λ (d : D). faults old.heap.cells.disk ≤ faults d) (sym on) later);
+    keeps = keeps_later bytes tells moment faults may_hold_after media old new unread (subst (λ (d : D). faults old.heap.cells.disk ≤ faults d) (sym on) later);
     any_moment = leaves;
     is_ground = ground_brought moment old new ground (at_now ∙ is ∙ ap moment (sym on)) sound still going brings;
   }
@@ -251,22 +245,22 @@ module _ {D M : Type 0} (told : D → Option (List ℕ)) (moment : D → ℕ) (f
   -- a transaction that is kept
   pub closes_kept : (new : Grounded D M) → new ≡ kept_ground old disk now → IsGround moment old → old.stopped ≡ false
       → faults old.heap.cells.disk ≤ faults disk
-      → (Rests told moment may_hold_after old.heap.cells → Rests told moment may_hold_after
+      → (Rests bytes tells moment may_hold_after old.heap.cells → Rests bytes tells moment may_hold_after
       (kept_ground old disk now).heap.cells)
       → ((image : List ℕ) → P image → GivesEither old.heap.cells.begun old.heap.cells.bytes image)
-      → ClosesTo told moment faults may_hold_after media true Commits old new
+      → ClosesTo bytes tells moment faults may_hold_after media true Commits old new
   closes_kept new same ground going later rests also =
-      subst (λ (n : Grounded D M). ClosesTo told moment faults may_hold_after media true Commits old n) (sym same)
+      subst (λ (n : Grounded D M). ClosesTo bytes tells moment faults may_hold_after media true Commits old n) (sym same)
       (closes_to (kept_ground old disk now) refl refl refl sound (λ _. refl) ground later rests (memory_kept old disk now going)
       (leaves_either (kept_ground old disk now) refl refl going also))
 
   -- a transaction that is put back
   pub closes_back : (new : Grounded D M) → new ≡ back_ground old disk now → IsGround moment old → faults old.heap.cells.disk ≤ faults disk
-      → (Rests told moment may_hold_after old.heap.cells → Rests told moment may_hold_after
+      → (Rests bytes tells moment may_hold_after old.heap.cells → Rests bytes tells moment may_hold_after
       (back_ground old disk now).heap.cells)
-      → ((image : List ℕ) → P image → GivesHeap old.heap.cells.begun image) → ClosesTo told moment faults may_hold_after media false RollsBack old new
+      → ((image : List ℕ) → P image → GivesHeap old.heap.cells.begun image) → ClosesTo bytes tells moment faults may_hold_after media false RollsBack old new
   closes_back new same ground later rests also =
-      subst (λ (n : Grounded D M). ClosesTo told moment faults may_hold_after media false RollsBack old n) (sym same)
+      subst (λ (n : Grounded D M). ClosesTo bytes tells moment faults may_hold_after media false RollsBack old n) (sym same)
       (closes_to (back_ground old disk now) refl refl refl sound (λ _. refl) ground later rests (memory_back old disk now)
       (leaves_back (back_ground old disk now) refl refl also))
 
@@ -279,12 +273,12 @@ stop_fails old new stops.MediaFault explained none = absurd explained
 stop_fails old new stops.Failed explained none = explained.1
 
 -- where a close is stopped on a disk that hasn't failed, the disk fails in it
-pub meets_fault : {D M : Type 0} (told : D → Option (List ℕ)) (moment faults : D → ℕ) (may_hold_after : D → ℕ → List ℕ → Type 0)
+pub meets_fault : {D M : Type 0} (bytes : D → List ℕ) (tells : D → Bool) (moment faults : D → ℕ) (may_hold_after : D → ℕ → List ℕ → Type 0)
     (media : MediaGhosts M) (old new : Grounded D M) (cells : Opened D) (s : Stop) → new.heap.cells.disk ≡ cells.disk → old.heap.cells.failed ≡ false
     → Explains {T = Unit {0}} (transaction_of faults old.heap.cells) (transaction_of faults cells) (Err s)
-    → IfRefused {T = Unit {0}} (Err s) (λ _. ⊥) → MeetsFault (heap_ground told moment faults may_hold_after media) old
+    → IfRefused {T = Unit {0}} (Err s) (λ _. ⊥) → MeetsFault (heap_ground bytes tells moment faults may_hold_after media) old
     new
-meets_fault {D} told moment faults may_hold_after media old new cells s same sound explained none = record {
+meets_fault {D} bytes tells moment faults may_hold_after media old new cells s same sound explained none = record {
   heap = λ v at. subst (λ (b : Ground). HasHeap b) (sym at.memory.before.base) tt;
   cause = subst (λ (d : D). Rose (faults old.heap.cells.disk) (faults d)) (sym same) (rose s explained none);
 }

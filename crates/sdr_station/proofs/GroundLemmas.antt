@@ -17,10 +17,10 @@ abbrev pub lapses_of : {M : Type 0} → MediaGhosts M → M → Lapses
 lapses_of media files = record { faults = media.faults files; short = media.short files }
 
 -- a heap on an image as a ground, where the disk and media are told so
-abbrev pub heap_ground : {D M : Type 0} → (D → Option (List ℕ)) → (D → ℕ) → (D → ℕ) → (D → ℕ → List ℕ → Type 0) → MediaGhosts M
+abbrev pub heap_ground : {D M : Type 0} → (D → List ℕ) → (D → Bool) → (D → ℕ) → (D → ℕ) → (D → ℕ → List ℕ → Type 0) → MediaGhosts M
     → Ghosts (Grounded D M)
-heap_ground told moment faults may_hold_after media = record {
-  stands = λ g v. StandsForBoth told moment may_hold_after g v;
+heap_ground bytes tells moment faults may_hold_after media = record {
+  stands = λ g v. StandsForBoth bytes tells moment may_hold_after g v;
   moment = λ g. g.moment;
   faults = λ g. faults g.heap.cells.disk;
   lapses = λ g. lapses_of media g.media;
@@ -30,9 +30,9 @@ heap_ground told moment faults may_hold_after media = record {
   sound = λ g. HasDiskSound g;
   going = λ g. IsGoing g;
   idle = λ g. HasNoCalls g;
-  left = λ g m image. Leaves told may_hold_after g.heap.cells.disk m image;
+  left = λ g m image. Leaves tells may_hold_after g.heap.cells.disk m image;
   opens = λ image s. OpensAs image s;
-  crash_now = λ g v image at left. crash_now told moment may_hold_after g v image at left;
+  crash_now = λ g v image at left. crash_now bytes tells moment may_hold_after g v image at left;
   lasts_less = λ g n lasts. lasts;
   idle_going = λ g idle. idle.going;
   going_sound = λ g going. going.sound;
@@ -71,11 +71,11 @@ ground_failed moment g seen stopped made failed = record {
 }
 
 -- what a ground keeps whose disk counts no fewer faults, whose media tell the same, and no count of theirs falls
-pub keeps_read : {D M : Type 0} (told : D → Option (List ℕ)) (moment faults : D → ℕ) (may_hold_after : D → ℕ → List ℕ → Type 0)
+pub keeps_read : {D M : Type 0} (bytes : D → List ℕ) (tells : D → Bool) (moment faults : D → ℕ) (may_hold_after : D → ℕ → List ℕ → Type 0)
     (media : MediaGhosts M) (old new : Grounded D M) → media.told new.media ≡ media.told old.media
     → LapsesLast (lapses_of media old.media) (lapses_of media new.media) → faults old.heap.cells.disk ≤ faults new.heap.cells.disk
-    → KeepsGround (heap_ground told moment faults may_hold_after media) false old new
-keeps_read told moment faults may_hold_after media old new same gaps later = record {
+    → KeepsGround (heap_ground bytes tells moment faults may_hold_after media) false old new
+keeps_read bytes tells moment faults may_hold_after media old new same gaps later = record {
   later = later;
   lapses = gaps;
   media = same;
@@ -84,11 +84,11 @@ keeps_read told moment faults may_hold_after media old new same gaps later = rec
 }
 
 -- so it is where media are the same
-pub keeps_later : {D M : Type 0} (told : D → Option (List ℕ)) (moment faults : D → ℕ) (may_hold_after : D → ℕ → List ℕ → Type 0)
+pub keeps_later : {D M : Type 0} (bytes : D → List ℕ) (tells : D → Bool) (moment faults : D → ℕ) (may_hold_after : D → ℕ → List ℕ → Type 0)
     (media : MediaGhosts M) (old new : Grounded D M) → new.media ≡ old.media → faults old.heap.cells.disk ≤ faults new.heap.cells.disk
-    → KeepsGround (heap_ground told moment faults may_hold_after media) false old new
-keeps_later {M = M} told moment faults may_hold_after media old new unread later =
-    keeps_read told moment faults may_hold_after media old new (ap media.told unread)
+    → KeepsGround (heap_ground bytes tells moment faults may_hold_after media) false old new
+keeps_later {M = M} bytes tells moment faults may_hold_after media old new unread later =
+    keeps_read bytes tells moment faults may_hold_after media old new (ap media.told unread)
     (subst (λ (files : M). LapsesLast (lapses_of media old.media) (lapses_of media files)) (sym unread) (lapses_same (lapses_of media old.media))) later
 
 -- where it was put back, no transaction is open on it

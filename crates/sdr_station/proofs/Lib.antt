@@ -1,5 +1,6 @@
 pub mod CameLemmas
 pub mod ClosingLemmas
+pub mod ForgettingLemmas
 pub mod GivenLemmas
 pub mod GivingLemmas
 pub mod GroundLemmas
@@ -7,6 +8,7 @@ pub mod MediaLemmas
 pub mod OpeningLemmas
 pub mod RestLemmas
 pub mod RoomLemmas
+pub mod SayingLemmas
 pub mod ServingLemmas
 pub mod StationLemmas
 pub mod StoodLemmas

@@ -1,5 +1,6 @@
 -- A look at a ticket on a ground.
-use Rattle.std.proofs.Common.{◌≡◌, ◌∙◌, ◌≤◌, ℕ, List, [], Bool, true, false, true≢false, Option, None, Result, Err, refl, sym, ap, subst, length, arith}
+use Rattle.std.proofs.Common.{◌≡◌, ◌∙◌, ◌≤◌, ℕ, List, [], Bool, true, false, true≢false, Option, None, Result, Ok, Err, refl, sym, ap, subst, length, arith}
+use Rattle.std.specs.Prelude.{OnOk}
 use Rattle.std.proofs.lemmas.List.{append-nil, append_cancel_left}
 use Rattle.sdr_stands.specs.Standing.{HeapStandsFor}
 use Rattle.sdr_base.proofs.MovesLemmas.{Moves-none}
@@ -12,18 +13,21 @@ use Rattle.sdr_base.specs.declared.media.Media.{Ghosts as MediaGhosts}
 use Rattle.sdr_base.specs.declared.moves.Move.{Move}
 use Rattle.sdr_base.specs.declared.stop.Stop.{Stop}
 use Rattle.sdr_base.specs.declared.stop.Stop.TheVariants as stops
+use Rattle.sdr_base.specs.Causes.{Rose}
+use Rattle.sdr_disk.specs.Moments.{Reads}
+use Rattle.sdr_disk.specs.declared.disk.Disk.{Ghosts as DiskGhosts}
 use Rattle.sdr_heap.specs.Noted.{Held}
-use Rattle.sdr_image.specs.Opened.{IsQuiet, Opened}
-use Rattle.sdr_machine.specs.Crash.{LeavesBefore}
+use Rattle.sdr_image.specs.Opened.{Opened}
+use Rattle.sdr_image.specs.QuietLaws.{quiet_same}
 use Rattle.sdr_machine.specs.Demand.{most_lines}
 use Rattle.sdr_machine.specs.Ground.{Ground, State}
 use Rattle.sdr_machine.specs.Serving.{Brings, Shows, SameStates, shown_in}
 use Rattle.sdr_machine.specs.Standing.{GroundState}
 use Rattle.sdr_log.specs.Frame.{room_of}
 use Rattle.sdr_log.specs.declared.frame.Frame.{Frame}
-use Rattle.sdr_station.proofs.GroundLemmas.{heap_ground}
-use Rattle.sdr_station.proofs.ServingLemmas.{image_heap}
-use Rattle.sdr_station.specs.Grounded.{Grounded, HasStood, HoldsWorld, IsBefore, IsGround, Leaves, StandsAtRest, StandsForBoth, StandsInMemory, StandsWithin, heap_in, HasNoCalls}
+use Rattle.sdr_station.proofs.GroundLemmas.{ground_failed}
+use Rattle.sdr_station.proofs.ServingLemmas.{QuietOn, image_heap}
+use Rattle.sdr_station.specs.Grounded.{Grounded, HasStood, HoldsWorld, IsBefore, IsGround, StandsAtRest, StandsInMemory, StandsWithin, heap_in, HasNoCalls}
 use Rattle.step_things.specs.Answering.{HeapStands}
 use Rattle.step_zco.specs.AccountAnswering.{Sees}
 
@@ -39,6 +43,12 @@ before_idle moment g ground idle = record {
       subst (λ (s : State). HoldsWorld g.heap s.world) (at.idle idle) (within_holds (at.now (ground.going idle)));
 }
 
+-- and it has touched no line
+pub untouched_idle : {D M : Type 0} (moment : D → ℕ) (g : Grounded D M) → IsGround moment g → g.idle ≡ true → g.heap.cells.touched ≡ []
+untouched_idle moment g ground idle =
+    let at = (ground.stands (ground.sound (ground.going idle))).holds in
+    at.untouched (ap (λ (s : State). s.demand) (at.idle idle) ∙ at.before.demand)
+
 -- there is a heap in it
 pub keeps_before_look : {D M : Type 0} (g : Grounded D M) → IsBefore g → KeepsSome (KeepsRegion g.heap.size g.heap.cells.bytes)
 keeps_before_look g before =
@@ -51,11 +61,15 @@ stands_before_look g before =
     record { world = before.some.for.before.world; stands = h.heap; ready = record { whole = h.whole; fits = h.fits } }
 
 -- A look that read the heap of a ground.
-module _ {D M T : Type 0} (faults : D → ℕ) (old : Grounded D M) (heap : Held (Opened D)) (result : Result T Stop)
-    (looks : Looks (image_heap faults) old.heap heap result) where
-  -- the disk is quiet
-  pub looked_quiet : IsQuiet old.heap.cells heap.cells × (heap.size ≡ old.heap.size)
-  looked_quiet = looks.quiet old.heap (record { disk = refl; frame = refl; begun = refl; failed = refl; restored = refl; still_open = λ is. is }, refl)
+module _ {D M T : Type 0} (d : DiskGhosts D) (old : Grounded D M) (heap : Held (Opened D)) (result : Result T Stop)
+    (looks : Looks (image_heap d) old.heap heap result) where
+  -- what it keeps of the image
+  pub looked_quiet : QuietOn d old.heap.cells heap.cells × (heap.size ≡ old.heap.size)
+  looked_quiet = looks.quiet old.heap (quiet_same d.bytes d.tells_crashes d.moment d.may_hold_after old.heap.cells, refl)
+
+  -- where no line is touched, the disk was only read
+  pub looked_reads : old.heap.cells.touched ≡ [] → Reads d.bytes d.tells_crashes d.moment d.may_hold_after old.heap.cells.disk heap.cells.disk
+  looked_reads none = looked_quiet.0.reads (looks.touched ∙ none)
 
   -- the heap stands still within its transaction
   still_within : {shown : List ℕ} {s : State} → StandsWithin old.heap shown s → StandsWithin heap shown s
@@ -81,33 +95,35 @@ module _ {D M T : Type 0} (faults : D → ℕ) (old : Grounded D M) (heap : Held
         lines = subst (λ (lines : List ℕ). length lines ≤ most_lines s.demand) (sym looks.touched) w.lines;
       }
 
-  -- the ground stands for what it did
-  pub looked_still : (v : GroundState) → StandsInMemory old v → StandsInMemory (record old { heap = heap }) v
-  looked_still v at =
+  -- unless the disk failed in it, the ground stands for what it did
+  pub looked_still : heap.cells.failed ≡ false → (v : GroundState) → StandsInMemory old v → StandsInMemory (record old { heap = heap }) v
+  looked_still sound v at =
       let q = looked_quiet in
+      let begun = q.0.begun sound in
       record {
-        sound = q.0.failed ∙ at.sound;
-        size = ap (λ (bytes : List ℕ). length bytes) q.0.begun ∙ at.size ∙ sym q.1;
+        sound = sound;
+        size = ap (λ (bytes : List ℕ). length bytes) begun ∙ at.size ∙ sym q.1;
         before =
             subst (λ (f : Frame). StandsAtRest (room_of f) heap.cells.begun v.before) (sym q.0.frame)
-            (subst (λ (bytes : List ℕ). StandsAtRest (room_of old.heap.cells.frame) bytes v.before) (sym q.0.begun) at.before);
+            (subst (λ (bytes : List ℕ). StandsAtRest (room_of old.heap.cells.frame) bytes v.before) (sym begun) at.before);
         taken = at.taken;
         gave = at.gave;
         stood = subst (λ (n : ℕ). HasStood n v.now.world) (sym q.1) at.stood;
         now = λ going. still_within (at.now going);
         idle = at.idle;
+        untouched = λ none. looks.touched ∙ at.untouched none;
         moves = at.moves ∙ sym (ap (λ (h : Heap). h.moves) looks.same);
       }
 
   -- a ticket that was seen so is shown
-  pub shows_seen : (ticket : ℕ) (granted : Option Bool) → IsBefore old → Sees ticket (heap_in old.heap) granted
+  pub shows_seen : heap.cells.failed ≡ false → (ticket : ℕ) (granted : Option Bool) → IsBefore old → Sees ticket (heap_in old.heap) granted
       → Brings StandsInMemory old (record old { heap = heap }) (Shows ticket granted)
-  shows_seen ticket granted before sees = record {
+  shows_seen sound ticket granted before sees = record {
     each = λ v at.
         let h = before.holds v at in
         record {
           for = v;
-          holds = looked_still v at;
+          holds = looked_still sound v at;
           tells = record {
             shown = sees.sees v.before.world h.heap (record { whole = h.whole; fits = h.fits });
             still = record { before = refl; now = refl };
@@ -116,28 +132,45 @@ module _ {D M T : Type 0} (faults : D → ℕ) (old : Grounded D M) (heap : Held
   }
 
   -- which is still one
-  pub looked_ground : (moment : D → ℕ) → IsGround moment old → IsGround moment (record old { heap = heap })
-  looked_ground moment ground = record {
-    seen = let same = ap moment looked_quiet.0.disk in omega (arith, same, ground.seen);
-    sound = λ going. looked_quiet.0.failed ∙ ground.sound going;
+  pub looked_ground : heap.cells.failed ≡ false → old.heap.cells.touched ≡ [] → IsGround d.moment old → IsGround d.moment (record old { heap = heap })
+  looked_ground sound none ground = record {
+    seen = ground.seen ∙ sym (looked_reads none).time;
+    sound = λ going. sound;
     going = ground.going;
-    stands = λ sound.
-        let some = ground.stands (sym looked_quiet.0.failed ∙ sound) in
-        record { for = some.for; holds = looked_still some.for some.holds };
+    stands = λ is.
+        let some = ground.stands (was_sound old.heap.cells.failed refl) in
+        record { for = some.for; holds = looked_still sound some.for some.holds };
   }
+    where
+      was_sound : (failed : Bool) → old.heap.cells.failed ≡ failed → old.heap.cells.failed ≡ false
+      was_sound false is = is
+      was_sound true is = absurd (true≢false (sym (looked_quiet.0.still is).0 ∙ sound))
 
--- no look meets a disk fault where the disk hadn't failed
-pub looks_never : {D M T : Type 0} (faults : D → ℕ) (old : Grounded D M) (heap : Held (Opened D)) (stop : Stop)
-    → Looks {T = T} (image_heap faults) old.heap heap (Err stop) → old.heap.cells.failed ≡ false → OnlyFault stop → ⊥
-looks_never faults old heap (stops.Refused refusal) looks sound fault = fault
-looks_never faults old heap stops.DiskFault looks sound fault =
-    true≢false (sym looks.cause.explained.1 ∙ (looked_quiet faults old heap _ looks).0.failed ∙ sound)
-looks_never faults old heap stops.MediaFault looks sound fault = fault
-looks_never faults old heap stops.Failed looks sound fault = true≢false (sym looks.cause.explained.0 ∙ sound)
+  -- and so is one whose disk failed, where it is stopped
+  pub looked_failed : heap.cells.failed ≡ true → old.heap.cells.touched ≡ [] → IsGround d.moment old
+      → IsGround d.moment (record old { heap = heap; stopped = true; idle = false })
+  looked_failed failed none ground =
+      ground_failed d.moment (record old { heap = heap; stopped = true; idle = false }) (ground.seen ∙ sym (looked_reads none).time) refl refl failed
 
--- no transaction is open on it
-pub looked_idle : {D M : Type 0} (old new : Grounded D M) → new ≡ record old { heap = new.heap } → IsQuiet old.heap.cells new.heap.cells → HasNoCalls old → HasNoCalls new
-looked_idle {D} {M} old new same quiet idle = record {
-  going = record { sound = quiet.failed ∙ idle.going.sound; going = ap (λ (g : Grounded D M). g.stopped) same ∙ idle.going.going };
+-- a look that was stopped on a disk that hadn't failed met a fault of it, whose count rose
+pub looks_fault : {D M T : Type 0} (d : DiskGhosts D) (old : Grounded D M) (heap : Held (Opened D)) (stop : Stop)
+    → Looks {T = T} (image_heap d) old.heap heap (Err stop) → old.heap.cells.failed ≡ false → OnlyFault stop
+    → (heap.cells.failed ≡ true) × Rose (d.faults old.heap.cells.disk) (d.faults heap.cells.disk)
+looks_fault d old heap (stops.Refused refusal) looks sound fault = absurd fault
+looks_fault d old heap stops.DiskFault looks sound fault = (looks.cause.explained.1, looks.cause.explained.2)
+looks_fault d old heap stops.MediaFault looks sound fault = absurd fault
+looks_fault d old heap stops.Failed looks sound fault = absurd (true≢false (sym looks.cause.explained.0 ∙ sound))
+
+-- no transaction is open on a ground behind a look that was answered
+pub looked_idle : {D M : Type 0} (old new : Grounded D M) → new ≡ record old { heap = new.heap } → new.heap.cells.failed ≡ false → HasNoCalls old
+    → HasNoCalls new
+looked_idle {D} {M} old new same sound idle = record {
+  going = record { sound = sound; going = ap (λ (g : Grounded D M). g.stopped) same ∙ idle.going.going };
   idle = ap (λ (g : Grounded D M). g.idle) same ∙ idle.idle;
 }
+
+-- so it is by the result of a look
+pub seen_idle : {D M T E : Type 0} (r : Result T E) (old new : Grounded D M) → OnOk r (new ≡ record old { heap = new.heap })
+    → OnOk r (new.heap.cells.failed ≡ false) → HasNoCalls old → OnOk r (HasNoCalls new)
+seen_idle (Ok x) old new same sound idle = looked_idle old new same sound idle
+seen_idle (Err e) old new same sound idle = tt

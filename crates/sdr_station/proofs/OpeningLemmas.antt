@@ -1,24 +1,27 @@
 -- A heap that was opened.
-use Rattle.std.proofs.Common.{◌≡◌, ◌∙◌, ◌≤◌, ℕ, List, [], false, true, true≢false, Err, Option, Some, inl, refl, sym, ap, subst, length}
+use Rattle.std.proofs.Common.{◌≡◌, ◌∙◌, ◌≤◌, ℕ, List, [], false, true, true≢false, Err, Bool, Some, inl, refl, sym, ap, subst, length}
 use Rattle.std.specs.Prelude.{replicate}
-use Rattle.std.proofs.lemmas.Option.{same_Some}
 use Rattle.sdr_stands.specs.Standing.{StandsForWhole}
+use Rattle.sdr_base.proofs.WrittenLemmas.{rose_later}
 use Rattle.sdr_base.specs.Transaction.{Transaction}
 use Rattle.sdr_audit.specs.Checked.{HasAuditReason, IsNoWorld, TellsFirst}
 use Rattle.sdr_audit.specs.declared.error.AuditError.{AuditError}
 use Rattle.sdr_audit.specs.declared.error.AuditError.TheVariants as audits
-use Rattle.sdr_disk.specs.Moments.{Reads}
+use Rattle.sdr_disk.proofs.MomentsLemmas.{at_read}
+use Rattle.sdr_disk.specs.Moments.{AtEach, Reads}
 use Rattle.sdr_disk.specs.Pending.{IsSynced}
-use Rattle.sdr_disk.specs.Told.{Both, IfTold}
-use Rattle.sdr_image.proofs.OpenedLemmas.{reads_may, rests_same}
+use Rattle.sdr_disk.specs.Tells.{IfTells}
+use Rattle.sdr_image.proofs.OpenedLemmas.{reads_may, reads_synced}
 use Rattle.sdr_image.specs.Opened.{IsQuiet, Opened}
 use Rattle.sdr_image.specs.Opening.{FailsOpening, IsOpened, MayBeOpened, UnlessFault}
 use Rattle.sdr_image.specs.declared.error.ImageError.{ImageError}
 use Rattle.sdr_image.specs.declared.error.ImageError.TheVariants as images
 use Rattle.sdr_machine.specs.Ground.{Ground, State, resting}
-use Rattle.sdr_log.specs.Calls.{PutsBack}
+use Rattle.sdr_log.proofs.LoggedLemmas.{closed_only}
+use Rattle.sdr_log.specs.Calls.{KeepsRest, PutsBack}
 use Rattle.sdr_log.specs.Frame.{room_of}
 use Rattle.sdr_log.specs.Log.{put_back_of}
+use Rattle.sdr_log.specs.Logged.{GivesSame}
 use Rattle.sdr_log.specs.declared.frame.Frame.{Frame}
 use Rattle.audit_world.specs.Standing.{StandsAsTold}
 use Rattle.audit_world.specs.Told.{world_of}
@@ -32,11 +35,11 @@ use Rattle.sdr_station.specs.declared.error.OpenError.{OpenError}
 use Rattle.sdr_station.specs.declared.error.OpenError.TheVariants as errors
 
 -- an image that was opened, and for whose bytes a world was found to stand, stands for it
-pub open_stands : {D M : Type 0} (told : D → Option (List ℕ)) (moment : D → ℕ) (may_hold_after : D → ℕ → List ℕ → Type 0) (disk : D) (files : M) (i j : Opened D)
-    (count spare : ℕ) → IsOpened told moment may_hold_after disk i → IsQuiet i j → j.bytes ≡ i.bytes → j.touched
-    ≡ i.touched
+pub open_stands : {D M : Type 0} (bytes_of : D → List ℕ) (tells : D → Bool) (moment : D → ℕ) (may_hold_after : D → ℕ → List ℕ → Type 0) (disk : D) (files : M) (i j : Opened D)
+    (count spare : ℕ) → IsOpened bytes_of tells moment may_hold_after disk i → IsQuiet bytes_of tells moment may_hold_after i j → j.failed ≡ false
+    → j.bytes ≡ i.bytes → j.touched ≡ i.touched
     → StandsAsTold i.bytes
-    → IsOpen {M = M} told moment may_hold_after disk (record {
+    → IsOpen {M = M} bytes_of tells moment may_hold_after disk (record {
       heap = record { cells = j; size = length j.bytes; marks = replicate count false; moves = []; spare = spare };
       media = files;
       shown = [];
@@ -45,11 +48,13 @@ pub open_stands : {D M : Type 0} (told : D → Option (List ℕ)) (moment : D �
       moment = moment j.disk;
       restored = i.restored;
     })
-open_stands {D} {M} told moment may_hold_after disk files i j count spare o q bytes touched told_stands =
+open_stands {D} {M} bytes_of tells moment may_hold_after disk files i j count spare o q sound bytes touched told_stands =
     let room = room_of j.frame in
+    let reads = q.reads (touched ∙ o.touched) in
+    let begun_same = q.begun sound in
     let s : State = resting (world_of j.begun) (Ground.OnHeap room (pools_of j.begun)) in
-    let begun : j.begun ≡ j.bytes = q.begun ∙ o.begun ∙ sym bytes in
-    let stands = (subst (λ (b : List ℕ). StandsAsTold b) (sym (q.begun ∙ o.begun)) told_stands).told in
+    let begun : j.begun ≡ j.bytes = begun_same ∙ o.begun ∙ sym bytes in
+    let stands = (subst (λ (b : List ℕ). StandsAsTold b) (sym (begun_same ∙ o.begun)) told_stands).told in
     let rest : StandsAtRest room j.bytes s = record {
       pools = pools_of j.begun;
       base = refl;
@@ -67,7 +72,7 @@ open_stands {D} {M} told moment may_hold_after disk files i j count spare o q by
     } in
     let within = within_of g.heap count s refl (touched ∙ o.touched) refl rest in
     let memory : StandsInMemory g (record { before = s; now = s; moves = [] }) = record {
-      sound = q.failed ∙ o.sound;
+      sound = sound;
       size = ap (λ (b : List ℕ). length b) begun;
       before = subst (λ (b : List ℕ). StandsAtRest room b s) (sym begun) rest;
       taken = stands.stands.taken;
@@ -75,29 +80,30 @@ open_stands {D} {M} told moment may_hold_after disk files i j count spare o q by
       stood = stood_of within;
       now = λ _. within;
       idle = λ _. refl;
+      untouched = λ _. touched ∙ o.touched;
       moves = refl;
     } in
     record {
       going = refl;
       idle = refl;
-      sound = q.failed ∙ o.sound;
+      sound = sound;
       seen = refl;
-      head = λ x is. o.head x is ∙ ap (λ (f : Frame). Some f) (sym q.frame);
-      gives = λ x is. o.heap x is ∙ ap (λ (b : List ℕ). Some b) (sym bytes ∙ sym begun);
-      back = λ x is y tells.
-          subst (λ (r : Frame). PutsBack r i.restored x y) (sym q.frame) (o.back x is y (sym (ap told q.disk) ∙ tells));
+      head = o.head ∙ ap (λ (f : Frame). Some f) (sym q.frame);
+      gives = o.heap ∙ ap (λ (b : List ℕ). Some b) (sym bytes ∙ sym begun);
+      back = subst (λ (x : List ℕ). PutsBack j.frame i.restored (bytes_of disk) x) (sym reads.same)
+          (subst (λ (r : Frame). PutsBack r i.restored (bytes_of disk) (bytes_of i.disk)) (sym q.frame) o.back);
       memory = memory;
       stands = λ may. record {
-        rests = rests_same told moment may_hold_after i j q (o.rests may);
-        moment_is = λ x is. refl;
+        rests = q.rests (o.rests may);
+        moment_is = refl;
         memory = memory;
       };
     }
 
 -- what was opened is a ground
-pub open_ground : {D M : Type 0} (told : D → Option (List ℕ)) (moment : D → ℕ) (may_hold_after : D → ℕ → List ℕ → Type 0) (disk : D) (g : Grounded D M)
-    → IsOpen told moment may_hold_after disk g → IsGround moment g
-open_ground told moment may_hold_after disk g o = record { seen = o.seen; sound = λ _. o.sound; going = λ _. o.going; stands = λ _. record { for = _; holds = o.memory } }
+pub open_ground : {D M : Type 0} (bytes : D → List ℕ) (tells : D → Bool) (moment : D → ℕ) (may_hold_after : D → ℕ → List ℕ → Type 0) (disk : D) (g : Grounded D M)
+    → IsOpen bytes tells moment may_hold_after disk g → IsGround moment g
+open_ground bytes tells moment may_hold_after disk g o = record { seen = o.seen; sound = λ _. o.sound; going = λ _. o.going; stands = λ _. record { for = _; holds = o.memory } }
 
 -- what holds in any case holds in these
 UnlessFault-holds : {P : Type 0} (why : OpenError) → P → opening.UnlessFault why P
@@ -119,51 +125,64 @@ OnDamaged-holds errors.DiskFault holds = tt
 OnDamaged-holds errors.NoMemory holds = tt
 
 -- the disk of an image that was opened is synced, where it might be opened
-pub opened_synced : {D : Type 0} (told : D → Option (List ℕ)) (moment : D → ℕ) (may_hold_after : D → ℕ → List ℕ → Type 0) (disk : D) (i : Opened D)
-    → IsOpened told moment may_hold_after disk i → IfTold (told disk) (λ x. MayBeOpened x (may_hold_after disk (moment disk)))
-    → IsSynced told moment may_hold_after i.disk
-opened_synced told moment may_hold_after disk i o may y now = (o.rests may o.sound y now).rest.only
+pub opened_synced : {D : Type 0} (bytes : D → List ℕ) (tells : D → Bool) (moment : D → ℕ) (may_hold_after : D → ℕ → List ℕ → Type 0) (disk : D) (i : Opened D)
+    → IsOpened bytes tells moment may_hold_after disk i → IfTells (tells disk) (MayBeOpened (bytes disk) (may_hold_after disk (moment disk)))
+    → IsSynced bytes tells moment may_hold_after i.disk
+opened_synced bytes tells moment may_hold_after disk i o may told =
+    closed_only i.frame (bytes i.disk) (may_hold_after i.disk (moment i.disk)) (o.rests may o.sound told).keeps.logged o.back.gate
+
+-- What opening told of a disk holds behind reads of it.
+module _ {D : Type 0} {bytes : D → List ℕ} {tells : D → Bool} {moment : D → ℕ} {may_hold_after : D → ℕ → List ℕ → Type 0} (disk : D)
+    {mid now : D} (r : Reads bytes tells moment may_hold_after mid now) where
+  pub rest_read : KeepsRest (bytes disk) (bytes mid) → KeepsRest (bytes disk) (bytes now)
+  rest_read rest = subst (λ (x : List ℕ). KeepsRest (bytes disk) x) (sym r.same) rest
+
+  pub moments_read : (P : List ℕ → Type 0) → AtEach moment may_hold_after disk mid P → AtEach moment may_hold_after disk now P
+  moments_read P at = at_read moment may_hold_after disk mid now P at r.time r.past
+
+  pub back_read : {f : Frame} {count : ℕ} → PutsBack f count (bytes disk) (bytes mid) → PutsBack f count (bytes disk) (bytes now)
+  back_read {f} {count} back = subst (λ (x : List ℕ). PutsBack f count (bytes disk) x) (sym r.same) back
 
 -- so it may be opened again
-pub synced_again : {D : Type 0} (told : D → Option (List ℕ)) (moment : D → ℕ) (may_hold_after : D → ℕ → List ℕ → Type 0) (old new : D) (why : OpenError)
-    → (IfTold (told old) (λ x. MayBeOpened x (may_hold_after old (moment old))) → IsSynced told moment may_hold_after new)
-    → MayBeAgain told moment may_hold_after old new why
-synced_again {D} told moment may_hold_after old new why synced = record {
-  again = λ may. UnlessFault-holds why (λ y now. inl (synced may y now));
-  faulted = OnFault-holds why (λ x is y now may. inl (inl (synced
-      (λ z told_now. subst (λ (b : List ℕ). MayBeOpened b (may_hold_after old (moment old))) (same_Some x z (sym is ∙ told_now)) may) y now)));
+pub synced_again : {D : Type 0} (bytes : D → List ℕ) (tells : D → Bool) (moment : D → ℕ) (may_hold_after : D → ℕ → List ℕ → Type 0) (old new : D) (why : OpenError)
+    → tells new ≡ tells old
+    → (IfTells (tells old) (MayBeOpened (bytes old) (may_hold_after old (moment old))) → IsSynced bytes tells moment may_hold_after new)
+    → MayBeAgain bytes tells moment may_hold_after old new why
+synced_again {D} bytes tells moment may_hold_after old new why same synced = record {
+  again = λ may. UnlessFault-holds why (λ told. inl (synced may told));
+  faulted = OnFault-holds why (λ told may. inl (inl (synced (λ again. may) (same ∙ told))));
   synced = λ may. OnDamaged-holds why (synced may);
 }
 
 -- and so may one whose image wasn't opened
-pub image_again : {D : Type 0} (told : D → Option (List ℕ)) (moment : D → ℕ) (may_hold_after : D → ℕ → List ℕ → Type 0) (old new : D)
-    (error : ImageError) (why : OpenError) → IsOfImage error why → UnlessFault error (Reads told moment may_hold_after old new)
-    → FailsOpening told moment may_hold_after old new → MayBeAgain told moment may_hold_after old new why
-image_again told moment may_hold_after old new images.NotFormatted why is reads failed =
-    subst (λ (w : OpenError). MayBeAgain told moment may_hold_after old new w) (sym is) (record {
-      again = λ may y now. reads_may told moment may_hold_after old new reads y (may y (sym reads.same ∙ now));
+pub image_again : {D : Type 0} (bytes : D → List ℕ) (tells : D → Bool) (moment : D → ℕ) (may_hold_after : D → ℕ → List ℕ → Type 0) (old new : D)
+    (error : ImageError) (why : OpenError) → IsOfImage error why → UnlessFault error (Reads bytes tells moment may_hold_after old new)
+    → FailsOpening bytes tells moment may_hold_after old new → MayBeAgain bytes tells moment may_hold_after old new why
+image_again bytes tells moment may_hold_after old new images.NotFormatted why is reads failed =
+    subst (λ (w : OpenError). MayBeAgain bytes tells moment may_hold_after old new w) (sym is) (record {
+      again = λ may told. reads_may reads (may (sym reads.tells ∙ told));
       faulted = tt;
       synced = λ may. tt;
     })
-image_again told moment may_hold_after old new images.DiskFault why is reads failed =
-    subst (λ (w : OpenError). MayBeAgain told moment may_hold_after old new w) (sym is)
+image_again bytes tells moment may_hold_after old new images.DiskFault why is reads failed =
+    subst (λ (w : OpenError). MayBeAgain bytes tells moment may_hold_after old new w) (sym is)
     (record { again = λ may. tt; faulted = failed; synced = λ may. tt })
-image_again told moment may_hold_after old new images.NoMemory why is reads failed =
-    subst (λ (w : OpenError). MayBeAgain told moment may_hold_after old new w) (sym is) (record {
-      again = λ may y now. reads_may told moment may_hold_after old new reads y (may y (sym reads.same ∙ now));
+image_again bytes tells moment may_hold_after old new images.NoMemory why is reads failed =
+    subst (λ (w : OpenError). MayBeAgain bytes tells moment may_hold_after old new w) (sym is) (record {
+      again = λ may told. reads_may reads (may (sym reads.tells ∙ told));
       faulted = tt;
       synced = λ may. tt;
     })
 
 -- where an image isn't opened, the disk's bytes are the same unless it failed
-pub image_leaves : (old new : Option (List ℕ)) (error : ImageError) (why : OpenError) → IsOfImage error why → UnlessFault error (new ≡ old)
+pub image_leaves : (old new : List ℕ) (error : ImageError) (why : OpenError) → IsOfImage error why → UnlessFault error (new ≡ old)
     → LeavesBytes old new why
 image_leaves old new images.NotFormatted why is same = subst (λ (w : OpenError). LeavesBytes old new w) (sym is) same
 image_leaves old new images.DiskFault why is same = subst (λ (w : OpenError). LeavesBytes old new w) (sym is) tt
 image_leaves old new images.NoMemory why is same = subst (λ (w : OpenError). LeavesBytes old new w) (sym is) tt
 
 -- where its bytes aren't taken, the open batches are put back
-pub audit_leaves : (old new : Option (List ℕ)) (error : AuditError) (why : OpenError) → IsOfAudit error why → Both old new ArePutBack
+pub audit_leaves : (old new : List ℕ) (error : AuditError) (why : OpenError) → IsOfAudit error why → ArePutBack old new
     → LeavesBytes old new why
 audit_leaves old new (audits.Damaged place check) why is back = subst (λ (w : OpenError). LeavesBytes old new w) (sym is) back
 audit_leaves old new audits.DiskFault why is back = subst (λ (w : OpenError). LeavesBytes old new w) (sym is) tt
@@ -171,16 +190,24 @@ audit_leaves old new audits.Failed why is back = subst (λ (w : OpenError). Leav
 audit_leaves old new audits.NoMemory why is back = subst (λ (w : OpenError). LeavesBytes old new w) (sym is) tt
 
 -- why a heap on an image that hasn't failed wasn't taken by the audit is why it isn't opened
-pub explains_audit : (T : Type 0) (told : Option (List ℕ)) (before now : ℕ) (bytes : List ℕ) (old new : Transaction) (why : AuditError) (result : OpenError)
-    → IsOfAudit why result → IfTold told (λ x. put_back_of x ≡ Some bytes) → HasAuditReason {T = T} old new (Err why) → old.failed ≡ false
-    → new.failed ≡ old.failed → TellsFirst bytes why → IsNoWorld bytes why → opening.ExplainsOpen told before now result
-explains_audit T told before now bytes old new (audits.Damaged place check) result is gives reason sound failed wrong none =
-    let P : OpenError → Type 0 = λ e. opening.ExplainsOpen told before now e in
-    subst P (sym is) (λ x tells. record { heap = bytes; gives = gives x tells; wrong = wrong; none = none })
-explains_audit T told before now bytes old new audits.DiskFault result is gives reason sound failed wrong none =
-    absurd (true≢false (sym reason.explained.1 ∙ failed ∙ sound))
-explains_audit T told before now bytes old new audits.Failed result is gives reason sound failed wrong none =
+pub explains_audit : (T : Type 0) (x : List ℕ) (first : ℕ) (bytes : List ℕ) (old new : Transaction) (why : AuditError) (result : OpenError)
+    → IsOfAudit why result → put_back_of x ≡ Some bytes → HasAuditReason {T = T} old new (Err why) → old.failed ≡ false
+    → first ≤ old.faults → TellsFirst bytes why → IsNoWorld bytes why → opening.ExplainsOpen x first new.faults result
+explains_audit T x first bytes old new (audits.Damaged place check) result is gives reason sound later wrong none =
+    let P : OpenError → Type 0 = λ e. opening.ExplainsOpen x first new.faults e in
+    subst P (sym is) (record { heap = bytes; gives = gives; wrong = wrong; none = none })
+explains_audit T x first bytes old new audits.DiskFault result is gives reason sound later wrong none =
+    let P : OpenError → Type 0 = λ e. opening.ExplainsOpen x first new.faults e in
+    subst P (sym is) (rose_later first old.faults new.faults later reason.explained.2)
+explains_audit T x first bytes old new audits.Failed result is gives reason sound later wrong none =
     absurd (true≢false (sym reason.explained.0 ∙ sound))
-explains_audit T told before now bytes old new audits.NoMemory result is gives reason sound failed wrong none =
-    let P : OpenError → Type 0 = λ e. opening.ExplainsOpen told before now e in
+explains_audit T x first bytes old new audits.NoMemory result is gives reason sound later wrong none =
+    let P : OpenError → Type 0 = λ e. opening.ExplainsOpen x first new.faults e in
     subst P (sym is) tt
+
+-- no count of faults falls in an audit
+pub audit_later : (T : Type 0) (old new : Transaction) (why : AuditError) → HasAuditReason {T = T} old new (Err why) → old.faults ≤ new.faults
+audit_later T old new (audits.Damaged place check) reason = reason.later
+audit_later T old new audits.DiskFault reason = reason.later
+audit_later T old new audits.Failed reason = reason.later
+audit_later T old new audits.NoMemory reason = reason.later

@@ -3,7 +3,6 @@ use Rattle.std.proofs.Common.{◌≡◌, ◌∙◌, ◌≤◌, ◌+◌, ◌⊎�
 use Rattle.sdr_stands.specs.Standing.{HeapStandsFor}
 use Rattle.sdr_base.proofs.MovesLemmas.{Moves-none}
 use Rattle.sdr_base.specs.KeptHeap.{KeepsRegion}
-use Rattle.sdr_base.specs.Transaction.{Explains}
 use Rattle.sdr_base.specs.Moves.{LeadsPools, Moves, MovesPools}
 use Rattle.sdr_base.specs.Objects.{Heap}
 use Rattle.sdr_base.specs.Works.{Spends}
@@ -12,21 +11,24 @@ use Rattle.sdr_base.specs.Media.{Told}
 use Rattle.sdr_base.specs.declared.media.Media.{Ghosts as MediaGhosts}
 use Rattle.sdr_base.specs.declared.moves.Move.{Move}
 use Rattle.sdr_base.specs.declared.stop.Stop.{Stop}
+use Rattle.sdr_base.specs.Causes.{Rose}
+use Rattle.sdr_disk.specs.declared.disk.Disk.{Ghosts as DiskGhosts}
 use Rattle.sdr_heap.specs.Noted.{Held}
-use Rattle.sdr_image.proofs.OpenedLemmas.{rests_same}
 use Rattle.sdr_image.specs.Opened.{IsQuiet, Opened, transaction_of}
+use Rattle.sdr_image.specs.QuietLaws.{quiet_same}
 use Rattle.sdr_model.specs.declared.answer.Reply.{Reply}
 use Rattle.sdr_model.specs.declared.call.Call.{Call}
 use Rattle.law_steps.proofs.FieldLaws.{fields_fit}
 use Rattle.law_steps.proofs.WholeLaws.{whole_kept}
 use Rattle.sdr_machine.specs.Agreeing.{AgreesWith}
 use Rattle.sdr_machine.specs.Crash.{LeavesBefore}
-use Rattle.sdr_machine.specs.Demand.{Demand, MayFillLog, demand_after}
+use Rattle.sdr_machine.specs.Demand.{Demand, MayFillLog, demand_after, no_demand}
 use Rattle.sdr_machine.specs.Ground.{Ground, MayMissMedia, State, Steps, StepsOn}
 use Rattle.sdr_machine.specs.Serving.{Brings, Calls}
 use Rattle.sdr_machine.specs.Standing.{GroundState}
 use Rattle.sdr_machine.specs.Transaction.{bytes_given}
 use Rattle.sdr_log.specs.Frame.{room_of}
+use Rattle.sdr_log.specs.Logged.{GivesHeap}
 use Rattle.sdr_log.specs.declared.frame.Frame.{Frame}
 use Rattle.sdr_base.specs.declared.refusal.Refusal.{Refusal}
 use Rattle.sdr_base.specs.declared.refusal.Refusal.TheVariants as refusals
@@ -42,24 +44,28 @@ use Rattle.sdr_model.specs.declared.event.Event.TheVariants as events
 use Rattle.step_calls.proofs.DemandLemmas.{asks_more, enough, reading_lines}
 use Rattle.step_calls.proofs.GivingLemmas.{media_lines}
 use Rattle.step_keyed.proofs.NextLemmas.{next_kept}
+use Rattle.sdr_station.proofs.ClosingLemmas.{leaves_back}
 use Rattle.sdr_station.proofs.StoodLemmas.{small_in, stood_of}
 use Rattle.sdr_station.proofs.GroundLemmas.{heap_ground}
 use Rattle.sdr_station.proofs.MediaLemmas.{answered_misses, refused_misses}
-use Rattle.sdr_station.specs.CrashNow.{crash_now}
 use Rattle.step_things.specs.Answering.{Aim, Answered, ComesInEach, HeapStands, IsReady, dooms}
 use Rattle.step_calls.specs.Giving.{TellsInEach}
 use Rattle.step_calls.specs.Serving.{call_lines}
-use Rattle.zco_wire.specs.Stopping.{past_media, past_stop}
+use Rattle.zco_wire.specs.Stopping.{past_media}
 use Rattle.sdr_station.specs.Closing.{moves_left}
-use Rattle.sdr_station.specs.Grounded.{Grounded, HasStood, Leaves, StandsAtRest, StandsForBoth, StandsInMemory, StandsWithin, heap_in}
+use Rattle.sdr_station.specs.Grounded.{Grounded, HasStood, StandsAtRest, StandsForBoth, StandsInMemory, StandsWithin, heap_in}
+
+-- what a call within a transaction keeps of an image
+abbrev pub QuietOn : {D : Type 0} → DiskGhosts D → Opened D → Opened D → Type 0
+QuietOn d old new = IsQuiet d.bytes d.tells_crashes d.moment d.may_hold_after old new
 
 -- a heap on an image, as contracts of calls on blocks see it
-abbrev pub image_heap : {D : Type 0} → (D → ℕ) → HeapGhosts (Held (Opened D))
-image_heap faults = record {
+abbrev pub image_heap : {D : Type 0} → DiskGhosts D → HeapGhosts (Held (Opened D))
+image_heap d = record {
   heap = heap_in;
   keeps = λ h. KeepsRegion h.size h.cells.bytes;
-  transaction = λ h. transaction_of faults h.cells;
-  quiet = λ a b. IsQuiet a.cells b.cells × (b.size ≡ a.size);
+  transaction = λ h. transaction_of d.faults h.cells;
+  quiet = λ a b. QuietOn d a.cells b.cells × (b.size ≡ a.size);
   moved = λ a b. Moves (KeepsRegion a.size a.cells.bytes) (KeepsRegion b.size b.cells.bytes) a.moves b.moves;
 }
 
@@ -88,9 +94,13 @@ tells_fault : (told : Option Told) (w : World) (call : Call) → AgreesWith told
 tells_fault None w call = tt
 tells_fault (Some media) w call = λ reads. tt
 
--- A call on a heap that stood for a standing, and has not stopped.
-module _ {D M : Type 0} (faults : D → ℕ) (m : MediaGhosts M) (old : Grounded D M) (going : old.stopped ≡ false) (call : Call) (fit : FitsCall call) (spare : ℕ)
-    (heap : Held (Opened D)) (files : M) (page : List ℕ) where
+-- after a call something was asked
+asked_some : (d : Demand) (w : World) (call : Call) (o : Outcome) → demand_after d w call o ≡ no_demand → ⊥
+asked_some d w call o none = let calls : d.calls + 1 ≡ 0 = ap (λ (e : Demand). e.calls) none in absurd (omega (arith, calls))
+
+-- A call on a heap that stood for a standing, and has not stopped. The disk has this moment behind it.
+module _ {D M : Type 0} (d : DiskGhosts D) (m : MediaGhosts M) (old : Grounded D M) (going : old.stopped ≡ false) (call : Call) (fit : FitsCall call) (spare : ℕ)
+    (heap : Held (Opened D)) (files : M) (page : List ℕ) (time : ℕ) where
   -- the heap before the call, with no moves
   abbrev pub fresh_heap : Held (Opened D)
   fresh_heap = record old.heap { moves = []; spare = spare }
@@ -103,7 +113,7 @@ module _ {D M : Type 0} (faults : D → ℕ) (m : MediaGhosts M) (old : Grounded
   abbrev pub WorksIn : Result Reply Stop → Type 0
   WorksIn result =
       (w : World) → HeapStandsFor (heap_in fresh_heap) w → IsReady w
-      → Spends (image_heap faults) (call_lines (heap_in fresh_heap) w call) fresh_heap heap (past_media result)
+      → Spends (image_heap d) (call_lines (heap_in fresh_heap) w call) fresh_heap heap (past_media result)
 
   -- what it tells of media
   abbrev pub AsksIn : Result Reply Stop → Type 0
@@ -117,31 +127,33 @@ module _ {D M : Type 0} (faults : D → ℕ) (m : MediaGhosts M) (old : Grounded
     shown = page;
     stopped = old.stopped;
     idle = false;
-    moment = old.moment;
+    moment = time;
     restored = old.restored;
   }
 
   -- what was quiet since then was quiet
-  pub quiet_of : {T : Type 0} {lines : ℕ} {result : Result T Stop} → Spends (image_heap faults) lines fresh_heap heap result
-      → IsQuiet fresh_heap.cells heap.cells × (heap.size ≡ fresh_heap.size)
-  quiet_of works = works.quiet fresh_heap (record { disk = refl; frame = refl; begun = refl; failed = refl; restored = refl; still_open = λ is. is }, refl)
+  pub quiet_of : {T : Type 0} {lines : ℕ} {result : Result T Stop} → Spends (image_heap d) lines fresh_heap heap result
+      → QuietOn d fresh_heap.cells heap.cells × (heap.size ≡ fresh_heap.size)
+  quiet_of works = works.quiet fresh_heap (quiet_same d.bytes d.tells_crashes d.moment d.may_hold_after fresh_heap.cells, refl)
 
   -- what stands still of a standing
-  stands_on : (new : Grounded D M) (v : GroundState) → StandsInMemory old v → IsQuiet old.heap.cells new.heap.cells → new.heap.size ≡ old.heap.size → (now : State) → now.world.taken ≡ 0
+  stands_on : (new : Grounded D M) (v : GroundState) → StandsInMemory old v → QuietOn d old.heap.cells new.heap.cells
+      → new.heap.cells.failed ≡ false → new.heap.size ≡ old.heap.size → (now : State) → (now.demand ≡ no_demand → ⊥) → now.world.taken ≡ 0
       → now.world.shown ≡ new.shown → HasStood old.heap.size now.world → (new.stopped ≡ false → StandsWithin new.heap new.shown now)
       → new.idle ≡ false
       → StandsInMemory new (record { before = v.before; now = now; moves = new.heap.moves })
-  stands_on new v at q size now taken gave stood within made = record {
-    sound = q.failed ∙ at.sound;
-    size = ap (λ (bytes : List ℕ). length bytes) q.begun ∙ at.size ∙ sym size;
+  stands_on new v at q sound size now asked taken gave stood within made = record {
+    sound = sound;
+    size = ap (λ (bytes : List ℕ). length bytes) (q.begun sound) ∙ at.size ∙ sym size;
     before =
         subst (λ (f : Frame). StandsAtRest (room_of f) new.heap.cells.begun v.before) (sym q.frame)
-        (subst (λ (bytes : List ℕ). StandsAtRest (room_of old.heap.cells.frame) bytes v.before) (sym q.begun) at.before);
+        (subst (λ (bytes : List ℕ). StandsAtRest (room_of old.heap.cells.frame) bytes v.before) (sym (q.begun sound)) at.before);
     taken = taken;
     gave = gave;
     stood = subst (λ (n : ℕ). HasStood n now.world) (sym size) stood;
     now = within;
     idle = λ idle. absurd (true≢false (sym idle ∙ made));
+    untouched = λ none. absurd (asked none);
     moves = refl;
   }
 
@@ -239,7 +251,9 @@ module _ {D M : Type 0} (faults : D → ℕ) (m : MediaGhosts M) (old : Grounded
         let within = within_answered v at moves reply q.0.frame works.room.most ans in
         record {
           for = record { before = v.before; now = after; moves = heap.moves };
-          holds = stands_on going_ground v at q.0 q.1 after (ans.taken ∙ at.taken) ans.gave
+          holds = stands_on going_ground v at q.0 works.cause.explained.1 q.1 after
+              (asked_some v.now.demand v.now.world call (record { moves = heap.moves; after = ans.after; reply = reply }))
+              (ans.taken ∙ at.taken) ans.gave
               (subst (λ (n : ℕ). HasStood n ans.after) q.1 (stood_of within)) (λ _. within) refl;
           tells = record {
             steps = steps_to v at moves ans.after reply q.0.frame (inl ans.row)
@@ -270,7 +284,9 @@ module _ {D M : Type 0} (faults : D → ℕ) (m : MediaGhosts M) (old : Grounded
         let few = works.room.most in
         record {
           for = record { before = v.before; now = after; moves = heap.moves };
-          holds = stands_on going_ground v at q.0 q.1 after at.taken (at.gave ∙ sym stays.2) at.stood
+          holds = stands_on going_ground v at q.0 works.cause.explained.1 q.1 after
+              (asked_some v.now.demand v.now.world call (record { moves = heap.moves; after = v.now.world; reply = replies.MediaFault }))
+              at.taken (at.gave ∙ sym stays.2) at.stood
               (λ _. within_same v at moves heap replies.MediaFault refl refl refl stays.1 stays.2 (omega (arith, few, lines))) refl;
           tells = record {
             steps = steps_to v at moves v.now.world replies.MediaFault q.0.frame
@@ -290,7 +306,7 @@ module _ {D M : Type 0} (faults : D → ℕ) (m : MediaGhosts M) (old : Grounded
     shown = page;
     stopped = not (is_reading call);
     idle = false;
-    moment = old.moment;
+    moment = time;
     restored = old.restored;
   }
 
@@ -318,7 +334,9 @@ module _ {D M : Type 0} (faults : D → ℕ) (m : MediaGhosts M) (old : Grounded
         let after = next v at moves v.now.world (replies.Refused refusal) in
         record {
           for = record { before = v.before; now = after; moves = moves_left refusal heap.moves };
-          holds = stands_on (refused_ground refusal n) v at q.0 q.1 after at.taken (at.gave ∙ sym s.2) at.stood
+          holds = stands_on (refused_ground refusal n) v at q.0 works.cause.explained.1 q.1 after
+              (asked_some v.now.demand v.now.world call (record { moves = heap.moves; after = v.now.world; reply = replies.Refused refusal }))
+              at.taken (at.gave ∙ sym s.2) at.stood
               (λ going_on.
               let reads = reads_only (is_reading call) going_on in
               let none = reading_lines (heap_in fresh_heap) v.now.world call reads in
@@ -362,7 +380,9 @@ module _ {D M : Type 0} (faults : D → ℕ) (m : MediaGhosts M) (old : Grounded
         (small_in fresh_heap w.keeps) aim.0.row aim.0.answered in
         record {
           for = record { before = v.before; now = after; moves = [] };
-          holds = stands_on (refused_ground (refusals.LogFull lines room) n) v at q.0 q.1 after at.taken (at.gave ∙ sym aim.2) at.stood
+          holds = stands_on (refused_ground (refusals.LogFull lines room) n) v at q.0 works.cause.explained.1 q.1 after
+              (asked_some v.now.demand v.now.world call (record { moves = []; after = v.now.world; reply = reply }))
+              at.taken (at.gave ∙ sym aim.2) at.stood
               (λ going_on. absurd (true≢false (ap not (sym aim.1) ∙ going_on))) refl;
           tells = record {
             steps = subst (λ (b : Ground). StepsOn b v.now call (record { reply = reply; moves = []; after = after })) (sym w.base) (record {
@@ -407,50 +427,35 @@ module _ {D M : Type 0} (faults : D → ℕ) (m : MediaGhosts M) (old : Grounded
       (λ room d w. tt)
       (λ w stands served. let r = comes.each w stands served in (r.step, r.left, r.gave)) works asks
 
--- what a call brings in memory it brings on its disk, where the disk is quiet and the moment the same
-pub brings_quiet : {D M : Type 0} (told : D → Option (List ℕ)) (moment : D → ℕ)
-    (may_hold_after : D → ℕ → List ℕ → Type 0)
-    {P : GroundState → GroundState → Type 0} (old new : Grounded D M) → IsQuiet old.heap.cells new.heap.cells → new.moment ≡ old.moment
-    → Brings StandsInMemory old new P → Brings (λ g v. StandsForBoth told moment may_hold_after g v) old new P
-brings_quiet told moment may_hold_after old new q same brings = record {
-  each = λ v at.
-      let s = brings.each v at.memory in
-      record {
-        for = s.for;
-        holds = record {
-          rests = rests_same told moment may_hold_after old.heap.cells new.heap.cells q at.rests;
-          moment_is = λ x tells. same ∙ at.moment_is x (sym (ap told q.disk) ∙ tells) ∙ sym (ap moment q.disk);
-          memory = s.holds;
-        };
-        tells = s.tells;
-      };
-}
+-- A call within the transaction of a ground whose moment is its disk's still.
+module _ {D M : Type 0} (d : DiskGhosts D) (old new : Grounded D M) (q : QuietOn d old.heap.cells new.heap.cells)
+    (seen : new.moment ≡ d.moment new.heap.cells.disk) where
+  -- what it brings in memory it brings on its disk
+  pub brings_quiet : {P : GroundState → GroundState → Type 0} → Brings StandsInMemory old new P
+      → Brings (λ g v. StandsForBoth d.bytes d.tells_crashes d.moment d.may_hold_after g v) old new P
+  brings_quiet brings = record {
+    each = λ v at.
+        let s = brings.each v at.memory in
+        record { for = s.for; holds = record { rests = q.rests at.rests; moment_is = seen; memory = s.holds }; tells = s.tells };
+  }
 
--- where the disk is the same and its moment too, a crash leaves the state before
-pub leaves_quiet : {D M : Type 0} (told : D → Option (List ℕ)) (moment faults : D → ℕ) (may_hold_after : D → ℕ → List ℕ → Type 0)
-    (media : MediaGhosts M) (old new : Grounded D M) → new.heap.cells.disk ≡ old.heap.cells.disk → new.moment ≡ old.moment → LeavesBefore (heap_ground told moment faults may_hold_after media) old new
-leaves_quiet {D} told moment faults may_hold_after media old new disk same = record {
-  each = λ v at. record {
-    later = omega (arith, same);
-    each = λ m image ge le l.
-        let here : m ≡ old.moment = omega (arith, ge, le, same) in
-        crash_now told moment may_hold_after old v image at
-        (subst (λ (n : ℕ). Leaves told may_hold_after old.heap.cells.disk n image) here
-        (subst (λ (d : D). Leaves told may_hold_after d m image) disk l));
-    past = λ m image le l. subst (λ (d : D). Leaves told may_hold_after d m image) disk l;
-  };
-}
+  -- a crash leaves the state before, unless the disk had failed
+  pub leaves_quiet : (media : MediaGhosts M) → old.heap.cells.failed ≡ false → old.moment ≤ new.moment
+      → LeavesBefore (heap_ground d.bytes d.tells_crashes d.moment d.faults d.may_hold_after media) old new
+  leaves_quiet media sound since =
+      leaves_back d.bytes d.tells_crashes d.moment d.faults d.may_hold_after media old new.heap.cells.disk new.moment seen since sound
+      q.disk.tells (GivesHeap old.heap.cells.begun) (q.any_moment sound) new refl refl (λ image gives. gives)
 
--- no call on blocks meets a disk fault
-pub no_fault : {D : Type 0} (faults : D → ℕ) (old new : Held (Opened D)) (lines : ℕ) → old.cells.failed ≡ false
-    → (stop : Stop) → Spends (image_heap faults) lines old new (past_stop stop) → (stop ≡ stops.DiskFault) ⊎ (stop ≡ stops.Failed) → ⊥
-no_fault faults old new lines sound stop works (inl is) =
-    let e = subst (λ (s : Stop). Explains (transaction_of faults old.cells) (transaction_of faults new.cells) (past_stop s)) is works.cause.explained in
-    let q = works.quiet old (record { disk = refl; frame = refl; begun = refl; failed = refl; restored = refl; still_open = λ is. is }, refl) in
-    true≢false (sym e.1 ∙ q.0.failed ∙ sound)
-no_fault faults old new lines sound stop works (inr is) =
-    let e = subst (λ (s : Stop). Explains (transaction_of faults old.cells) (transaction_of faults new.cells) (past_stop s)) is works.cause.explained in
-    true≢false (sym e.0 ∙ sound)
+-- no call on blocks fails again where the disk hadn't failed
+pub not_failed : {D : Type 0} (d : DiskGhosts D) (old new : Held (Opened D)) (lines : ℕ) → old.cells.failed ≡ false
+    → Spends (image_heap d) lines old new (past_media {T = Reply} (Err stops.Failed)) → ⊥
+not_failed d old new lines sound works = true≢false (sym works.cause.explained.0 ∙ sound)
+
+-- and where one meets a disk fault, the disk has failed, whose count rose
+pub has_failed : {D : Type 0} (d : DiskGhosts D) (old new : Held (Opened D)) (lines : ℕ)
+    → Spends (image_heap d) lines old new (past_media {T = Reply} (Err stops.DiskFault))
+    → (new.cells.failed ≡ true) × Rose (d.faults old.cells.disk) (d.faults new.cells.disk)
+has_failed d old new lines works = (works.cause.explained.1, works.cause.explained.2)
 
 -- a reply that answers dooms nothing
 pub answers_no_doom : (call : Call) (reply : Reply) → is_answer reply ≡ true → dooms call reply ≡ false

@@ -1,12 +1,11 @@
 -- A heap on an image as the ground of a lock: what it stands for.
-use Rattle.std.specs.Prelude.{◌≡◌, ◌≤◌, ◌*◌, ℕ, Bool, true, false, List, length, Option, Some, is_some}
+use Rattle.std.specs.Prelude.{◌≡◌, ◌≤◌, ◌*◌, ℕ, Bool, true, false, List, [], length, Some}
 use Rattle.sdr_stands.specs.Standing.{HeapStandsFor, StandsForWhole}
 use Rattle.sdr_base.specs.Entries.{Few}
 use Rattle.sdr_base.specs.KeptHeap.{KeepsRegion, block_in, root_in}
 use Rattle.sdr_base.specs.Objects.{Heap}
 use Rattle.sdr_base.specs.Pools.{Pools}
 use Rattle.sdr_base.specs.declared.line.TheConstants.{LINE, MOST_LINES}
-use Rattle.sdr_disk.specs.Told.{Both, IfTold}
 use Rattle.sdr_heap.specs.Noted.{Held, marked_in}
 use Rattle.sdr_image.specs.Opened.{Opened, Rests}
 use Rattle.sdr_machine.specs.Demand.{most_lines, no_demand}
@@ -29,6 +28,10 @@ pub record Grounded (D M : Type 0) : Type 0 where
   pub idle : Bool
   pub moment : ℕ
   pub restored : ℕ
+
+-- the ground whose moves are forgotten, with memory for so many
+abbrev pub without_moves : {D M : Type 0} → Grounded D M → ℕ → Grounded D M
+without_moves g spare = record g { heap = record g.heap { moves = []; spare = spare } }
 
 -- its disk hasn't failed
 abbrev pub HasDiskSound : {D M : Type 0} → Grounded D M → Type 0
@@ -87,7 +90,7 @@ pub record HasStood (size : ℕ) (w : World) : Type 0 where
 -- The heap in memory, whose disk hasn't failed, stands for the states before the transaction and now: the bytes at begin stand
 -- for the one, and for the other the heap does, unless a call was stopped on its way. The moves are the heap's, and the bytes
 -- that are shown are those that stand here. A heap of this size has stood for the world now. Where no call was made in the
--- transaction, both states are the same.
+-- transaction, both states are the same; and where nothing was asked in it, no line is touched.
 pub record StandsInMemory {D M : Type 0} (g : Grounded D M) (v : GroundState) : Type 0 where
   pub sound : g.heap.cells.failed ≡ false
   pub size : length g.heap.cells.begun ≡ g.heap.size
@@ -97,13 +100,15 @@ pub record StandsInMemory {D M : Type 0} (g : Grounded D M) (v : GroundState) : 
   pub stood : HasStood g.heap.size v.now.world
   pub now : g.stopped ≡ false → StandsWithin g.heap g.shown v.now
   pub idle : g.idle ≡ true → v.now ≡ v.before
+  pub untouched : v.now.demand ≡ no_demand → g.heap.cells.touched ≡ []
   pub moves : v.moves ≡ g.heap.moves
 
--- A heap on an image stands for the states before the transaction and now: it does so in memory, and the disk rests.
-pub record StandsForBoth {D M : Type 0} (told : D → Option (List ℕ)) (moment : D → ℕ) (may_hold_after : D → ℕ → List ℕ → Type 0)
+-- A heap on an image stands for the states before the transaction and now: it does so in memory, and the disk rests, where it tells
+-- what a crash may leave.
+pub record StandsForBoth {D M : Type 0} (bytes : D → List ℕ) (tells : D → Bool) (moment : D → ℕ) (may_hold_after : D → ℕ → List ℕ → Type 0)
     (g : Grounded D M) (v : GroundState) : Type 0 where
-  pub rests : Rests told moment may_hold_after g.heap.cells
-  pub moment_is : IfTold (told g.heap.cells.disk) (λ _. g.moment ≡ moment g.heap.cells.disk)
+  pub rests : Rests bytes tells moment may_hold_after g.heap.cells
+  pub moment_is : g.moment ≡ moment g.heap.cells.disk
   pub memory : StandsInMemory g v
 
 -- the heap in memory stands for something
@@ -132,12 +137,10 @@ pub record IsGround {D M : Type 0} (moment : D → ℕ) (g : Grounded D M) : Typ
   pub going : g.idle ≡ true → g.stopped ≡ false
   pub stands : g.heap.cells.failed ≡ false → StandsSome g
 
--- what a crash at a moment may leave of a disk that tells its bytes
-pub record Leaves {D : Type 0} (told : D → Option (List ℕ)) (may_hold_after : D → ℕ → List ℕ → Type 0) (disk : D)
-    (m : ℕ)
+-- what a crash at a moment may leave of a disk that tells it
+pub record Leaves {D : Type 0} (tells_crashes : D → Bool) (may_hold_after : D → ℕ → List ℕ → Type 0) (disk : D) (m : ℕ)
     (image : List ℕ) : Type 0 where
-  pub bytes : List ℕ
-  pub tells : told disk ≡ Some bytes
+  pub tells : tells_crashes disk ≡ true
   pub left : may_hold_after disk m image
 
 -- opening the image gives bytes that stand for the state
@@ -147,8 +150,8 @@ pub record OpensAs (image : List ℕ) (s : State) : Type 0 where
   pub room : ℕ
   pub stands : StandsAtRest room heap s
 
--- The disk has the same regions and tells its bytes if it did, and none of its bytes outside the regions changes.
-pub record StaysInside {D M : Type 0} (told : D → Option (List ℕ)) (old new : Grounded D M) : Type 0 where
+-- The disk has the same regions and tells what a crash may leave if it did, and none of its bytes outside the regions changes.
+pub record StaysInside {D M : Type 0} (bytes : D → List ℕ) (tells_crashes : D → Bool) (old new : Grounded D M) : Type 0 where
   pub frame : new.heap.cells.frame ≡ old.heap.cells.frame
-  pub tells : is_some (told new.heap.cells.disk) ≡ is_some (told old.heap.cells.disk)
-  pub outside : Both (told old.heap.cells.disk) (told new.heap.cells.disk) (KeepsOutside old.heap.cells.frame)
+  pub tells : tells_crashes new.heap.cells.disk ≡ tells_crashes old.heap.cells.disk
+  pub outside : KeepsOutside old.heap.cells.frame (bytes old.heap.cells.disk) (bytes new.heap.cells.disk)

@@ -1,5 +1,5 @@
 -- When a heap is opened.
-use Rattle.std.specs.Prelude.{◌≡◌, ℕ, List, [], false, true, ⊤, Option, None, Some, Result, Ok, Err}
+use Rattle.std.specs.Prelude.{◌≡◌, ℕ, Bool, List, [], false, true, ⊤, None, Some, Result, Ok, Err}
 use Rattle.sdr_stands.specs.Standing.{StandsForWhole}
 use Rattle.sdr_base.specs.Causes.{Rose}
 use Rattle.sdr_base.specs.Parts.{part}
@@ -10,7 +10,7 @@ use Rattle.sdr_audit.specs.declared.error.AuditError.{AuditError}
 use Rattle.sdr_audit.specs.declared.error.AuditError.TheVariants as audits
 use Rattle.audit_blocks.specs.declared.error.Check.{Check}
 use Rattle.sdr_disk.specs.Pending.{IsSynced}
-use Rattle.sdr_disk.specs.Told.{Both, IfTold}
+use Rattle.sdr_disk.specs.Tells.{IfTells}
 use Rattle.sdr_image.specs.Opening.{FailsOpening, MayBeOpened}
 use Rattle.sdr_image.specs.declared.error.ImageError.{ImageError}
 use Rattle.sdr_image.specs.declared.error.ImageError.TheVariants as images
@@ -36,19 +36,18 @@ first_on g =
 
 -- A heap was opened at its disk's moment: the disk gives its bytes, and so many lines of its open batches were put back. The heap in memory stands for the
 -- world that they tell; so does the heap on its disk, where nothing was pending on the disk, or a recovery was stopped.
-pub record IsOpen {D M : Type 0} (told : D → Option (List ℕ)) (moment : D → ℕ)
-    (may_hold_after : D → ℕ → List ℕ → Type 0)
-    (disk : D) (g : Grounded D M) : Type 0 where
+pub record IsOpen {D M : Type 0} (bytes : D → List ℕ) (tells : D → Bool) (moment : D → ℕ)
+    (may_hold_after : D → ℕ → List ℕ → Type 0) (disk : D) (g : Grounded D M) : Type 0 where
   pub going : g.stopped ≡ false
   pub idle : g.idle ≡ true
   pub sound : g.heap.cells.failed ≡ false
   pub seen : g.moment ≡ moment g.heap.cells.disk
-  pub head : IfTold (told disk) (λ x. frame_of (part 0 LINE x) ≡ Some g.heap.cells.frame)
-  pub gives : IfTold (told disk) (λ x. put_back_of x ≡ Some g.heap.cells.begun)
-  pub back : Both (told disk) (told g.heap.cells.disk) (PutsBack g.heap.cells.frame g.restored)
+  pub head : frame_of (part 0 LINE (bytes disk)) ≡ Some g.heap.cells.frame
+  pub gives : put_back_of (bytes disk) ≡ Some g.heap.cells.begun
+  pub back : PutsBack g.heap.cells.frame g.restored (bytes disk) (bytes g.heap.cells.disk)
   pub memory : StandsInMemory g (standing_at (first_on g) [])
-  pub stands : IfTold (told disk) (λ x. MayBeOpened x (may_hold_after disk (moment disk)))
-      → StandsForBoth told moment may_hold_after g (standing_at (first_on g) [])
+  pub stands : IfTells (tells disk) (MayBeOpened (bytes disk) (may_hold_after disk (moment disk)))
+      → StandsForBoth bytes tells moment may_hold_after g (standing_at (first_on g) [])
 
 -- the disk of a heap that was opened, or of what is left where none was
 abbrev pub disk_of : {D M : Type 0} → Result (Grounded D M) (Shut D M) → D
@@ -67,12 +66,12 @@ pub record GivesDamaged (place : ℕ) (why : Check) (x : List ℕ) : Type 0 wher
   pub wrong : IsWrongFirst heap why place
   pub none : (w : World) (P : Pools) → StandsForWhole heap w P → ⊥
 
--- why a heap wasn't opened, where the disk told these bytes, and its count of faults was so and is so
-abbrev pub ExplainsOpen : Option (List ℕ) → ℕ → ℕ → OpenError → Type 0
-ExplainsOpen told before now errors.NotFormatted = IfTold told (λ x. put_back_of x ≡ None)
-ExplainsOpen told before now (errors.Damaged place why) = IfTold told (GivesDamaged place why)
-ExplainsOpen told before now errors.DiskFault = Rose before now
-ExplainsOpen told before now errors.NoMemory = ⊤
+-- why a heap wasn't opened, where the disk had these bytes, and its count of faults was so and is so
+abbrev pub ExplainsOpen : List ℕ → ℕ → ℕ → OpenError → Type 0
+ExplainsOpen x before now errors.NotFormatted = put_back_of x ≡ None
+ExplainsOpen x before now (errors.Damaged place why) = GivesDamaged place why x
+ExplainsOpen x before now errors.DiskFault = Rose before now
+ExplainsOpen x before now errors.NoMemory = ⊤
 
 -- The open batches of a disk, in some regions, are put back and closed.
 pub record ArePutBack (x y : List ℕ) : Type 0 where
@@ -82,10 +81,10 @@ pub record ArePutBack (x y : List ℕ) : Type 0 where
 
 -- what a heap that wasn't opened leaves of the disk's bytes: the same, where the disk gives none; and where it is damaged, the open
 -- batches are put back and closed
-abbrev pub LeavesBytes : Option (List ℕ) → Option (List ℕ) → OpenError → Type 0
-LeavesBytes old new errors.NotFormatted = new ≡ old
-LeavesBytes old new (errors.Damaged place why) = Both old new ArePutBack
-LeavesBytes old new why = ⊤
+abbrev pub LeavesBytes : List ℕ → List ℕ → OpenError → Type 0
+LeavesBytes x y errors.NotFormatted = y ≡ x
+LeavesBytes x y (errors.Damaged place why) = ArePutBack x y
+LeavesBytes x y why = ⊤
 
 -- what holds where the disk didn't fail
 abbrev pub UnlessFault : OpenError → Type 0 → Type 0
@@ -104,13 +103,13 @@ OnDamaged why P = ⊤
 
 -- A heap wasn't opened, for this reason, and its disk might be opened before: so it may again, unless it failed as its recovery closed
 -- the first gate. Where the heap is damaged nothing is pending: what was put back is synced.
-pub record MayBeAgain {D : Type 0} (told : D → Option (List ℕ)) (moment : D → ℕ) (may_hold_after : D → ℕ → List ℕ → Type 0)
+pub record MayBeAgain {D : Type 0} (bytes : D → List ℕ) (tells : D → Bool) (moment : D → ℕ) (may_hold_after : D → ℕ → List ℕ → Type 0)
     (old new : D) (why : OpenError) : Type 0 where
-  pub again : IfTold (told old) (λ x. MayBeOpened x (may_hold_after old (moment old)))
-      → UnlessFault why (IfTold (told new) (λ y. MayBeOpened y (may_hold_after new (moment new))))
-  pub faulted : OnFault why (FailsOpening told moment may_hold_after old new)
-  pub synced : IfTold (told old) (λ x. MayBeOpened x (may_hold_after old (moment old)))
-      → OnDamaged why (IsSynced told moment may_hold_after new)
+  pub again : IfTells (tells old) (MayBeOpened (bytes old) (may_hold_after old (moment old)))
+      → UnlessFault why (IfTells (tells new) (MayBeOpened (bytes new) (may_hold_after new (moment new))))
+  pub faulted : OnFault why (FailsOpening bytes tells moment may_hold_after old new)
+  pub synced : IfTells (tells old) (MayBeOpened (bytes old) (may_hold_after old (moment old)))
+      → OnDamaged why (IsSynced bytes tells moment may_hold_after new)
 
 -- an image's error as a heap's
 abbrev pub IsOfImage : ImageError → OpenError → Type 0

@@ -1,18 +1,19 @@
 // A transaction on the world that a disk keeps.
-ghost use Rattle.std.specs.Prelude.{◌≡◌, ◌≤◌, ◌<◌, ◌+◌, ◌/◌, None, false, true, IfErr, IfOk};
-ghost use Rattle.sdr_disk.specs.Moments.{AtEach};
-ghost use Rattle.sdr_disk.specs.Told.{IfTold};
+ghost use Rattle.std.specs.Prelude.{◌≡◌, ◌≤◌, ◌<◌, ◌+◌, ◌*◌, ◌/◌, None, false, true, IfErr, IfOk};
+ghost use Rattle.sdr_disk.specs.Moments.{AtEach, Reads};
+ghost use Rattle.sdr_disk.specs.Tells.{IfTells};
 ghost use Rattle.sdr_image.specs.Opened.{IsQuiet};
 ghost use Rattle.sdr_image.specs.Opening.{MayBeOpened};
 ghost use Rattle.sdr_machine.specs.Crash.{LeavesBefore, LeavesOr, is_kept, commits_in};
 ghost use Rattle.sdr_machine.specs.Nesting.{cancelled, closing, ended, unbegun};
 ghost use Rattle.sdr_model.specs.Reading.{is_reading};
 ghost use Rattle.sdr_log.specs.Calls.{KeepsDisk};
+ghost use Rattle.sdr_log.specs.Log.{first_gate};
 ghost use Rattle.sdr_log.specs.Logged.{GivesSame};
 ghost use Rattle.sdr_station.specs.Giving.{AsksMedia, Fills, GivesReply};
 ghost use Rattle.sdr_station.specs.Opening.{ExplainsOpen, IsOpen, LeavesBytes};
 ghost use Rattle.sdr_station.specs.Rooming.{MovesAtMost, TellsRoom};
-ghost use Rattle.sdr_station.specs.Stationed.{Begins, Closes, ClosesBy, HasRisen, IsTicketTold, LooksAt, SaysOr, StaysLooked};
+ghost use Rattle.sdr_station.specs.Stationed.{Begins, Closes, ClosesBy, HasRisen, IsTicketTold, IsUnmade, LooksAt, SaysOr, StaysLooked};
 ghost use Rattle.sdr_station.specs.Stationed.{closed_as, disk_under, media_under};
 
 use crate::HeapGround;
@@ -97,18 +98,25 @@ impl<D: Disk, M: Media, F: Notify + Drop> Station<D, M, F> {
         media: M,
         notice: Notice<F>,
     ) -> Result<Station<D, M, F>, Shut<D, M>>
-        ensures opened { IfOk result (λ s. IsOpen D.bytes D.moment D.may_hold_after disk s.ground) }
+        ensures opened { IfOk result (λ s. IsOpen D.bytes D.tells_crashes D.moment D.may_hold_after
+            disk s.ground) }
         ensures idle { IfOk result (λ s. (s.nesting ≡ unbegun) × (s.failed ≡ None)) }
         ensures why { IfErr result (λ shut.
             ExplainsOpen (D.bytes disk) (D.faults disk) (D.faults shut.disk) shut.why) }
-        ensures disk { KeepsDisk D.size D.bytes disk (disk_under result) }
+        ensures disk { KeepsDisk D.bytes D.tells_crashes disk (disk_under result) }
         ensures media { media_under result ≡ media }
         ensures bytes { IfErr result (λ shut.
             LeavesBytes (D.bytes disk) (D.bytes shut.disk) shut.why) }
         ensures later { D.faults disk ≤ D.faults (disk_under result) }
-        ensures any_moment { IfTold (D.bytes disk) (λ x.
-            MayBeOpened x (D.may_hold_after disk (D.moment disk))
-            → AtEach D.moment D.may_hold_after disk (disk_under result) (GivesSame x)) }
+        ensures quiet { first_gate (D.bytes disk) ≡ 0 → Reads D.bytes D.tells_crashes D.moment
+            D.may_hold_after disk (disk_under result) }
+        ensures forward { D.moment disk ≤ D.moment (disk_under result) }
+        ensures calls { IfOk result (λ s.
+            D.moment s.ground.heap.cells.disk ≤ D.moment disk + 2 * (s.ground.restored + 3)) }
+        ensures any_moment { IfTells (D.tells_crashes disk)
+            (MayBeOpened (D.bytes disk) (D.may_hold_after disk (D.moment disk))
+            → AtEach D.moment D.may_hold_after disk (disk_under result) (GivesSame
+            (D.bytes disk))) }
     {
         match HeapGround::open(alloc, disk, media, notice) {
             Ok(ground) => Ok(Station {
@@ -120,16 +128,23 @@ impl<D: Disk, M: Media, F: Notify + Drop> Station<D, M, F> {
         }
     }
 
-    /// Whether a ticket is granted, outside a transaction. No line is touched.
+    /// Whether a ticket is granted, outside a transaction. The disk is only read. Where it fails, the look answers `DiskFault`.
     pub fn look(&mut self, ticket: u64) -> Result<bool, Stop>
         requires outside { self.old.nesting.depth ≡ 0 }
-        ensures looks { LooksAt ticket self.old result }
-        ensures still { StaysLooked self.old self.new }
+        ensures looks { LooksAt ⟦<HeapGround<D, M, F> as HasGround>⟧ ticket self.old self.new
+            result }
+        ensures still { StaysLooked D.Disk self.old self.new }
     {
         if self.failed.is_some() {
             return Err(Stop::Failed);
         }
-        Self::ticket_told(ticket, self.ground.look(ticket))
+        match self.ground.look(ticket) {
+            Ok(shown) => Self::ticket_told(ticket, shown),
+            Err(Fault) => {
+                self.failed = Some(self.ground.moment());
+                Err(Stop::DiskFault)
+            }
+        }
     }
 
     // What is told of a ticket that is shown so.
@@ -193,10 +208,11 @@ impl<D: Disk, M: Media, F: Notify + Drop> Station<D, M, F> {
 
     /// Makes a call. Where it gives bytes, they are put at the front of the buffer, and the reply tells how many.
     ///
-    /// In a doomed transaction it is refused `Doomed`, and after a disk fault it answers `Failed`. Else it is refused as its
+    /// In a doomed transaction it is refused `Doomed`, and after a disk fault it answers `Failed`, both without moves. Else it is refused as its
     /// row has it, or for want of a block (`NoBlock`) or of log room (`LogFull`), which dooms where it is a change. A fault of
     /// media, or too few bytes of them (`SourceShort`), dooms nothing. Media are asked at most once for each extent that
-    /// lies with them and of which the call needs bytes. It makes no call of the disk, and a reading call touches no line.
+    /// lies with them and of which the call needs bytes. A reading call touches no line. Where the disk fails, it answers
+    /// `DiskFault`, and the transaction is as deep as before.
     pub fn call(&mut self, call: &Call, into: &mut [u8; PAGE]) -> Reply
         requires begun { 0 < self.old.nesting.depth }
         ensures says { SaysOr ⟦<HeapGround<D, M, F> as HasGround>⟧ call.now result
@@ -204,7 +220,8 @@ impl<D: Disk, M: Media, F: Notify + Drop> Station<D, M, F> {
         ensures asks { AsksMedia M.Media call.now self.old.ground self.new.ground }
         ensures depth { self.new.nesting.depth ≡ self.old.nesting.depth }
         ensures fills { Fills self.new.ground result into.old into.new }
-        ensures quiet { IsQuiet self.old.ground.heap.cells self.new.ground.heap.cells }
+        ensures quiet { IsQuiet D.bytes D.tells_crashes D.moment D.may_hold_after
+            self.old.ground.heap.cells self.new.ground.heap.cells }
         ensures lines { is_reading call.now ≡ true
             → self.new.ground.heap.cells.touched ≡ self.old.ground.heap.cells.touched }
         ensures any_moment { LeavesBefore ⟦<HeapGround<D, M, F> as HasGround>⟧
@@ -226,6 +243,13 @@ impl<D: Disk, M: Media, F: Notify + Drop> Station<D, M, F> {
         }
     }
 
+    // Forgets the moves of the call before one that isn't made.
+    fn leave_unmade(&mut self)
+        ensures { IsUnmade self.old self.new }
+    {
+        self.ground.forget();
+    }
+
     // Makes a call.
     fn reply(&mut self, call: &Call) -> Reply
         requires begun { 0 < self.old.nesting.depth }
@@ -234,24 +258,34 @@ impl<D: Disk, M: Media, F: Notify + Drop> Station<D, M, F> {
         ensures asks { AsksMedia M.Media call.now self.old.ground self.new.ground }
         ensures depth { self.new.nesting.depth ≡ self.old.nesting.depth }
         ensures gives { GivesReply result self.new.ground }
-        ensures quiet { IsQuiet self.old.ground.heap.cells self.new.ground.heap.cells }
+        ensures quiet { IsQuiet D.bytes D.tells_crashes D.moment D.may_hold_after
+            self.old.ground.heap.cells self.new.ground.heap.cells }
         ensures lines { is_reading call.now ≡ true
             → self.new.ground.heap.cells.touched ≡ self.old.ground.heap.cells.touched }
         ensures any_moment { LeavesBefore ⟦<HeapGround<D, M, F> as HasGround>⟧
             self.old.ground self.new.ground }
     {
         if let Some(moment) = self.failed {
+            self.leave_unmade();
             return Reply::Failed { moment };
         }
         if let Some(by) = self.nesting.doom {
+            self.leave_unmade();
             return Reply::Refused(Refusal::Doomed { by });
         }
-        let reply = self.ground.serve(call);
-        self.nesting.note(call, reply);
-        reply
+        match self.ground.serve(call) {
+            Ok(reply) => {
+                self.nesting.note(call, reply);
+                reply
+            }
+            Err(Fault) => {
+                self.failed = Some(self.ground.moment());
+                Reply::DiskFault
+            }
+        }
     }
 
-    /// The moves of the last call that was made. One that is refused `Doomed` or answered `Failed` isn't.
+    /// The moves of the last call. One that is refused `Doomed` or answered `Failed` has none.
     pub fn moves(&self) -> &[Move]
         ensures { result.now ≡ self.now.ground.heap.moves }
     {
@@ -276,7 +310,8 @@ impl<D: Disk, M: Media, F: Notify + Drop> Station<D, M, F> {
     fn keep(&mut self) -> Result<Closed, Stop>
         requires sound { self.old.failed ≡ None }
         requires undoomed { self.old.nesting.doom ≡ None }
-        ensures { Closes ⟦<HeapGround<D, M, F> as HasGround>⟧ Close.Ended self.old self.new result }
+        ensures { Closes D.bytes ⟦<HeapGround<D, M, F> as HasGround>⟧ Close.Ended self.old self.new
+            result }
     {
         match self.ground.save() {
             Ok(()) => {
@@ -295,7 +330,7 @@ impl<D: Disk, M: Media, F: Notify + Drop> Station<D, M, F> {
     fn roll_back(&mut self, close: Close) -> Result<Closed, Stop>
         requires sound { self.old.failed ≡ None }
         requires unkept { is_kept close ≡ false }
-        ensures { Closes ⟦<HeapGround<D, M, F> as HasGround>⟧ close self.old self.new result }
+        ensures { Closes D.bytes ⟦<HeapGround<D, M, F> as HasGround>⟧ close self.old self.new result }
     {
         match self.ground.restore() {
             Ok(()) => {
@@ -313,7 +348,7 @@ impl<D: Disk, M: Media, F: Notify + Drop> Station<D, M, F> {
     // Closes the transaction.
     fn close(&mut self, event: &Event) -> Result<Closed, Stop>
         requires sound { self.old.failed ≡ None }
-        ensures { Closes ⟦<HeapGround<D, M, F> as HasGround>⟧ (closing self.old.nesting event.now)
+        ensures { Closes D.bytes ⟦<HeapGround<D, M, F> as HasGround>⟧ (closing self.old.nesting event.now)
             self.old self.new result }
     {
         match self.nesting.closing(event) {
@@ -336,7 +371,7 @@ impl<D: Disk, M: Media, F: Notify + Drop> Station<D, M, F> {
     /// doomed.
     pub fn end(&mut self) -> Result<Closed, Stop>
         requires begun { 0 < self.old.nesting.depth }
-        ensures closes { ClosesBy ⟦<HeapGround<D, M, F> as HasGround>⟧ Event.End ended
+        ensures closes { ClosesBy D.bytes ⟦<HeapGround<D, M, F> as HasGround>⟧ Event.End ended
             self.old self.new result }
         ensures any_moment { LeavesOr (commits_in self.old.nesting Event.End)
             ⟦<HeapGround<D, M, F> as HasGround>⟧ self.old.ground self.new.ground }
@@ -353,7 +388,7 @@ impl<D: Disk, M: Media, F: Notify + Drop> Station<D, M, F> {
     /// Cancels the transaction. An inner cancel dooms it.
     pub fn cancel(&mut self) -> Result<Closed, Stop>
         requires begun { 0 < self.old.nesting.depth }
-        ensures closes { ClosesBy ⟦<HeapGround<D, M, F> as HasGround>⟧ Event.Cancel cancelled
+        ensures closes { ClosesBy D.bytes ⟦<HeapGround<D, M, F> as HasGround>⟧ Event.Cancel cancelled
             self.old self.new result }
         ensures any_moment { LeavesBefore ⟦<HeapGround<D, M, F> as HasGround>⟧
             self.old.ground self.new.ground }
@@ -370,7 +405,7 @@ impl<D: Disk, M: Media, F: Notify + Drop> Station<D, M, F> {
     /// Ends the transaction, which was to change nothing.
     pub fn exit(&mut self) -> Result<Closed, Stop>
         requires begun { 0 < self.old.nesting.depth }
-        ensures closes { ClosesBy ⟦<HeapGround<D, M, F> as HasGround>⟧ Event.Exit ended
+        ensures closes { ClosesBy D.bytes ⟦<HeapGround<D, M, F> as HasGround>⟧ Event.Exit ended
             self.old self.new result }
         ensures any_moment { LeavesBefore ⟦<HeapGround<D, M, F> as HasGround>⟧
             self.old.ground self.new.ground }

@@ -1,7 +1,7 @@
--- Disks that do not tell their bytes.
-use Rattle.std.specs.Prelude.{ℕ, List, None}
-use Rattle.sdr_disk.specs.Told.{IfTold}
+-- Disks that don't tell what a crash may leave.
+use Rattle.std.specs.Prelude.{false}
+use Rattle.sdr_disk.specs.Tells.{IfTells}
 
--- what is said of told bytes holds where none are told
-pub untold : (P : List ℕ → Type 0) → IfTold None P
-untold P x is = absurd cc
+-- what is said of that holds where it isn't told
+pub untold : {P : Type 0} → IfTells false P
+untold told = absurd cc

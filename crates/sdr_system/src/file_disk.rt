@@ -1,13 +1,19 @@
 // A file as a disk.
-ghost use Rattle.std.specs.Prelude.{◌≡◌, ◌↔◌, ◌≤◌, ◌+◌, false, true, is_ok, None, IfOk, IsTrue, OnErr, OnOk};
+ghost use Rattle.std.specs.Prelude.{◌≡◌, ◌↔◌, ◌≤◌, ◌+◌, false, true, is_ok, length, min, IfOk, IsTrue};
+ghost use Rattle.std.specs.Prelude.{OnErr, OnOk};
 ghost use Rattle.sdr_base.specs.Causes.{HasCause, counted};
 ghost use Rattle.sdr_disk.specs.Moments.{IsAtEnd};
 
+use sdr_base::{Bytes, MOST_LINES};
 use sdr_disk::{Disk, DiskFault};
+use std::alloc::Global;
 use std::fs::{Metadata, OpenFile};
 use std::io;
 use std::io::ErrorKind;
 use std::os::unix::fs::FileExt;
+
+/// The most bytes that a head and the regions of a heap take. Behind them nothing is ever read or written.
+pub const MOST_BYTES: u64 = 64 * (1 + 65_536 + MOST_LINES);
 
 /// What isn't a file of a fixed length is an error, which says what it is.
 pub fn check_kind(found: &Metadata) -> io::Result<()> {
@@ -21,59 +27,68 @@ pub fn check_kind(found: &Metadata) -> io::Result<()> {
     Err(io::Error::new(ErrorKind::InvalidInput, why))
 }
 
-/// A file of a fixed length as a disk. It tells nothing of its bytes, and counts each error as a
-/// fault.
+/// A file of a fixed length as a disk: the bytes of the largest disk, where it is longer. It counts each
+/// error as a fault, and tells nothing of what a crash may leave.
+///
+/// It holds a copy of the file's bytes, which is read once, as it is opened. A read gives what the copy has.
+/// A write is made to the file and then to the copy; where it fails, the copy has the bytes from before.
 ///
 /// A sync is an `fdatasync`. It makes the bytes last, and whatever the file needs to be read again;
 /// the file's length no call changes, and the times of its last reading and writing no one reads.
 #[derive(Drop)]
 pub struct FileDisk<F> {
     file: F,
-    /// The number of the file's bytes.
-    len: u64,
+    /// The copy of the file's bytes.
+    bytes: Bytes,
     moment: u64,
     faults: u64,
-    /// Whether a sync has failed. The system may have dropped what was written before it, so no
-    /// later sync would tell whether that lasts: each later call fails.
+    /// Whether the file couldn't be read as it was opened, or a sync has failed: then each later call
+    /// fails. The system may have dropped what was written before the sync, so no later one would tell
+    /// whether that lasts.
     broken: bool,
 }
 
 impl<F: FileExt + OpenFile> FileDisk<F> {
-    /// An open file that has so many bytes, on which nothing is pending.
-    pub fn new(file: F, len: u64) -> FileDisk<F>
-        ensures size { ⟦<FileDisk<F> as Disk>⟧.size result ≡ len }
-        ensures faults { ⟦<FileDisk<F> as Disk>⟧.faults result ≡ 0 }
+    /// An open file that has so many bytes, on which nothing is pending. Its bytes are read, and where that
+    /// fails, as that of a file that has become shorter, each call of the disk does.
+    pub fn new(alloc: Global, file: F, len: u64) -> io::Result<FileDisk<F>>
+    where
+        F: Drop,
+        ensures size { IfOk result (λ disk.
+            length (⟦<FileDisk<F> as Disk>⟧.bytes disk) ≡ min len MOST_BYTES) }
+        ensures faults { IfOk result (λ disk. ⟦<FileDisk<F> as Disk>⟧.faults disk ≡ 0) }
     {
-        FileDisk {
+        let mut bytes = vec![in alloc; 0; len.min(MOST_BYTES) as usize]?;
+        let broken = file.read_exact_at(&mut bytes, 0).is_err();
+        Ok(FileDisk {
             file,
-            len,
+            bytes: Bytes::of(bytes),
             moment: 0,
             faults: 0,
-            broken: false,
-        }
+            broken,
+        })
     }
 
     /// A file as a disk, as it stands. What isn't a file is an error.
-    pub fn view(file: F) -> io::Result<FileDisk<F>>
+    pub fn view(alloc: Global, file: F) -> io::Result<FileDisk<F>>
     where
         F: Drop,
         ensures { IfOk result (λ disk. ⟦<FileDisk<F> as Disk>⟧.faults disk ≡ 0) }
     {
         let metadata = file.metadata()?;
         check_kind(&metadata)?;
-        Ok(FileDisk::new(file, metadata.len()))
+        FileDisk::new(alloc, file, metadata.len())
     }
 
     /// The same, with nothing pending on it: what an earlier writer left that was never synced, as a
     /// program does that was killed, is synced first.
-    pub fn open(file: F) -> io::Result<FileDisk<F>>
+    pub fn open(alloc: Global, file: F) -> io::Result<FileDisk<F>>
     where
         F: Drop,
         ensures { IfOk result (λ disk. ⟦<FileDisk<F> as Disk>⟧.faults disk ≡ 0) }
     {
-        let disk = FileDisk::view(file)?;
-        disk.file.sync_all()?;
-        Ok(disk)
+        file.sync_all()?;
+        FileDisk::view(alloc, file)
     }
 
     // Counts a fault.
@@ -101,7 +116,7 @@ impl<F: FileExt + OpenFile> FileDisk<F> {
         true
     }
 
-    // Ends a call, with a fault where it failed.
+    // Ends a write to the file, with a fault where it failed.
     fn end(&mut self, ended: io::Result<()>) -> Result<(), DiskFault>
         ensures answer { is_ok result ≡ is_ok ended }
         ensures ok { OnOk result (self.new ≡ self.old) }
@@ -136,9 +151,9 @@ impl<F: FileExt + OpenFile> FileDisk<F> {
 impl<F: FileExt + OpenFile> Disk for FileDisk<F> {
     ghost use Rattle.sdr_system.specs.Untold.{untold};
 
-    ghost size = { λ d. d.len };
+    ghost bytes = { λ d. d.bytes };
 
-    ghost bytes = { λ _. None };
+    ghost tells_crashes = { λ _. false };
 
     ghost faults = { λ d. d.faults };
 
@@ -146,22 +161,21 @@ impl<F: FileExt + OpenFile> Disk for FileDisk<F> {
 
     ghost may_hold_after = { λ _ _ _. Unit {0} };
 
-    ghost told = { λ _. tt };
+    ghost long = { λ _. untold };
 
-    ghost long = { λ _. untold _ };
-
-    ghost read_now = { λ _ _ _. tt };
+    ghost read_now = { λ _. tt };
 
     fn len(&self) -> u64 {
-        self.len
+        self.bytes.len() as u64
     }
 
     fn read_at(&mut self, place: u64, into: &mut [u8]) -> Result<(), DiskFault> {
         if self.broken {
             return Err(self.fault());
         }
-        let read = self.file.read_exact_at(into, place);
-        self.end(read)
+        let place = place as usize;
+        into.copy_from_slice(&self.bytes.as_slice()[place..place + into.len()]);
+        Ok(())
     }
 
     fn write_at(&mut self, place: u64, from: &[u8]) -> Result<(), DiskFault> {
@@ -169,7 +183,9 @@ impl<F: FileExt + OpenFile> Disk for FileDisk<F> {
             return Err(self.fault());
         }
         let written = self.file.write_all_at(from, place);
-        self.end(written)
+        self.end(written)?;
+        self.bytes.overwrite(place as usize, from);
+        Ok(())
     }
 
     fn sync(&mut self) -> Result<(), DiskFault> {

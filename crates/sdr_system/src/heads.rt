@@ -4,7 +4,6 @@ ghost use Rattle.std.specs.List.{list_all};
 ghost use Rattle.sdr_base.specs.Causes.{HasCause};
 ghost use Rattle.sdr_base.specs.Parts.{part};
 ghost use Rattle.sdr_disk.specs.Moments.{Reads};
-ghost use Rattle.sdr_disk.specs.Told.{IfTold};
 ghost use Rattle.sdr_log.specs.Frame.{IsInLimits};
 ghost use Rattle.sdr_system.specs.Heads.{OnWhole, Tells, TellsIn};
 
@@ -46,13 +45,12 @@ fn head_in(line: &[u8; HEAD]) -> Head
 // What the bytes of a disk are that is shorter than a head, all of which are read into a buffer.
 #[tactic(auto, using(crate::proofs::HeadsLemmas::looking))]
 fn cut_head<D: Disk>(disk: &mut D, all: &mut [u8]) -> Result<Head, DiskFault>
-    requires short { D.size disk.old ≤ 63 }
-    requires all { length all.old ≡ D.size disk.old }
-    ensures told { IfOk result (λ head. IfTold (D.bytes disk.old) (λ x. Tells x head)) }
+    requires short { length (D.bytes disk.old) ≤ 63 }
+    requires all { length all.old ≡ length (D.bytes disk.old) }
+    ensures told { IfOk result (λ head. Tells (D.bytes disk.old) head) }
     ensures limits { IfOk result (λ head. OnWhole head IsInLimits) }
     ensures cause { HasCause (D.faults disk.old) (D.faults disk.new) result }
-    ensures size { D.size disk.new ≡ D.size disk.old }
-    ensures reads { Reads D.bytes D.moment D.may_hold_after disk.old disk.new }
+    ensures reads { Reads D.bytes D.tells_crashes D.moment D.may_hold_after disk.old disk.new }
 {
     disk.read_at(0, all)?;
     if all.starts_with(MAGIC) {
@@ -65,11 +63,10 @@ fn cut_head<D: Disk>(disk: &mut D, all: &mut [u8]) -> Result<Head, DiskFault>
 /// What stands where a heap has its head.
 #[tactic(auto, using(crate::proofs::HeadsLemmas::looking))]
 pub fn head_of<D: Disk>(disk: &mut D) -> Result<Head, DiskFault>
-    ensures told { IfOk result (λ head. IfTold (D.bytes disk.old) (λ x. Tells x head)) }
+    ensures told { IfOk result (λ head. Tells (D.bytes disk.old) head) }
     ensures limits { IfOk result (λ head. OnWhole head IsInLimits) }
     ensures cause { HasCause (D.faults disk.old) (D.faults disk.new) result }
-    ensures size { D.size disk.new ≡ D.size disk.old }
-    ensures reads { Reads D.bytes D.moment D.may_hold_after disk.old disk.new }
+    ensures reads { Reads D.bytes D.tells_crashes D.moment D.may_hold_after disk.old disk.new }
 {
     let mut line = [0; HEAD];
     let have = disk.len();
@@ -94,13 +91,12 @@ fn is_zero_part<D: Disk>(
     count: u64,
     bytes: &mut [u8],
 ) -> Result<bool, DiskFault>
-    requires inside { place + count ≤ D.size disk.old }
+    requires inside { place + count ≤ length (D.bytes disk.old) }
     requires room { length bytes.old ≡ count }
-    ensures zero { IfOk result (λ zero. IfTold (D.bytes disk.old)
-        (λ x. zero ≡ list_all (λ b. b == 0) (part place count x))) }
+    ensures zero { IfOk result (λ zero. zero ≡ list_all (λ b. b == 0) (part place count
+        (D.bytes disk.old))) }
     ensures cause { HasCause (D.faults disk.old) (D.faults disk.new) result }
-    ensures size { D.size disk.new ≡ D.size disk.old }
-    ensures reads { Reads D.bytes D.moment D.may_hold_after disk.old disk.new }
+    ensures reads { Reads D.bytes D.tells_crashes D.moment D.may_hold_after disk.old disk.new }
 {
     disk.read_at(place, bytes)?;
     Ok(are_zero(bytes))
@@ -109,12 +105,11 @@ fn is_zero_part<D: Disk>(
 /// Whether the first bytes of a disk, so many, are zero.
 #[tactic(auto, using(crate::proofs::HeadsLemmas::looking))]
 pub fn is_zero<D: Disk>(disk: &mut D, count: u64) -> Result<bool, DiskFault>
-    requires { count ≤ D.size disk.old }
-    ensures zero { IfOk result (λ zero. IfTold (D.bytes disk.old)
-        (λ x. zero ≡ list_all (λ b. b == 0) (take count x))) }
+    requires { count ≤ length (D.bytes disk.old) }
+    ensures zero { IfOk result (λ zero. zero ≡ list_all (λ b. b == 0) (take count
+        (D.bytes disk.old))) }
     ensures cause { HasCause (D.faults disk.old) (D.faults disk.new) result }
-    ensures size { D.size disk.new ≡ D.size disk.old }
-    ensures reads { Reads D.bytes D.moment D.may_hold_after disk.old disk.new }
+    ensures reads { Reads D.bytes D.tells_crashes D.moment D.may_hold_after disk.old disk.new }
 {
     let mut piece = [0; PIECE];
     let mut place = 0;

@@ -7,11 +7,12 @@
 //! 3. What was opened is asked whether it is a file, and then locked and synced.
 //! 4. What a disk holds at a first look is told by its head, or by whether its bytes are zero.
 //!
-//! Proved: which disk a word names (`IsPlace`). `FileDisk` is a disk that tells no bytes: it counts each error of
-//! its file as a fault, and makes no write and no sync after a failed sync (`broken`, `made`). A file that is
-//! made has at least the bytes asked for (`long`). What is held of an input are its first bytes, in order, up to its end, to
-//! its fault or to 1,048,577 (`HoldsInput`); the held source gives these and then the fault (`fails`). Of disks that tell
-//! their bytes: what stands where a heap has its head (`Tells`), and whether the first bytes are zero (`zero`); both only read.
+//! Proved: which disk a word names (`IsPlace`). `FileDisk` is a disk that doesn't tell what a crash may leave: a read gives
+//! what was read of its file as it was opened, and what was written since; each error of the file is a fault, and no
+//! write and no sync is made after a failed sync (`broken`, `made`). A file that is
+//! made has at least the bytes asked for, of which a disk has as many as the largest (`long`). What is held of an input are its first bytes, in order, up to its end, to
+//! its fault or to 1,048,577 (`HoldsInput`); the held source gives these and then the fault (`fails`). What stands on a disk
+//! where a heap has its head (`Tells`), and whether its first bytes are zero (`zero`); both only read.
 //!
 //! Only tested: which bytes standard input, standard output and a file pass on, and that what isn't ready is waited for
 //! (`test_disk`); that a closed stream's descriptor is no file's, and that an opening doesn't wait and asks the kind of what

@@ -1,8 +1,7 @@
 // Files that are opened as disks.
-ghost use Rattle.std.specs.Prelude.{◌≡◌, ◌≤◌, IfOk};
+ghost use Rattle.std.specs.Prelude.{◌≡◌, ◌≤◌, IfOk, length, min};
 
-use crate::file_disk::{FileDisk, check_kind};
-use sdr_base::MOST_LINES;
+use crate::file_disk::{FileDisk, MOST_BYTES, check_kind};
 use sdr_disk::Disk;
 use sdr_media::open_to_read;
 use std::fs::{File, OpenOptions, TryLockError};
@@ -13,9 +12,6 @@ use std::{fs, io};
 
 /// How many zeros one write makes.
 const PIECE: usize = 4096;
-
-/// The most bytes that a head and the regions of a heap take. Behind them nothing is ever written.
-const MOST_BYTES: u64 = 64 * (1 + 65_536 + MOST_LINES);
 
 // Whether a file is at a path. Anything else there is an error: it isn't opened.
 fn is_file(rt: &impl Files<File = File>, path: &str) -> io::Result<bool> {
@@ -94,29 +90,35 @@ fn take_back<R: Files<File = File> + AllocGlobal>(
 }
 
 /// Opens a file that is there. What isn't a file is an error, and nothing waits.
-pub fn open_disk(rt: &impl Files<File = File>, path: &str) -> io::Result<FileDisk<File>>
+pub fn open_disk<R: Files<File = File> + AllocGlobal>(
+    rt: &R,
+    path: &str,
+) -> io::Result<FileDisk<File>>
     ensures { IfOk result (λ disk. ⟦<FileDisk<File> as Disk>⟧.faults disk ≡ 0) }
 {
     check_kind(&fs::metadata(rt, path)?)?;
     // Opened to be read and written, a FIFO waits for no other end.
     let file = OpenOptions::new().read(true).write(true).open(rt, path)?;
     lock(&file)?;
-    FileDisk::open(file)
+    FileDisk::open(rt.alloc(), file)
 }
 
 /// Opens a file that is there to look at it, beside others that do: it need not be writable. What
 /// isn't a file is an error, and so is one that another process may be writing; nothing waits.
-pub fn view_disk(rt: &impl Files<File = File>, path: &str) -> io::Result<FileDisk<File>>
+pub fn view_disk<R: Files<File = File> + AllocGlobal>(
+    rt: &R,
+    path: &str,
+) -> io::Result<FileDisk<File>>
     ensures { IfOk result (λ disk. ⟦<FileDisk<File> as Disk>⟧.faults disk ≡ 0) }
 {
     check_kind(&fs::metadata(rt, path)?)?;
     let file = open_to_read(rt, path)?;
     check_kind(&file.metadata()?)?;
     file.try_lock_shared().map_err(in_use)?;
-    FileDisk::view(file)
+    FileDisk::view(rt.alloc(), file)
 }
 
-/// Opens a file that has at least so many bytes: it is made, or lengthened with zeros, where it
+/// Opens a file that has at least so many bytes, of which a disk has the first: it is made, or lengthened with zeros, where it
 /// isn't. The zeros are written, so that no later write has to find a place for them. Its name and
 /// length last before the call returns; where they can't, nothing new is left behind.
 pub fn make_disk<R: Files<File = File> + AllocGlobal>(
@@ -125,7 +127,8 @@ pub fn make_disk<R: Files<File = File> + AllocGlobal>(
     bytes: u64,
 ) -> io::Result<FileDisk<File>>
     ensures faults { IfOk result (λ disk. ⟦<FileDisk<File> as Disk>⟧.faults disk ≡ 0) }
-    ensures long { IfOk result (λ disk. bytes ≤ ⟦<FileDisk<File> as Disk>⟧.size disk) }
+    ensures long { IfOk result (λ disk.
+        min bytes MOST_BYTES ≤ length (⟦<FileDisk<File> as Disk>⟧.bytes disk)) }
 {
     let was_there = is_file(rt, path)?;
     let file = OpenOptions::new()
@@ -139,8 +142,8 @@ pub fn make_disk<R: Files<File = File> + AllocGlobal>(
         let _ = take_back(rt, path, &file, was_there, len);
         return Err(error);
     }
-    let disk = FileDisk::open(file)?;
-    if disk.len() < bytes {
+    let disk = FileDisk::open(rt.alloc(), file)?;
+    if disk.len() < bytes.min(MOST_BYTES) {
         return Err(io::Error::from(ErrorKind::UnexpectedEof));
     }
     Ok(disk)

@@ -1,6 +1,7 @@
 // The rows of a table.
 ghost use Rattle.std.specs.Prelude.{◌≡◌, ◌+◌, ◌/◌, ◌≤◌, ◌<◌, length, IfOk, IfErr, OnOk};
 ghost use Rattle.sdr_base.specs.Moves.{KeepsSome};
+ghost use Rattle.sdr_base.specs.Transaction.{LeavesTouched};
 ghost use Rattle.sdr_base.specs.Works.{Looks, Spends};
 ghost use Rattle.sdr_table.specs.Kept.{IsTable};
 ghost use Rattle.sdr_table.specs.Rows.{HasRow, LacksRow, ReadsRow, RowStops, SetsRow, SetStops};
@@ -33,12 +34,14 @@ pub fn row<O: Objects>(o: &mut O, table: Addr, row: u64, into: &mut [u8; 4096]) 
 }
 
 /// Sets a row of a table to bytes of its size.
+#[tactic(auto, using(sdr_base::proofs::LeavingLemmas::leaving))]
 pub fn set_row<O: Objects>(o: &mut O, table: Addr, row: u64, from: &[u8]) -> Result<(), Stop>
     requires kept { KeepsSome (O.keeps o.old) }
     requires table { IsTable ((O.heap o.old).blocks table) }
     ensures set { OnOk result (SetsRow table row from.now (O.heap o.old) (O.heap o.new)) }
     ensures refused { IfErr result
         (SetStops table row (length from.now) (O.heap o.old) (O.heap o.new)) }
+    ensures untouched { IfErr result (LeavesTouched (O.transaction o.old) (O.transaction o.new)) }
     ensures works { Spends O.HasHeap (2 + length from.now / 64) o.old o.new result }
 {
     let size = row_size(o, table, row)?;

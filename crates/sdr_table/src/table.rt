@@ -2,6 +2,7 @@
 ghost use Rattle.std.specs.Prelude.{◌≡◌, ◌+◌, ◌*◌, ◌/◌, ◌≤◌, ◌<◌, Some, None, IfOk, IfErr, OnOk};
 ghost use Rattle.sdr_base.specs.Moves.{KeepsSome};
 ghost use Rattle.sdr_base.specs.Objects.{Misses};
+ghost use Rattle.sdr_base.specs.Transaction.{LeavesTouched};
 ghost use Rattle.sdr_base.specs.Works.{Looks, Spends};
 ghost use Rattle.sdr_base.specs.declared.kind.Kind.TheVariants as kinds;
 ghost use Rattle.sdr_base.specs.declared.refusal.Refusal.TheVariants as Refusal;
@@ -20,12 +21,14 @@ pub const LARGEST_TABLE: u64 = 1_048_576;
 pub const ROWS_FROM: u64 = 24;
 
 /// Makes a table of so many rows of so many zero bytes, with the user's number.
+#[tactic(auto, using(sdr_base::proofs::LeavingLemmas::leaving))]
 pub fn create<O: Objects>(o: &mut O, rows: u64, size: u64, user: u64) -> Result<Addr, Stop>
     requires kept { KeepsSome (O.keeps o.old) }
     requires spare { 1 ≤ (O.heap o.old).spare }
     ensures made { IfOk result (λ table.
         MakesTable rows size user table (O.heap o.old) (O.heap o.new)) }
     ensures refused { IfErr result (CreateStops rows size (O.heap o.old) (O.heap o.new)) }
+    ensures untouched { IfErr result (LeavesTouched (O.transaction o.old) (O.transaction o.new)) }
     ensures works { Spends O.HasHeap (26 + (ROWS_FROM + rows * size) / 64) o.old o.new result }
 {
     check_failed(o)?;
@@ -92,12 +95,14 @@ pub fn user_data<O: Objects>(o: &mut O, table: Addr) -> Result<u64, Stop>
 }
 
 /// Gives a table back.
+#[tactic(auto, using(sdr_base::proofs::LeavingLemmas::leaving))]
 pub fn destroy<O: Objects>(o: &mut O, table: Addr) -> Result<(), Stop>
     requires kept { KeepsSome (O.keeps o.old) }
     requires spare { 1 ≤ (O.heap o.old).spare }
     requires table { IsTable ((O.heap o.old).blocks table) }
     ensures destroyed { OnOk result (DestroysTable table (O.heap o.old) (O.heap o.new)) }
     ensures refused { IfErr result (DestroyStops table (O.heap o.old) (O.heap o.new)) }
+    ensures untouched { IfErr result (LeavesTouched (O.transaction o.old) (O.transaction o.new)) }
     ensures works { Spends O.HasHeap 24 o.old o.new result }
 {
     expect_kind(o, table, Kind::Table)?;

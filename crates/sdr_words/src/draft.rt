@@ -1,5 +1,5 @@
 // A script in the making: the steps of the lines so far.
-ghost use Rattle.std.specs.Prelude.{◌≡◌, ◌++◌, ◌∷◌, [], ◌+◌, ◌<◌, ◌^◌, IfOk, OnOk, OnErr};
+ghost use Rattle.std.specs.Prelude.{◌≡◌, ◌++◌, ◌∷◌, [], ◌+◌, ◌<◌, ◌^◌, IfOk, OnOk, OnErr, length};
 ghost use Rattle.sdr_words.specs.Statements.{is_bound_by};
 
 use sdr_base::{Items, NoMemory};
@@ -85,7 +85,9 @@ impl<'a> Draft<'a> {
         ensures err { OnErr result (self.new ≡ self.old) }
     {
         self.steps.reserve(1)?;
-        self.binders.insert(Binder { daemon, name })?;
+        if !name.is_empty() {
+            self.binders.insert(Binder { daemon, name })?;
+        }
         self.steps.push(step)?;
         self.next += 1;
         Ok(())
@@ -93,6 +95,7 @@ impl<'a> Draft<'a> {
 
     /// Whether an earlier line of the daemon binds the name.
     pub fn is_bound(&self, daemon: u8, name: &[u8]) -> bool
+        requires { 0 < length name.now }
         ensures { result ≡ is_bound_by self.now.steps daemon name.now }
     {
         self.binders.contains(&Binder { daemon, name })

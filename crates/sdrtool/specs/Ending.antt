@@ -38,9 +38,9 @@ pub record IsStatusOf {D M S K : Type 0} (d : DiskGhosts D) (On : D → Type 0) 
   pub answers : AnswersWords d m s k words disk files input input' output output' outcome
   pub status_is : status ≡ outcome.status
 
--- the disk tells that it has no bytes
+-- the disk has no bytes
 abbrev pub IsEmpty : {D : Type 0} → DiskGhosts D → D → Type 0
-IsEmpty d disk = d.bytes disk ≡ Some []
+IsEmpty d disk = d.bytes disk ≡ []
 
 -- the disk is any
 abbrev pub IsAny : {D : Type 0} → D → Type 0
@@ -52,11 +52,18 @@ pub record IsUnopened {S K : Type 0} (input input' : S) (output output' : K) (st
   pub unread : input' ≡ input
   pub unprinted : output' ≡ output
 
--- a file couldn't be opened, or the top call was made on it
+-- there is no memory for the bytes of a file, which the last line tells; no input was read
+pub record IsStarved {S K : Type 0} (k : SinkGhosts K) (input input' : S) (output output' : K) (status : ℕ) : Type 0 where
+  pub status_is : status ≡ NO_MEMORY
+  pub unread : input' ≡ input
+  pub written : Wrote (seen k.taken k.faults output) (seen k.taken k.faults output') (codes "no memory\n")
+
+-- a file couldn't be opened, or there was no memory for its bytes, or the top call was made on it
 abbrev pub IsStatusOnFile : {D M S K : Type 0} → DiskGhosts D → MediaGhosts M → SourceGhosts S → SinkGhosts K
     → List (RcStr Global) → M → S → S → K → K → ℕ → Type 0
 IsStatusOnFile d m s k words files input input' output output' status =
-    IsUnopened input input' output output' status ⊎ IsStatusOf d IsAny m s k words files input input' output output' status
+    IsUnopened input input' output output' status ⊎ IsStarved k input input' output output' status
+    ⊎ IsStatusOf d IsAny m s k words files input input' output output' status
 
 -- a held input as a source of which nothing was read
 abbrev pub feed_of : Held → HeldFeed

@@ -20,6 +20,7 @@ use sdr_words::{ScriptError, read_script};
 use std::alloc::Global;
 use std::fs::File;
 use std::io;
+use std::io::ErrorKind;
 use std::rc::RcStr;
 use std::rt::Files;
 use std::sync::Wait;
@@ -116,6 +117,7 @@ fn answer_on_file<
 {
     let mut disk = match open_for(rt, asked.form, path, bytes) {
         Ok(disk) => disk,
+        Err(error) if error.kind() == ErrorKind::OutOfMemory => return answer_starved(output),
         Err(error) => {
             note_unopened(rt, path, &error);
             return CANNOT_OPEN;
@@ -132,7 +134,7 @@ fn answer_on_file<
     status
 }
 
-// The status where there is no memory for the input.
+// The status where there is no memory for the input, or for the bytes of a file.
 fn answer_starved<K: Sink>(output: &mut K) -> u8
     ensures status { result ≡ NO_MEMORY }
     ensures written { Wrote (seen K.taken K.faults output.old) (seen K.taken K.faults output.new)

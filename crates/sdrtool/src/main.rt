@@ -13,13 +13,14 @@
 //! 7. Files and bulk items are those of the current folder.
 //!
 //! Proved: the exit code is the status that `top` gave to the words, on an empty disk in memory or on a file (`EndsWith`, the clause of
-//! `exit_code`, whose result `main` returns). Besides, it may be 1, and then nothing is printed; 9, for `replay` and `run` on a file where
+//! `exit_code`, whose result `main` returns). Besides, it may be 1, and then nothing is printed; 9, on a file, where
 //! `no memory` is printed; and 0 or 4 for `--help` and `--version`, which are printed whole, or the output failed. `top` asks nothing of the disk.
 //! What is told of a disk is read alone. No clause says what `main` hands to `exit_code`, nor that it returns what that gives.
 //!
 //! Only tested: that words are tried before a file is opened, that `dry` and a refused script open none, what standard error
 //! says, and each of the descriptors 0 to 2 closed, with each form (`tests/starters`); the program on files (`tests/run`),
-//! power loss after each write of a replay (`tests/crash`), a fault at each call on media (`tests/faults`).
+//! power loss after each write of a replay (`tests/crash`), a fault at each call on media (`tests/faults`), and on the file
+//! that is the disk (`tests/files`).
 #![tactic(auto)]
 
 ghost use Rattle.std.specs.Process.{exit_status};

@@ -1,5 +1,5 @@
 // What standard error says beside the status.
-ghost use Rattle.std.specs.Prelude.{◌≡◌, ◌≤◌};
+ghost use Rattle.std.specs.Prelude.{◌≤◌};
 ghost use Rattle.sdr_disk.specs.Moments.{Reads};
 ghost use Rattle.sdr_log.specs.Frame.{IsInLimits};
 
@@ -36,8 +36,7 @@ pub fn note_loss<D: Disk>(
 ) -> Result<(), DiskFault>
     requires { IsInLimits frame }
     ensures later { D.faults disk.old ≤ D.faults disk.new }
-    ensures size { D.size disk.new ≡ D.size disk.old }
-    ensures reads { Reads D.bytes D.moment D.may_hold_after disk.old disk.new }
+    ensures reads { Reads D.bytes D.tells_crashes D.moment D.may_hold_after disk.old disk.new }
 {
     let bytes = frame.disk_bytes();
     if disk.len() < bytes {
@@ -63,8 +62,7 @@ pub fn note_loss<D: Disk>(
 #[tactic(auto, using(sdr_system::proofs::HeadsLemmas::looking))]
 pub fn note_no_heap<D: Disk>(rt: &impl Eprint, path: &str, disk: &mut D) -> Result<(), DiskFault>
     ensures later { D.faults disk.old ≤ D.faults disk.new }
-    ensures size { D.size disk.new ≡ D.size disk.old }
-    ensures reads { Reads D.bytes D.moment D.may_hold_after disk.old disk.new }
+    ensures reads { Reads D.bytes D.tells_crashes D.moment D.may_hold_after disk.old disk.new }
 {
     let have = disk.len();
     match head_of(disk)? {

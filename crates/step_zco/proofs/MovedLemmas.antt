@@ -62,13 +62,13 @@ others_stay : (w : World) (m : Things) (acct : Acct) (a : AccountWords) (next : 
 others_stay w m accts.Inbound a next others =
     let names = map name_row w.names in
     ap (λ (occupied : Amounts). roots_by
-    (root_words (first_of name_addr 0 names) (last_of name_addr 0 names)
+    (root_words 0 (first_of name_addr 0 names) (last_of name_addr 0 names)
     (base.account_words a.occupied a.maxima a.first a.last) (words_but w accts.Outbound occupied) next))
     (occupies w m accts.Outbound (others accts.Outbound refl))
 others_stay w m accts.Outbound a next others =
     let names = map name_row w.names in
     ap (λ (occupied : Amounts). roots_by
-    (root_words (first_of name_addr 0 names) (last_of name_addr 0 names) (words_but w accts.Inbound occupied)
+    (root_words 0 (first_of name_addr 0 names) (last_of name_addr 0 names) (words_but w accts.Inbound occupied)
     (base.account_words a.occupied a.maxima a.first a.last) next))
     (occupies w m accts.Inbound (others accts.Inbound refl))
 

@@ -37,12 +37,12 @@ abbrev pub roots_with : World → Acct → AccountWords → ℕ → ℕ → ℕ
 roots_with w accts.Inbound a next =
     let names = map name_row w.names in
     roots_by
-    (root_words (first_of name_addr 0 names) (last_of name_addr 0 names) (words a)
+    (root_words 0 (first_of name_addr 0 names) (last_of name_addr 0 names) (words a)
     (account_roots w accts.Outbound) next)
 roots_with w accts.Outbound a next =
     let names = map name_row w.names in
     roots_by
-    (root_words (first_of name_addr 0 names) (last_of name_addr 0 names) (account_roots w accts.Inbound) (words a) next)
+    (root_words 0 (first_of name_addr 0 names) (last_of name_addr 0 names) (account_roots w accts.Inbound) (words a) next)
 
 -- those that a world has
 abbrev pub words_of : World → Acct → AccountWords

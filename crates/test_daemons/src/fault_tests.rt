@@ -24,13 +24,13 @@ fn told<R: Threads + Wait + Sync>(
     Some((status, calls, have_left && totals))
 }
 
-// The calls of an opening, and the first call behind them whose failure comes to something else than a disk fault behind which both
-// daemons leave.
+// The first of the ten calls behind an opening, all within the first transaction, whose failure comes to something else than a disk fault
+// behind which both daemons leave. The two transactions make ten writes and syncs each, and read lines beside.
 fn wrong_fault<R: Threads + Wait + Sync>(rt: &R, alloc: Global) -> Option<Option<u64>> {
     let mut output = MemorySink::new(alloc, Vec::new(alloc));
     let (_, opening) = status_of(rt, alloc, true, b"", 0, &mut output, &NoGate)?;
     let (status, calls, _) = told(rt, alloc, 0, [b" 1 leaves done\n", b" 2 leaves done\n"])?;
-    if status != DONE || calls != opening.checked_add(20)? {
+    if status != DONE || calls < opening.checked_add(20)? {
         return Some(Some(0));
     }
     for call in opening.checked_add(1)?..opening.checked_add(11)? {

@@ -1,6 +1,6 @@
 // What no clause says of the adapters and of files as disks: which bytes they pass on, and that errors
 // are counted.
-ghost use Rattle.std.specs.Prelude.{◌≤◌};
+ghost use Rattle.std.specs.Prelude.{◌≤◌, length};
 
 use sdr_base::{Bytes, MemorySource, NoMemory, Sink, SinkFault, Source, SourceFault};
 use sdr_disk::{Disk, DiskFault};
@@ -170,7 +170,7 @@ fn a_file_is_made_of_zeros_keeps_what_is_written_and_is_locked(
 
 // Writes `ab` from place 62 on.
 fn write_two_bytes(rt: &impl Abort, disk: &mut FileDisk<File>)
-    requires { 128 ≤ ⟦<FileDisk<File> as Disk>⟧.size disk.old }
+    requires { 128 ≤ length (⟦<FileDisk<File> as Disk>⟧.bytes disk.old) }
 {
     assert_eq!(rt; disk.write_at(62, b"ab"), Ok(()));
     assert_eq!(rt; disk.sync(), Ok(()));
@@ -179,7 +179,7 @@ fn write_two_bytes(rt: &impl Abort, disk: &mut FileDisk<File>)
 
 // Reads them, between zeros.
 fn read_two_bytes(rt: &impl Abort, disk: &mut FileDisk<File>)
-    requires { 128 ≤ ⟦<FileDisk<File> as Disk>⟧.size disk.old }
+    requires { 128 ≤ length (⟦<FileDisk<File> as Disk>⟧.bytes disk.old) }
 {
     let mut piece = [9; 4];
     assert_eq!(rt; disk.read_at(61, &mut piece), Ok(()));
@@ -218,18 +218,77 @@ impl OpenFile for BrokenFile {
     }
 }
 
+/// A file of as many bytes `s` as are read, to which nothing can be written, and that can't be
+/// synced.
+#[derive(Drop)]
+struct StoneFile;
+
+impl FileExt for StoneFile {
+    fn read_at(&self, into: &mut [u8], _place: u64) -> io::Result<usize> {
+        into.fill(b's');
+        Ok(into.len())
+    }
+
+    fn write_at(&self, _from: &[u8], _place: u64) -> io::Result<usize> {
+        Err(io::Error::from(io::ErrorKind::Other))
+    }
+}
+
+impl OpenFile for StoneFile {
+    fn metadata(&self) -> io::Result<Metadata> {
+        Err(io::Error::from(io::ErrorKind::Other))
+    }
+
+    fn set_len(&self, _len: u64) -> io::Result<()> {
+        Err(io::Error::from(io::ErrorKind::Other))
+    }
+
+    fn sync_all(&self) -> io::Result<()> {
+        Err(io::Error::from(io::ErrorKind::Other))
+    }
+
+    fn sync_data(&self) -> io::Result<()> {
+        Err(io::Error::from(io::ErrorKind::Other))
+    }
+}
+
 #[test]
-fn each_error_of_a_file_is_a_fault_and_after_a_failed_sync_no_call_is_made(rt: HostRuntime) {
-    let mut disk = FileDisk::new(BrokenFile, 128);
-    assert_eq!(rt; disk.read_at(0, &mut [0]), Err(DiskFault));
+fn a_failed_write_or_sync_is_a_fault_and_after_a_failed_sync_no_call_is_made(
+    rt: HostRuntime,
+) -> Result<(), Fail> {
+    let mut disk = FileDisk::new(rt.alloc(), StoneFile, 128)?;
     assert_eq!(rt; disk.write_at(0, b"a"), Err(DiskFault));
     assert_eq!(rt; disk.now(), 2);
+    let mut piece = [0; 2];
+    assert_eq!(rt; disk.read_at(0, &mut piece), Ok(()));
+    assert_eq!(rt; &piece, b"ss");
     assert_eq!(rt; disk.sync(), Err(DiskFault));
     assert_eq!(rt; disk.now(), 4);
     // The sync counts as a call that began and returned; what comes behind it doesn't.
+    assert_eq!(rt; disk.sync(), Err(DiskFault));
+    assert_eq!(rt; disk.read_at(0, &mut piece), Err(DiskFault));
+    assert_eq!(rt; disk.now(), 4);
+    Ok(())
+}
+
+#[test]
+fn where_a_file_cannot_be_read_as_it_is_opened_each_call_is_a_fault(
+    rt: HostRuntime,
+) -> Result<(), Fail> {
+    let mut disk = FileDisk::new(rt.alloc(), BrokenFile, 128)?;
+    assert_eq!(rt; disk.len(), 128);
+    assert_eq!(rt; disk.read_at(0, &mut [0]), Err(DiskFault));
     assert_eq!(rt; disk.write_at(0, b"a"), Err(DiskFault));
     assert_eq!(rt; disk.sync(), Err(DiskFault));
-    assert_eq!(rt; disk.now(), 4);
+    assert_eq!(rt; disk.now(), 0);
+    Ok(())
+}
+
+#[test]
+fn the_disk_of_a_longer_file_is_the_largest(rt: HostRuntime) -> Result<(), Fail> {
+    let disk = FileDisk::new(rt.alloc(), StoneFile, 20_971_585)?;
+    assert_eq!(rt; disk.len(), 20_971_584);
+    Ok(())
 }
 
 #[test]

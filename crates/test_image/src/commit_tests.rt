@@ -1,12 +1,12 @@
 // What a crash leaves of a commit and of an opening: which bytes are pending at each moment, which tells the
 // calls of the disk and their order; and what opening makes of each image.
+use crate::crashes::{Pending, image_after, wrong_moment};
 use byteorder::{BigEndian, ByteOrder};
 use sdr_base::Cells;
 use sdr_disk::{Disk, MemoryDisk, Torn};
 use sdr_image::{Image, format};
 use sdr_log::Frame;
 use std::alloc::Global;
-use std::ops::Range;
 
 const FRAME: Frame = Frame {
     log_lines: 256,
@@ -38,21 +38,6 @@ fn changed(alloc: Global) -> Option<(MemoryDisk, u64)> {
     Some((image.into_disk(), begun))
 }
 
-// The image of a crash so many moments after another.
-fn image_after(disk: &MemoryDisk, begun: u64, after: u64, torn: Torn) -> Option<Vec<u8>> {
-    disk.image_at(begun.checked_add(after)?, torn).ok()
-}
-
-// Whether just the bytes of these ranges are filled.
-fn are_filled(image: &[u8], ranges: &[Range<usize>]) -> bool {
-    image.iter().enumerate().all(|(place, byte)| {
-        (*byte == 0xEE) == ranges.iter().any(|range| range.contains(&place))
-    })
-}
-
-// From a moment on and up to another, which bytes are pending.
-type Pending<'a> = (u64, u64, &'a [Range<usize>]);
-
 // In a commit of three lines: those of the batch, of its gate, of the lines, and of the first gate.
 const PENDING: [Pending; 11] = [
     (0, 1, &[]),
@@ -78,19 +63,6 @@ const RECOVERED: [Pending; 7] = [
     (9, 12, &[64..65]),
     (12, 13, &[]),
 ];
-
-// The first moment since another at which other bytes are pending.
-fn wrong_moment(disk: &MemoryDisk, begun: u64, rows: &[Pending]) -> Option<Option<u64>> {
-    for (first, behind, ranges) in rows {
-        for after in *first..*behind {
-            let image = image_after(disk, begun, after, Torn::Filled(0xEE))?;
-            if !are_filled(&image, ranges) {
-                return Some(Some(after));
-            }
-        }
-    }
-    Some(None)
-}
 
 // The moment at the end of a commit of three lines, and the first at which other bytes are pending.
 fn pending(alloc: Global) -> Option<(u64, Option<u64>)> {
@@ -229,7 +201,7 @@ const STOPPED: [(u64, u64, Torn, Opened); 12] = [
     (5, 6, Torn::New, OLD),
     (5, 6, Torn::Filled(0), OLD),
     (5, 6, Torn::Filled(0xEE), BACK),
-    // The gate is synced, and the heap region is read only where one change more is left.
+    // The gate is synced.
     (6, 8, Torn::Old, OLD),
     (6, 8, Torn::New, OLD),
     (6, 8, Torn::Filled(0), OLD),

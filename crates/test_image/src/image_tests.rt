@@ -39,7 +39,7 @@ fn sevens(alloc: Global, bytes: usize, failing: u64) -> Option<MemoryDisk> {
 }
 
 // A disk of so many bytes, formatted and opened, of whose calls the one with this number fails. Formatting
-// the smallest regions makes 8 calls, and opening 3.
+// the smallest regions makes 8 calls, and opening 2.
 fn formatted(alloc: Global, bytes: usize, frame: Frame, failing: u64) -> Option<Image<MemoryDisk>>
     requires { IsInLimits frame }
     ensures { IfSome result (λ image. image.is_open ≡ false) }

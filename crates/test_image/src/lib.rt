@@ -13,4 +13,12 @@
 #[cfg(test)]
 mod commit_tests;
 #[cfg(test)]
+mod crashes;
+#[cfg(test)]
+mod hostile_tests;
+#[cfg(test)]
 mod image_tests;
+#[cfg(test)]
+mod spill_tests;
+#[cfg(test)]
+mod works;

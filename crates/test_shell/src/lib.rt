@@ -10,6 +10,8 @@
 #![tactic(auto)]
 
 #[cfg(test)]
+mod call_tests;
+#[cfg(test)]
 mod disks;
 #[cfg(test)]
 mod format_tests;

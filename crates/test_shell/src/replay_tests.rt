@@ -3,7 +3,7 @@
 use crate::disks::{HEAP, answered, bytes_of, formatted};
 use sdr_base::{MemorySink, NoMedia};
 use sdr_disk::{MemoryDisk, Torn};
-use sdr_model::Entry;
+use sdr_model::{Close, Entry, What};
 use sdr_shell::{DISK_FAULT, DONE, RunOutcome};
 use std::alloc::Global;
 use std::ops::Range;
@@ -13,8 +13,27 @@ const SCRIPT: &[u8] = b"1: begin\n1: string \"hello\"\n1: end\n1: begin\n";
 
 const KEPT: &[u8] = b"1 1 lock 1\n2 1 at 2056\n3 1 ended\n4 1 lock 2\n";
 
-// The same where the disk fails in the end.
-const FAILED: &[u8] = b"1 1 lock 1\n2 1 at 2056\n3 1 disk fault\n4 1 failed\n";
+// The same where the disk fails in the string, and in the end.
+const FAILED: [&[u8]; 2] = [
+    b"1 1 lock 1\n2 1 disk fault\n3 1 failed\n4 1 failed\n",
+    b"1 1 lock 1\n2 1 at 2056\n3 1 disk fault\n4 1 failed\n",
+];
+
+// An object of 4,480 bytes whose bytes are written: 73 lines are touched, of which 64 are spilled.
+const LONG: &[u8] =
+    b"1: begin\n1: p = malloc 4480\n1: write p 0 f01*4096\n1: write p 4096 f01*384\n1: end\n";
+
+// The same, cancelled.
+const LONG_CANCELLED: &[u8] =
+    b"1: begin\n1: p = malloc 4480\n1: write p 0 f01*4096\n1: write p 4096 f01*384\n1: cancel\n";
+
+// Where the disk fails in each event of the transaction but its begin.
+const LONG_FAILED: [&[u8]; 4] = [
+    b"1 1 lock 1\n2 1 disk fault\n3 1 failed\n4 1 failed\n5 1 failed\n",
+    b"1 1 lock 1\n2 1 at 61032\n3 1 disk fault\n4 1 failed\n5 1 failed\n",
+    b"1 1 lock 1\n2 1 at 61032\n3 1 ok\n4 1 disk fault\n5 1 failed\n",
+    b"1 1 lock 1\n2 1 at 61032\n3 1 ok\n4 1 ok\n5 1 disk fault\n",
+];
 
 // Two transactions, of which the second waits for the first.
 const TWO: &[u8] = b"1: begin\n2: begin\n1: string \"hello\"\n1: end\n2: end\n";
@@ -30,43 +49,99 @@ fn replayed(
     answered(alloc, &["replay"], bytes, failing, script, output)
 }
 
-// The status of a script on a formatted disk whose call of this number fails, 0 for none, and whether this is printed.
-fn status_of(alloc: Global, call: u64, script: &[u8], text: &[u8]) -> Option<(u8, bool, u64)> {
-    let mut output = MemorySink::new(alloc, Vec::new(alloc));
-    let failing = vec![in alloc; call; 1].ok()?;
-    let outcome = replayed(alloc, formatted(alloc)?, failing, script, &mut output)?;
-    Some((outcome.status, output.taken() == text, outcome.disk.calls()))
+// What a script came to on a disk whose call fails: its status, whether the journal is empty or has a fault, and how many calls were made.
+#[derive(Drop)]
+struct Came {
+    status: u8,
+    faulted: bool,
+    calls: u64,
 }
 
-// The first call of a disk after these whose failure comes to something else than this text and a disk fault.
-fn wrong_fault(alloc: Global, begun: u64, end: u64, text: &[u8]) -> Option<Option<u64>> {
-    for call in begun..end {
-        let (status, printed, _) = status_of(alloc, call, SCRIPT, text)?;
-        if status != DISK_FAULT || !printed {
-            return Some(Some(call));
+// Whether the disk failed in an entry.
+fn met_a_fault(entry: &Entry) -> bool {
+    matches!(
+        &entry.what,
+        What::Work {
+            close: Close::Faulted,
+            ..
+        }
+    )
+}
+
+// Whether there is no entry, or the disk failed in one.
+fn is_faulted(journal: &[Entry]) -> bool {
+    journal.is_empty() || journal.iter().any(met_a_fault)
+}
+
+// What a script comes to on a formatted disk whose call of this number fails, 0 for none.
+fn played(alloc: Global, call: u64, script: &[u8], output: &mut MemorySink) -> Option<Came> {
+    let failing = vec![in alloc; call; 1].ok()?;
+    let outcome = replayed(alloc, formatted(alloc)?, failing, script, output)?;
+    Some(Came {
+        status: outcome.status,
+        faulted: is_faulted(outcome.journal.as_slice()),
+        calls: outcome.disk.calls(),
+    })
+}
+
+// Whether the failure of a call comes to a disk fault, and which of these texts is printed. `None`: none is, or it comes to something else.
+fn text_of(alloc: Global, call: u64, script: &[u8], texts: &[&[u8]]) -> Option<usize> {
+    let mut output = MemorySink::new(alloc, Vec::new(alloc));
+    let came = played(alloc, call, script, &mut output)?;
+    if came.status != DISK_FAULT || !came.faulted {
+        return None;
+    }
+    texts.iter().position(|text| output.taken() == *text)
+}
+
+// The first of some calls of the opening whose failure comes to something else. It makes more than 1,024 calls: it reads each line.
+fn wrong_opening(alloc: Global) -> Option<u64> {
+    for number in 0..16 {
+        let call = 64 * number + 1;
+        if text_of(alloc, call, SCRIPT, &[b"disk fault\n"]) != Some(0) {
+            return Some(call);
         }
     }
-    Some(None)
+    None
 }
 
-// The calls of an opening fail, then the ten of an end, of which the second is its first sync, and behind those none.
-fn faults(alloc: Global) -> Option<([Option<u64>; 2], (u8, bool))> {
-    let (_, _, opening) = status_of(alloc, 0, b"", b"")?;
-    let first = opening.checked_add(1)?;
-    let last = first.checked_add(10)?;
-    let (status, printed, _) = status_of(alloc, last, SCRIPT, KEPT)?;
-    Some((
-        [
-            wrong_fault(alloc, 1, first, b"disk fault\n")?,
-            wrong_fault(alloc, first, last, FAILED)?,
-        ],
-        (status, printed),
-    ))
+// The first call behind the opening whose failure comes to something else than a disk fault and one of these texts, each of which may stand
+// where those before it don't any more, up to the last; and behind the last call the script is done.
+fn wrong_fault(alloc: Global, script: &[u8], texts: &[&[u8]]) -> Option<Option<u64>> {
+    let mut output = MemorySink::new(alloc, Vec::new(alloc));
+    let opening = played(alloc, 0, b"", &mut output)?.calls;
+    let all = played(alloc, 0, script, &mut output)?;
+    let mut at = 0usize;
+    for call in opening.checked_add(1)?..all.calls.checked_add(1)? {
+        match text_of(alloc, call, script, texts) {
+            Some(text) if text >= at => at = text,
+            _ => return Some(Some(call)),
+        }
+    }
+    if all.status == DONE && at.checked_add(1) == Some(texts.len()) {
+        Some(None)
+    } else {
+        Some(Some(0))
+    }
+}
+
+#[test]
+fn a_replay_tells_a_disk_that_fails_as_it_is_opened(rt: HostRuntime) {
+    assert_eq!(rt; wrong_opening(rt.alloc()), None);
 }
 
 #[test]
 fn a_replay_tells_a_disk_that_fails_at_any_call(rt: HostRuntime) {
-    assert_eq!(rt; faults(rt.alloc()), Some(([None; 2], (DONE, true))));
+    assert_eq!(rt; wrong_fault(rt.alloc(), SCRIPT, &FAILED), Some(None));
+}
+
+#[test]
+fn a_replay_tells_a_disk_that_fails_at_any_call_of_a_transaction_that_spills(rt: HostRuntime) {
+    assert_eq!(rt; wrong_fault(rt.alloc(), LONG, &LONG_FAILED), Some(None));
+    assert_eq!(rt;
+        wrong_fault(rt.alloc(), LONG_CANCELLED, &LONG_FAILED),
+        Some(None)
+    );
 }
 
 // Whether an empty script puts back this heap of the disk that a crash leaves.

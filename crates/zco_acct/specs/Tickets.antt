@@ -1,6 +1,7 @@
 -- What the bytes of a ticket's block say, and how its grant is written.
 use Rattle.std.specs.Prelude.{◌≡◌, ◌+◌, ◌*◌, ◌==◌, ℕ, true, List, [], ◌∷◌, ◌++◌, Option}
 use Rattle.sdr_base.specs.Blocks.{Block}
+use Rattle.sdr_base.specs.Cells.{lines_of}
 use Rattle.sdr_base.specs.Objects.{Heap, with_bytes}
 use Rattle.sdr_base.specs.Stored.{number_at}
 use Rattle.sdr_base.specs.Tickets.{amount_words}
@@ -50,3 +51,7 @@ with_grant heap addr left = with_bytes heap addr 56 (grant_bytes left)
 -- the ticket, granted, with so much left
 abbrev pub granted_with : Ticket → Amounts → Ticket
 granted_with t left = record t { left = left; granted = true }
+
+-- the lines of a grant in the block of a ticket: at most two
+abbrev pub grant_lines : ℕ → List ℕ
+grant_lines addr = lines_of (addr + 56) 32

@@ -1,11 +1,13 @@
 -- The control words of an account, and what they say.
-use Rattle.std.specs.Prelude.{ℕ, ◌+◌}
+use Rattle.std.specs.Prelude.{ℕ, ◌+◌, ◌*◌, List, ◌++◌}
+use Rattle.sdr_base.specs.Cells.{lines_of}
 use Rattle.sdr_base.specs.Objects.{Heap, with_root}
 use Rattle.sdr_base.specs.declared.account.Acct.{Acct}
 use Rattle.sdr_base.specs.declared.account.Acct.TheVariants as accts
 use Rattle.sdr_base.specs.declared.account.Amounts.{Amounts}
 use Rattle.sdr_base.specs.declared.control.TheConstants.{INBOUND, OUTBOUND, FILE_OCCUPANCY, FILE_MAXIMUM, FIRST_TICKET, LAST_TICKET}
 use Rattle.sdr_base.specs.declared.kind.Space.{Space}
+use Rattle.sdr_base.specs.declared.line.TheConstants.{WORD}
 use Rattle.sdr_base.specs.declared.kind.Space.TheVariants as spaces
 use Rattle.sdr_model.specs.Amounts.{amounts_by}
 
@@ -50,3 +52,9 @@ with_occupied heap acct amounts =
     with_root
     (with_root (with_root heap (occupancy_word acct spaces.File) amounts.file) (occupancy_word acct spaces.Bulk) amounts.bulk)
     (occupancy_word acct spaces.Heap) amounts.heap
+
+-- the lines of the control words that say what is occupied in an account
+abbrev pub occupied_lines : Acct → List ℕ
+occupied_lines acct =
+    lines_of (WORD * occupancy_word acct spaces.File) WORD ++ lines_of (WORD * occupancy_word acct spaces.Bulk) WORD
+    ++ lines_of (WORD * occupancy_word acct spaces.Heap) WORD

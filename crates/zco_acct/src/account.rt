@@ -1,12 +1,15 @@
 // The control words of an account: what is occupied, and the maxima.
 ghost use Rattle.std.specs.Prelude.{◌≡◌, ◌≤◌, ◌<◌, IfOk, IfErr, OnOk};
+ghost use Rattle.sdr_base.specs.Cells.{TouchesWithin};
 ghost use Rattle.sdr_base.specs.Moves.{KeepsSome};
 ghost use Rattle.sdr_base.specs.Objects.{OnlyFault, OnlyUnmoved};
+ghost use Rattle.sdr_base.specs.Transaction.{LeavesTouched};
 ghost use Rattle.sdr_base.specs.Works.{Looks, Spends};
 ghost use Rattle.sdr_model.specs.Amounts.{amount, minus};
 ghost use Rattle.zco_acct.specs.Changes.{MaximumStops, SetsMaximum};
 ghost use Rattle.zco_acct.specs.Words.{begin_of, first_word, last_word, maxima_in, maximum_word};
-ghost use Rattle.zco_acct.specs.Words.{occupancy_word, occupied_in, space_place, with_occupied};
+ghost use Rattle.zco_acct.specs.Words.{occupancy_word, occupied_in, occupied_lines};
+ghost use Rattle.zco_acct.specs.Words.{space_place, with_occupied};
 
 use sdr_base::control::{
     CONTROL_WORDS, FILE_MAXIMUM, FILE_OCCUPANCY, FIRST_NAME, FIRST_TICKET, INBOUND, LAST_TICKET,
@@ -125,10 +128,12 @@ pub fn maxima<O: Objects>(o: &mut O, acct: Acct) -> Result<Amounts, Stop>
 
 /// Sets the maximum of a space in an account, in bytes, of which 2^40 are the most. It doesn't
 /// serve the account's queue.
+#[tactic(auto, using(sdr_base::proofs::LeavingLemmas::leaving))]
 pub fn set_maximum<O: Objects>(o: &mut O, acct: Acct, space: Space, value: u64) -> Result<(), Stop>
     requires kept { KeepsSome (O.keeps o.old) }
     ensures set { OnOk result (SetsMaximum acct space value (O.heap o.old) (O.heap o.new)) }
     ensures refused { IfErr result (MaximumStops space value (O.heap o.old) (O.heap o.new)) }
+    ensures untouched { IfErr result (LeavesTouched (O.transaction o.old) (O.transaction o.new)) }
     ensures works { Spends O.HasHeap 1 o.old o.new result }
 {
     check_failed(o)?;
@@ -148,6 +153,8 @@ pub fn set_occupied<O: Objects>(o: &mut O, acct: Acct, amounts: &Amounts) -> Res
     ensures set { OnOk result (O.heap o.new ≡ with_occupied (O.heap o.old) acct amounts.now) }
     ensures refused { IfErr result (OnlyUnmoved (O.heap o.old) (O.heap o.new)) }
     ensures works { Spends O.HasHeap 3 o.old o.new result }
+    ensures lines { TouchesWithin (occupied_lines acct) (O.transaction o.old) (O.transaction o.new)
+        result }
 {
     o.set_root(occupancy_word(acct, Space::File), amounts.file)?;
     o.set_root(occupancy_word(acct, Space::Bulk), amounts.bulk)?;

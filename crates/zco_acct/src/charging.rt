@@ -2,6 +2,7 @@
 ghost use Rattle.std.specs.Prelude.{◌≡◌, IfOk, IfErr, OnOk};
 ghost use Rattle.sdr_base.specs.Moves.{KeepsSome};
 ghost use Rattle.sdr_base.specs.Objects.{OnlyUnmoved};
+ghost use Rattle.sdr_base.specs.Transaction.{LeavesTouched};
 ghost use Rattle.sdr_base.specs.Works.{Looks, Spends};
 ghost use Rattle.sdr_model.specs.Amounts.{plus};
 ghost use Rattle.zco_acct.specs.Charges.{ChargesAccount, ChargeStops, SomeGrant, UsesGrant};
@@ -19,6 +20,7 @@ use sdr_model::amounts::{NOTHING, amount, first_above, is_nothing, minus, plus};
 /// Charges an account so many bytes of each space. What is left of the grant of the ticket of this
 /// number covers what it can, and gives that up; what it doesn't cover is occupied from then on. 0
 /// is no ticket.
+#[tactic(auto, using(sdr_base::proofs::LeavingLemmas::leaving))]
 pub fn charge<O: Objects>(o: &mut O, acct: Acct, ticket: u64, amounts: &Amounts) -> Result<(), Stop>
     requires kept { KeepsSome (O.keeps o.old) }
     requires queue { SomeQueue (O.heap o.old) acct }
@@ -26,6 +28,7 @@ pub fn charge<O: Objects>(o: &mut O, acct: Acct, ticket: u64, amounts: &Amounts)
         (ChargesAccount acct ticket amounts.now (O.heap o.old) (O.heap o.new)) }
     ensures refused { IfErr result
         (ChargeStops acct ticket amounts.now (O.heap o.old) (O.heap o.new)) }
+    ensures untouched { IfErr result (LeavesTouched (O.transaction o.old) (O.transaction o.new)) }
     ensures works { Spends O.HasHeap 5 o.old o.new result }
 {
     let grant = grant_of(o, acct, ticket)?;

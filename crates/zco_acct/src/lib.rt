@@ -10,7 +10,8 @@
 //!
 //! Proved: `charge` uses its ticket's grant first, and makes every check before it changes anything, in the order
 //! BadTicket, NotAwarded, Queue, NoSpace (`charged`, `refused`). Occupancies and maxima are told and set
-//! (`given`, `set`). At most 5 lines are touched (`works`).
+//! (`given`, `set`). At most 5 lines are touched (`works`), and no other than the words' and the grant's (`lines`) by
+//! what sets these; a refusal leaves them (`untouched`).
 //!
 //! Only tested: occupancies and maxima (`tests/cases`); that the callback is called (`test_things`).
 #![tactic(auto)]

@@ -1,12 +1,13 @@
 // A ticket in its block.
 ghost use Rattle.std.specs.Prelude.{◌≡◌, ◌*◌, ◌<◌, [], ◌∷◌, ◌++◌, IfOk, IfErr, OnOk};
 ghost use Rattle.sdr_base.specs.Blocks.{UsesRange};
+ghost use Rattle.sdr_base.specs.Cells.{TouchesWithin};
 ghost use Rattle.sdr_base.specs.Moves.{KeepsSome};
 ghost use Rattle.sdr_base.specs.Objects.{OnlyFault, OnlyUnmoved};
 ghost use Rattle.sdr_base.specs.Stored.{number_at};
 ghost use Rattle.sdr_base.specs.Works.{Looks, Spends};
 ghost use Rattle.zco_acct.specs.Kept.{SomeTicket};
-ghost use Rattle.zco_acct.specs.Tickets.{TellsTicket, amounts_at, queued_at, with_grant};
+ghost use Rattle.zco_acct.specs.Tickets.{TellsTicket, amounts_at, grant_lines, queued_at, with_grant};
 
 use byteorder::{BigEndian, ByteOrder};
 use sdr_base::layout::ticket as words;
@@ -82,6 +83,8 @@ pub fn put_grant<O: Objects>(o: &mut O, addr: Addr, left: &Amounts) -> Result<()
     ensures granted { OnOk result (O.heap o.new ≡ with_grant (O.heap o.old) addr left.now) }
     ensures refused { IfErr result (OnlyUnmoved (O.heap o.old) (O.heap o.new)) }
     ensures works { Spends O.HasHeap 2 o.old o.new result }
+    ensures lines { TouchesWithin (grant_lines addr) (O.transaction o.old) (O.transaction o.new)
+        result }
 {
     let mut bytes = [0; 32];
     BigEndian::write_u64_into(&[left.file, left.bulk, left.heap, 1], &mut bytes);

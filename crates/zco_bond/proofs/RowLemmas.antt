@@ -2,6 +2,7 @@
 use Rattle.std.proofs.Common.{◌≡◌, ◌-◌, ℕ, List, [], ◌∷◌, ◌++◌, length, refl, sym, ap, ◌∙◌, arith, append_assoc, append-nil, length-append}
 use Rattle.sdr_base.specs.Making.{Made}
 use Rattle.sdr_base.specs.Objects.{Heap, OnlyFault, OnlyShort, OnlyUnmoved}
+use Rattle.sdr_base.specs.Wanting.{OnlyWanting}
 use Rattle.sdr_base.specs.declared.moves.Move.{Move}
 use Rattle.sdr_base.specs.declared.moves.Move.TheVariants.{Short, Took}
 use Rattle.sdr_base.specs.declared.refusal.Refusal.TheVariants as refusals
@@ -29,6 +30,15 @@ fault_stops Row old new (Refused refusal) f = absurd f
 fault_stops Row old new DiskFault f = f
 fault_stops Row old new MediaFault f = f
 fault_stops Row old new Failed f = f
+
+-- a call that stops so stops for want alone
+pub rows_want : (Row : List Move → Type 0) (old new : Heap) (stop : Stop) → RowStops Row old new stop → OnlyWanting stop
+rows_want Row old new (Refused (refusals.NoBlock missing)) s = tt
+rows_want Row old new (Refused (refusals.LogFull lines room)) s = tt
+rows_want Row old new (Refused refusal) s = absurd s
+rows_want Row old new DiskFault s = tt
+rows_want Row old new MediaFault s = s
+rows_want Row old new Failed s = tt
 
 -- no block was taken
 pub short_stops : (need : ℕ) (old new : Heap) (stop : Stop) → OnlyShort need old new stop → RowStops (TookOne need) old new stop

@@ -3,6 +3,8 @@ ghost use Rattle.std.specs.Prelude.{◌≡◌, ◌≤◌, ◌+◌, ◌==◌, Lis
 ghost use Rattle.sdr_base.specs.Blocks.{IsKind, UsesRange};
 ghost use Rattle.sdr_base.specs.Moves.{KeepsSome};
 ghost use Rattle.sdr_base.specs.Objects.{OnlyUnmoved};
+ghost use Rattle.sdr_base.specs.Transaction.{LeavesTouched};
+ghost use Rattle.sdr_base.specs.Wanting.{OnlyWanting};
 ghost use Rattle.sdr_base.specs.Works.{Spends};
 ghost use Rattle.sdr_base.specs.ZcoObjects.{ObjectRow};
 ghost use Rattle.sdr_base.specs.declared.kind.Kind.TheVariants as kinds;
@@ -28,11 +30,13 @@ use zco_obj::{account, extents_length, first_parts};
 /// It is refused `BadAddress` or `WrongKind` where the object isn't there, `BadTicket`, `NotAwarded`,
 /// `Queue` or `NoSpace` by the account; and `NoBlock` or `LogFull`, behind which the transaction has
 /// to be cancelled.
+#[tactic(auto, using(sdr_base::proofs::LeavingLemmas::leaving))]
 pub fn bond<O: Objects>(o: &mut O, object: Addr, ticket: u64) -> Result<(), Stop>
     requires kept { KeepsSome (O.keeps o.old) }
     requires object { IsToBond (O.heap o.old) object }
     ensures bonded { OnOk result (BondsObject object ticket (O.heap o.old) (O.heap o.new)) }
     ensures refused { IfErr result (BondStops object ticket (O.heap o.old) (O.heap o.new)) }
+    ensures untouched { IfErr result (LeavesTouched (O.transaction o.old) (O.transaction o.new)) }
     ensures works { (row : ObjectRow) (tickets : List Ticket) →
         KeepsWithQueue (O.heap o.old) object row tickets →
         Spends O.HasHeap (8 + ends_lines row) o.old o.new result }
@@ -48,11 +52,13 @@ pub fn bond<O: Objects>(o: &mut O, object: Addr, ticket: u64) -> Result<(), Stop
 
 // Makes extents of an object's headers and trailers, and one chain of all its extents, of which it
 // answers the ends.
+#[tactic(auto, using(sdr_base::proofs::LeavingLemmas::wanting))]
 fn bond_parts<O: Objects>(o: &mut O, object: Addr) -> Result<Chain, Stop>
     requires kept { KeepsSome (O.keeps o.old) }
     requires object { SomeToBond (O.heap o.old) object }
     ensures bonded { IfOk result (BondsParts object (O.heap o.old) (O.heap o.new)) }
     ensures refused { IfErr result (PartsStop object (O.heap o.old) (O.heap o.new)) }
+    ensures wants { IfErr result OnlyWanting }
     ensures works { (row : ObjectRow) → KeepsObject (O.heap o.old).blocks object row →
         Spends O.HasHeap (ends_lines row) o.old o.new result }
 {

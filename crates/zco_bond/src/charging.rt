@@ -2,6 +2,7 @@
 ghost use Rattle.std.specs.Prelude.{◌≡◌, ◌≤◌, ◌*◌, IfErr, IfOk, OnOk};
 ghost use Rattle.sdr_base.specs.Moves.{KeepsSome};
 ghost use Rattle.sdr_base.specs.Objects.{OnlyFault};
+ghost use Rattle.sdr_base.specs.Transaction.{LeavesTouched};
 ghost use Rattle.sdr_base.specs.Works.{Looks, Spends};
 ghost use Rattle.zco_bond.specs.Charging.{BondChargeStops, ChargesBond, TellsRise};
 ghost use Rattle.zco_obj.specs.Kept.{SomeWithQueue};
@@ -38,12 +39,14 @@ fn bond_rise<O: Objects>(o: &mut O, first: Addr) -> Result<u64, Stop>
 }
 
 // Charges an object's account for what the object charges more once it is bonded.
+#[tactic(auto, using(sdr_base::proofs::LeavingLemmas::leaving))]
 pub fn charge_bond<O: Objects>(o: &mut O, object: Addr, ticket: u64) -> Result<(), Stop>
     requires kept { KeepsSome (O.keeps o.old) }
     requires object { SomeWithQueue (O.heap o.old) object }
     ensures charged { OnOk result (ChargesBond object ticket (O.heap o.old) (O.heap o.new)) }
     ensures refused { IfErr result
         (BondChargeStops object ticket (O.heap o.old) (O.heap o.new)) }
+    ensures untouched { IfErr result (LeavesTouched (O.transaction o.old) (O.transaction o.new)) }
     ensures works { Spends O.HasHeap 5 o.old o.new result }
 {
     let first = first_parts(o, object)?;

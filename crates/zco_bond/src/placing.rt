@@ -3,6 +3,7 @@ ghost use Rattle.std.specs.Prelude.{◌≡◌, ◌≢◌, ◌≤◌, ◌+◌, �
 ghost use Rattle.sdr_base.specs.Blocks.{UsesRange};
 ghost use Rattle.sdr_base.specs.Moves.{KeepsSome};
 ghost use Rattle.sdr_base.specs.Objects.{OnlyShort};
+ghost use Rattle.sdr_base.specs.Wanting.{OnlyWanting};
 ghost use Rattle.sdr_base.specs.Works.{Spends};
 ghost use Rattle.zco_bond.specs.Placing.{BondsText, InsertsExtent, IsTextRow, SomePlace};
 ghost use Rattle.zco_bond.specs.Rows.{RowStops};
@@ -32,6 +33,7 @@ fn insert_extent<O: Objects>(o: &mut O, source: Addr, bytes: u64, gap: Gap) -> R
 
 // Makes an extent at a place of a header or trailer, and gives that back. An extent of the account
 // names its source, which has taken over a raw object of the text.
+#[tactic(auto, using(sdr_base::proofs::LeavingLemmas::wanting))]
 pub fn bond_text<O: Objects>(o: &mut O, acct: Acct, text: Text, gap: Gap) -> Result<Addr, Stop>
     requires kept { KeepsSome (O.keeps o.old) }
     requires spare { 4 ≤ (O.heap o.old).spare }
@@ -39,6 +41,7 @@ pub fn bond_text<O: Objects>(o: &mut O, acct: Acct, text: Text, gap: Gap) -> Res
     requires place { SomePlace (O.heap o.old).blocks text gap }
     ensures bonded { IfOk result (BondsText acct text gap (O.heap o.old) (O.heap o.new)) }
     ensures refused { IfErr result (RowStops (IsTextRow text) (O.heap o.old) (O.heap o.new)) }
+    ensures wants { IfErr result OnlyWanting }
     ensures works { Spends O.HasHeap (114 + (TEXT_FROM + text.bytes) / 32) o.old o.new result }
 {
     let source = make_source(o, text)?;

@@ -2,6 +2,7 @@
 ghost use Rattle.std.specs.Prelude.{◌≡◌, ◌≤◌, ◌+◌, ◌/◌, length, IfErr, IfOk, OnOk};
 ghost use Rattle.sdr_base.specs.Moves.{KeepsSome};
 ghost use Rattle.sdr_base.specs.Objects.{OnlyFault, OnlyShort};
+ghost use Rattle.sdr_base.specs.Wanting.{OnlyWanting};
 ghost use Rattle.sdr_base.specs.Works.{Looks, Spends};
 ghost use Rattle.zco_bond.specs.Rows.{RowStops};
 ghost use Rattle.zco_bond.specs.Texts.{CopiesText, FillsRaw, IsSourceRow, IsText, MakesSource};
@@ -51,6 +52,7 @@ fn copy_text<O: Objects>(o: &mut O, text: Text) -> Result<Addr, Stop>
 }
 
 // Makes a source of a text, which takes over a raw object of it.
+#[tactic(auto, using(sdr_base::proofs::LeavingLemmas::wanting))]
 pub fn make_source<O: Objects>(o: &mut O, text: Text) -> Result<Addr, Stop>
     requires kept { KeepsSome (O.keeps o.old) }
     requires spare { 2 ≤ (O.heap o.old).spare }
@@ -59,6 +61,7 @@ pub fn make_source<O: Objects>(o: &mut O, text: Text) -> Result<Addr, Stop>
     ensures made { IfOk result (MakesSource text (O.heap o.old) (O.heap o.new)) }
     ensures refused { IfErr result
         (RowStops (IsSourceRow text.bytes) (O.heap o.old) (O.heap o.new)) }
+    ensures wants { IfErr result OnlyWanting }
     ensures works { Spends O.HasHeap (57 + (TEXT_FROM + text.bytes) / 32) o.old o.new result }
 {
     let raw = copy_text(o, text)?;

@@ -4,6 +4,7 @@ use Rattle.sdr_base.specs.Blocks.{IsKind}
 use Rattle.sdr_base.specs.Entries.{Changes, Entries, BlocksAre}
 use Rattle.sdr_base.specs.Objects.{Heap, OnlyShort}
 use Rattle.sdr_base.specs.Raws.{raw_block, raw_entries}
+use Rattle.sdr_base.specs.Wanting.{OnlyWanting}
 use Rattle.sdr_base.specs.ZcoObjects.{ObjectRow, object_entries}
 use Rattle.sdr_base.specs.declared.kind.Kind.TheVariants as kinds
 use Rattle.sdr_base.specs.declared.kind.Space.TheVariants as spaces
@@ -162,6 +163,21 @@ module _ {object : ℕ} (number : ℕ) {old : Heap} (piece : ExtentPiece) (have 
       source_stops new DiskFault s = s
       source_stops new MediaFault s = s
       source_stops new Failed s = s
+
+      -- which is for want alone, since the raw object is there and no source names it
+      pub source_wants : (new : Heap) (stop : Stop) → NamingStops piece.of mid new stop → OnlyWanting stop
+      source_wants new (Refused (refusals.BadAddress bad)) s =
+          absurd (none_some (sym s.0.1 ∙ (raw_still (with_raw is r h.unnamed)).block))
+      source_wants new (Refused (refusals.WrongKind bad kind)) s =
+          absurd (other_kind (mid.blocks piece.of) _ kind (raw_still (with_raw is r h.unnamed)).block s.0.1)
+      source_wants new (Refused (refusals.InUse bad count)) s =
+          absurd ((s.0.1.used 0 _ (raw_still (with_raw is r h.unnamed))).some refl)
+      source_wants new (Refused (refusals.NoBlock missing)) s = tt
+      source_wants new (Refused (refusals.LogFull lines room)) s = tt
+      source_wants new (Refused refusal) s = absurd s.1
+      source_wants new DiskFault s = tt
+      source_wants new MediaFault s = s
+      source_wants new Failed s = tt
 
       module _ {source : ℕ} {src : Heap} (m : MakesRawSource media.Heap piece.of source mid src) where
         -- the object, the source and the raw object are there once it was made

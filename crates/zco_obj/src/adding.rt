@@ -1,6 +1,7 @@
 // Headers and trailers that come.
 ghost use Rattle.std.specs.Prelude.{◌≡◌, ◌≤◌, ◌+◌, ◌/◌, length, IfErr, OnOk};
 ghost use Rattle.sdr_base.specs.Moves.{KeepsSome};
+ghost use Rattle.sdr_base.specs.Transaction.{LeavesTouched};
 ghost use Rattle.sdr_base.specs.Works.{Spends};
 ghost use Rattle.zco_obj.specs.Capsules.{AddsCapsule, CapsuleStops, ChargesCapsule, IsCapsuleLength, TextRefused};
 ghost use Rattle.zco_obj.specs.Capsules.{with_header, with_trailer};
@@ -15,6 +16,7 @@ use sdr_base::{Addr, Kind, Objects, Refusal, Stop, expect_kind, word};
 
 /// Puts a header in front of an object's others, and charges the object's account for it. What is
 /// left of the grant of the ticket of this number covers what it can; 0 is no ticket.
+#[tactic(auto, using(sdr_base::proofs::LeavingLemmas::leaving))]
 pub fn prepend_header<O: Objects>(
     o: &mut O,
     object: Addr,
@@ -28,6 +30,7 @@ pub fn prepend_header<O: Objects>(
         (AddsCapsule with_header object ticket text.now (O.heap o.old) (O.heap o.new)) }
     ensures refused { IfErr result
         (CapsuleStops object ticket text.now (O.heap o.old) (O.heap o.new)) }
+    ensures untouched { IfErr result (LeavesTouched (O.transaction o.old) (O.transaction o.new)) }
     ensures works { Spends O.HasHeap
         (35 + (TEXT_FROM + length text.now) / 32) o.old o.new result }
 {
@@ -39,6 +42,7 @@ pub fn prepend_header<O: Objects>(
 
 /// Puts a trailer behind an object's others, and charges the object's account for it. What is left
 /// of the grant of the ticket of this number covers what it can; 0 is no ticket.
+#[tactic(auto, using(sdr_base::proofs::LeavingLemmas::leaving))]
 pub fn append_trailer<O: Objects>(
     o: &mut O,
     object: Addr,
@@ -52,6 +56,7 @@ pub fn append_trailer<O: Objects>(
         (AddsCapsule with_trailer object ticket text.now (O.heap o.old) (O.heap o.new)) }
     ensures refused { IfErr result
         (CapsuleStops object ticket text.now (O.heap o.old) (O.heap o.new)) }
+    ensures untouched { IfErr result (LeavesTouched (O.transaction o.old) (O.transaction o.new)) }
     ensures works { Spends O.HasHeap
         (35 + (TEXT_FROM + length text.now) / 32) o.old o.new result }
 {
@@ -62,6 +67,7 @@ pub fn append_trailer<O: Objects>(
 }
 
 // Charges an object's account for a header or trailer of this text.
+#[tactic(auto, using(sdr_base::proofs::LeavingLemmas::leaving))]
 fn charge_capsule<O: Objects>(o: &mut O, object: Addr, ticket: u64, text: &[u8]) -> Result<(), Stop>
     requires kept { KeepsSome (O.keeps o.old) }
     requires object { IsWithQueue (O.heap o.old) object }
@@ -69,6 +75,7 @@ fn charge_capsule<O: Objects>(o: &mut O, object: Addr, ticket: u64, text: &[u8])
         (ChargesCapsule object ticket text.now (O.heap o.old) (O.heap o.new)) }
     ensures refused { IfErr result
         (CapsuleStops object ticket text.now (O.heap o.old) (O.heap o.new)) }
+    ensures untouched { IfErr result (LeavesTouched (O.transaction o.old) (O.transaction o.new)) }
     ensures works { Spends O.HasHeap 5 o.old o.new result }
 {
     expect_kind(o, object, Kind::Object)?;

@@ -3,6 +3,7 @@ ghost use Rattle.std.specs.Prelude.{◌≡◌, ◌≤◌, IfErr, OnOk};
 ghost use Rattle.sdr_base.specs.Blocks.{IsKind};
 ghost use Rattle.sdr_base.specs.Moves.{KeepsSome};
 ghost use Rattle.sdr_base.specs.Objects.{OnlyShort};
+ghost use Rattle.sdr_base.specs.Transaction.{LeavesTouched};
 ghost use Rattle.sdr_base.specs.Works.{Spends};
 ghost use Rattle.sdr_base.specs.declared.kind.Kind.TheVariants as kinds;
 ghost use Rattle.sdr_model.specs.Limits.{longest_source};
@@ -23,6 +24,7 @@ use zco_ref::{attach, expect_unnamed, heap_source};
 /// raw object, which no source may name, a source of its own is made first, which takes it over.
 /// The object's part grows where it reached the end of what was there. What is left of the grant of
 /// the ticket of this number covers what it can; 0 is no ticket.
+#[tactic(auto, using(sdr_base::proofs::LeavingLemmas::leaving))]
 pub fn append_extent<O: Objects>(
     o: &mut O,
     object: Addr,
@@ -41,6 +43,7 @@ pub fn append_extent<O: Objects>(
     ensures refused { IfErr result (AppendStops object ticket
         (record { of = source_or_raw; offset = offset; bytes = bytes })
         (O.heap o.old) (O.heap o.new)) }
+    ensures untouched { IfErr result (LeavesTouched (O.transaction o.old) (O.transaction o.new)) }
     ensures works { Spends O.HasHeap 73 o.old o.new result }
     ensures works_source { IsKind ((O.heap o.old).blocks source_or_raw) kinds.Source →
         Spends O.HasHeap 42 o.old o.new result }
@@ -58,6 +61,7 @@ pub fn append_extent<O: Objects>(
 }
 
 // Puts a part of a source behind an object's extents, and charges the object's account for it.
+#[tactic(auto, using(sdr_base::proofs::LeavingLemmas::leaving))]
 fn append_source<O: Objects>(
     o: &mut O,
     object: Addr,
@@ -71,6 +75,7 @@ fn append_source<O: Objects>(
         (AppendsSource object ticket piece (O.heap o.old) (O.heap o.new)) }
     ensures refused { IfErr result
         (SourceStops object ticket piece (O.heap o.old) (O.heap o.new)) }
+    ensures untouched { IfErr result (LeavesTouched (O.transaction o.old) (O.transaction o.new)) }
     ensures works { Spends O.HasHeap 42 o.old o.new result }
 {
     let seen = see_source(o, piece.of)?;
@@ -84,6 +89,7 @@ fn append_source<O: Objects>(
 
 // Puts a part of a raw object behind an object's extents, whose account is charged for it. A source
 // takes the raw object over before.
+#[tactic(auto, using(sdr_base::proofs::LeavingLemmas::leaving))]
 fn append_raw<O: Objects>(
     o: &mut O,
     object: Addr,
@@ -99,6 +105,7 @@ fn append_raw<O: Objects>(
         (AppendsRaw object ticket piece (O.heap o.old) (O.heap o.new)) }
     ensures refused { IfErr result
         (RawPieceStops object ticket piece (O.heap o.old) (O.heap o.new)) }
+    ensures untouched { IfErr result (LeavesTouched (O.transaction o.old) (O.transaction o.new)) }
     ensures works { Spends O.HasHeap 73 o.old o.new result }
 {
     let have = expect_unnamed(o, piece.of)?;

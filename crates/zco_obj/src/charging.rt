@@ -1,6 +1,7 @@
 // What is charged to an object's account.
 ghost use Rattle.std.specs.Prelude.{◌≡◌, ◌≤◌, IfErr, OnOk};
 ghost use Rattle.sdr_base.specs.Moves.{KeepsSome};
+ghost use Rattle.sdr_base.specs.Transaction.{LeavesTouched};
 ghost use Rattle.sdr_base.specs.Works.{Spends};
 ghost use Rattle.sdr_model.specs.Charges.{capsule_bytes};
 ghost use Rattle.sdr_model.specs.Limits.{longest_source};
@@ -56,6 +57,7 @@ pub fn capsule_bytes(bytes: u64) -> u64
 }
 
 /// Charges the account of an object.
+#[tactic(auto, using(sdr_base::proofs::LeavingLemmas::leaving))]
 pub fn charge_object<O: Objects>(
     o: &mut O,
     object: Addr,
@@ -68,6 +70,7 @@ pub fn charge_object<O: Objects>(
         (ChargesObject object ticket amounts.now (O.heap o.old) (O.heap o.new)) }
     ensures refused { IfErr result
         (ObjectChargeStops object ticket amounts.now (O.heap o.old) (O.heap o.new)) }
+    ensures untouched { IfErr result (LeavesTouched (O.transaction o.old) (O.transaction o.new)) }
     ensures works { Spends O.HasHeap 5 o.old o.new result }
 {
     let acct = account(o, object)?;

@@ -2,6 +2,8 @@
 ghost use Rattle.std.specs.Prelude.{◌≡◌, ◌≤◌, ◌+◌, ◌*◌, ◌^◌, List, length, IfErr, IfOk, OnOk};
 ghost use Rattle.sdr_base.specs.Blocks.{IsKind};
 ghost use Rattle.sdr_base.specs.Moves.{KeepsSome};
+ghost use Rattle.sdr_base.specs.Transaction.{LeavesTouched};
+ghost use Rattle.sdr_base.specs.Wanting.{OnlyWanting};
 ghost use Rattle.sdr_base.specs.Works.{Spends};
 ghost use Rattle.sdr_base.specs.ZcoObjects.{CapsuleRow, ExtentRow, ObjectRow};
 ghost use Rattle.sdr_base.specs.declared.kind.Kind.TheVariants as kinds;
@@ -35,11 +37,13 @@ struct GivenExtent {
 /// account what they charged. A source that has taken over a raw object, or is flagged, goes with
 /// the last extent that names it, before that, and before it the raw object that it has taken over.
 /// It is linear in the parts, and doesn't serve the account's queue.
+#[tactic(auto, using(sdr_base::proofs::LeavingLemmas::leaving))]
 pub fn destroy<O: Objects>(o: &mut O, object: Addr) -> Result<(), Stop>
     requires kept { KeepsSome (O.keeps o.old) }
     requires object { IsWithSources (O.heap o.old) object }
     ensures destroyed { OnOk result (DestroysObject object (O.heap o.old) (O.heap o.new)) }
     ensures refused { IfErr result (DestroyStops object (O.heap o.old) (O.heap o.new)) }
+    ensures untouched { IfErr result (LeavesTouched (O.transaction o.old) (O.transaction o.new)) }
     ensures works { (row : ObjectRow) (sources : List NamedSource) →
         KeepsSources (O.heap o.old).blocks object row sources →
         Spends O.HasHeap (27 + parts_lines row sources) o.old o.new result }
@@ -54,6 +58,7 @@ pub fn destroy<O: Objects>(o: &mut O, object: Addr) -> Result<(), Stop>
 }
 
 // Gives the parts of an object back, and answers what they charged.
+#[tactic(auto, using(sdr_base::proofs::LeavingLemmas::wanting))]
 fn give_parts<O: Objects>(o: &mut O, object: Addr, acct: Acct) -> Result<Amounts, Stop>
     requires kept { KeepsSome (O.keeps o.old) }
     requires object { SomeWithSources (O.heap o.old) object }
@@ -61,6 +66,7 @@ fn give_parts<O: Objects>(o: &mut O, object: Addr, acct: Acct) -> Result<Amounts
     ensures given { IfOk result (GivesParts object (O.heap o.old) (O.heap o.new)) }
     ensures most { IfOk result (AreAtMost (2 ^ 63)) }
     ensures refused { IfErr result (PartStops object (O.heap o.old) (O.heap o.new)) }
+    ensures wants { IfErr result OnlyWanting }
     ensures works { (row : ObjectRow) (sources : List NamedSource) →
         KeepsSources (O.heap o.old).blocks object row sources →
         Spends O.HasHeap (parts_lines row sources) o.old o.new result }
@@ -74,12 +80,14 @@ fn give_parts<O: Objects>(o: &mut O, object: Addr, acct: Acct) -> Result<Amounts
 
 // Gives the headers or trailers of a chain back, and answers how many bytes of heap space they
 // charged.
+#[tactic(auto, using(sdr_base::proofs::LeavingLemmas::wanting))]
 fn give_capsules<O: Objects>(o: &mut O, first: Addr) -> Result<u64, Stop>
     requires kept { KeepsSome (O.keeps o.old) }
     requires chain { SomeCapsulesToGive (O.heap o.old) first }
     ensures given { IfOk result (GivesCapsules first (O.heap o.old) (O.heap o.new)) }
     ensures most { IfOk result (λ charged. charged ≤ 2 ^ 33) }
     ensures refused { IfErr result (CapsuleGiveStops first (O.heap o.old) (O.heap o.new)) }
+    ensures wants { IfErr result OnlyWanting }
     ensures works { (rows : List CapsuleRow) → CapsulesAt (O.heap o.old).blocks first rows →
         Spends O.HasHeap (24 * length rows) o.old o.new result }
 {
@@ -100,12 +108,14 @@ fn give_capsules<O: Objects>(o: &mut O, first: Addr) -> Result<u64, Stop>
 
 /// Gives the extents of a chain back, each after what goes with it, and answers what they charged.
 /// At most their blocks and those of their sources go. It is linear in the extents.
+#[tactic(auto, using(sdr_base::proofs::LeavingLemmas::wanting))]
 pub fn give_extents<O: Objects>(o: &mut O, acct: Acct, first: Addr) -> Result<Amounts, Stop>
     requires kept { KeepsSome (O.keeps o.old) }
     requires chain { SomeUses acct (O.heap o.old) first }
     ensures given { IfOk result (GivesExtents acct first (O.heap o.old) (O.heap o.new)) }
     ensures most { IfOk result (AreAtMost (2 ^ 62 + 2 ^ 27)) }
     ensures refused { IfErr result (ExtentsGiveStops acct first (O.heap o.old) (O.heap o.new)) }
+    ensures wants { IfErr result OnlyWanting }
     ensures works { (extents : List ExtentRow) (sources : List NamedSource) →
         UsesAt acct (O.heap o.old).blocks first extents sources →
         Spends O.HasHeap (uses_lines extents sources) o.old o.new result }
@@ -125,6 +135,7 @@ pub fn give_extents<O: Objects>(o: &mut O, acct: Acct, first: Addr) -> Result<Am
 }
 
 // Gives an extent back, once its source counts one less, and is gone where it goes with it.
+#[tactic(auto, using(sdr_base::proofs::LeavingLemmas::wanting))]
 fn give_extent<O: Objects>(o: &mut O, acct: Acct, extent: Addr) -> Result<GivenExtent, Stop>
     requires kept { KeepsSome (O.keeps o.old) }
     requires spare { 1 + going_with (O.heap o.old).blocks extent ≤ (O.heap o.old).spare }
@@ -132,6 +143,7 @@ fn give_extent<O: Objects>(o: &mut O, acct: Acct, extent: Addr) -> Result<GivenE
     ensures given { IfOk result (GivesExtent acct extent (O.heap o.old) (O.heap o.new)) }
     ensures most { IfOk result (λ given. AreAtMost (2 ^ 40 + 32) given.charged) }
     ensures refused { IfErr result (ExtentGiveStops acct extent (O.heap o.old) (O.heap o.new)) }
+    ensures wants { IfErr result OnlyWanting }
     ensures works { Spends O.HasHeap
         (28 + 24 * going_with (O.heap o.old).blocks extent) o.old o.new result }
 {

@@ -1,6 +1,8 @@
 // Headers and trailers that go.
 ghost use Rattle.std.specs.Prelude.{◌≡◌, ◌≢◌, ◌≤◌, IfErr, OnOk};
 ghost use Rattle.sdr_base.specs.Moves.{KeepsSome};
+ghost use Rattle.sdr_base.specs.Transaction.{LeavesTouched};
+ghost use Rattle.sdr_base.specs.Wanting.{OnlyWanting};
 ghost use Rattle.sdr_base.specs.Works.{Spends};
 ghost use Rattle.zco_obj.specs.Chains.{SomeSpot};
 ghost use Rattle.zco_obj.specs.Discards.{DiscardsCapsule, DiscardsSpot, DiscardStops, SpotStops};
@@ -20,6 +22,7 @@ use zco_acct::release;
 
 /// Gives the first header of an object back, and what it charged. It doesn't serve the account's
 /// queue.
+#[tactic(auto, using(sdr_base::proofs::LeavingLemmas::leaving))]
 pub fn discard_first_header<O: Objects>(o: &mut O, object: Addr) -> Result<(), Stop>
     requires kept { KeepsSome (O.keeps o.old) }
     requires spare { 1 ≤ (O.heap o.old).spare }
@@ -28,6 +31,7 @@ pub fn discard_first_header<O: Objects>(o: &mut O, object: Addr) -> Result<(), S
         (DiscardsCapsule first_header without_header object (O.heap o.old) (O.heap o.new)) }
     ensures refused { IfErr result
         (DiscardStops first_header object (O.heap o.old) (O.heap o.new)) }
+    ensures untouched { IfErr result (LeavesTouched (O.transaction o.old) (O.transaction o.new)) }
     ensures works { Spends O.HasHeap 31 o.old o.new result }
 {
     expect_kind(o, object, Kind::Object)?;
@@ -41,6 +45,7 @@ pub fn discard_first_header<O: Objects>(o: &mut O, object: Addr) -> Result<(), S
 
 /// Gives the last trailer of an object back, and what it charged. It is linear in the trailers. It
 /// doesn't serve the account's queue.
+#[tactic(auto, using(sdr_base::proofs::LeavingLemmas::leaving))]
 pub fn discard_last_trailer<O: Objects>(o: &mut O, object: Addr) -> Result<(), Stop>
     requires kept { KeepsSome (O.keeps o.old) }
     requires spare { 1 ≤ (O.heap o.old).spare }
@@ -49,6 +54,7 @@ pub fn discard_last_trailer<O: Objects>(o: &mut O, object: Addr) -> Result<(), S
         (DiscardsCapsule last_trailer without_trailer object (O.heap o.old) (O.heap o.new)) }
     ensures refused { IfErr result
         (DiscardStops last_trailer object (O.heap o.old) (O.heap o.new)) }
+    ensures untouched { IfErr result (LeavesTouched (O.transaction o.old) (O.transaction o.new)) }
     ensures works { Spends O.HasHeap 31 o.old o.new result }
 {
     expect_kind(o, object, Kind::Object)?;
@@ -63,6 +69,7 @@ pub fn discard_last_trailer<O: Objects>(o: &mut O, object: Addr) -> Result<(), S
 
 // Gives a header or trailer back that stands behind another, or is its chain's first where that is
 // 0, and what it charged.
+#[tactic(auto, using(sdr_base::proofs::LeavingLemmas::wanting))]
 fn discard<O: Objects>(
     o: &mut O,
     object: Addr,
@@ -79,6 +86,7 @@ fn discard<O: Objects>(
     ensures discarded { OnOk result
         (DiscardsSpot side object prev gone seen.next (O.heap o.old) (O.heap o.new)) }
     ensures refused { IfErr result (SpotStops gone (O.heap o.old) (O.heap o.new)) }
+    ensures wants { IfErr result OnlyWanting }
     ensures works { Spends O.HasHeap 31 o.old o.new result }
 {
     let acct = account(o, object)?;

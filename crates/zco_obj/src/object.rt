@@ -3,6 +3,7 @@ ghost use Rattle.std.specs.Prelude.{◌≡◌, ◌≤◌, IfOk, IfErr};
 ghost use Rattle.sdr_base.specs.Moves.{KeepsSome};
 ghost use Rattle.sdr_base.specs.Making.{MakesThing};
 ghost use Rattle.sdr_base.specs.Objects.{OnlyFault, OnlyShort};
+ghost use Rattle.sdr_base.specs.Transaction.{LeavesTouched};
 ghost use Rattle.sdr_base.specs.Works.{Looks, Spends};
 ghost use Rattle.sdr_base.specs.ZcoObjects.{object_entries};
 ghost use Rattle.sdr_model.specs.Charges.{object_bytes};
@@ -29,6 +30,7 @@ pub struct Firsts {
 
 /// Makes an object with nothing in it in an account, and charges the account for it. What is left
 /// of the grant of the ticket of this number covers what it can; 0 is no ticket.
+#[tactic(auto, using(sdr_base::proofs::LeavingLemmas::leaving))]
 pub fn create<O: Objects>(o: &mut O, acct: Acct, ticket: u64) -> Result<Addr, Stop>
     requires kept { KeepsSome (O.keeps o.old) }
     requires spare { 1 ≤ (O.heap o.old).spare }
@@ -36,6 +38,7 @@ pub fn create<O: Objects>(o: &mut O, acct: Acct, ticket: u64) -> Result<Addr, St
     ensures made { IfOk result (λ object.
         CreatesObject acct ticket object (O.heap o.old) (O.heap o.new)) }
     ensures refused { IfErr result (CreateStops acct ticket (O.heap o.old) (O.heap o.new)) }
+    ensures untouched { IfErr result (LeavesTouched (O.transaction o.old) (O.transaction o.new)) }
     ensures works { Spends O.HasHeap 34 o.old o.new result }
 {
     charge(o, acct, ticket, &heap_amounts(OBJECT_BYTES))?;

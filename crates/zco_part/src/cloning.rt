@@ -3,6 +3,7 @@ ghost use Rattle.std.specs.Prelude.{◌≡◌, ◌≤◌, ◌+◌, ◌*◌, List
 ghost use Rattle.sdr_base.specs.Blocks.{IsKind};
 ghost use Rattle.sdr_base.specs.Moves.{KeepsSome};
 ghost use Rattle.sdr_base.specs.Objects.{OnlyFault};
+ghost use Rattle.sdr_base.specs.Transaction.{LeavesTouched};
 ghost use Rattle.sdr_base.specs.Works.{Looks, Spends};
 ghost use Rattle.sdr_base.specs.ZcoObjects.{ObjectRow};
 ghost use Rattle.sdr_base.specs.declared.kind.Kind.TheVariants as kinds;
@@ -39,6 +40,7 @@ struct Asked {
 /// It is refused `BadAddress` or `WrongKind` where the object isn't there, `BadRange` for no byte or
 /// more than its part has from the place on, `BadTicket`, `NotAwarded`, `Queue` or `NoSpace` by the
 /// account; and `NoBlock` or `LogFull`, behind which the transaction has to be cancelled.
+#[tactic(auto, using(sdr_base::proofs::LeavingLemmas::leaving))]
 pub fn clone_part<O: Objects>(
     o: &mut O,
     object: Addr,
@@ -52,6 +54,7 @@ pub fn clone_part<O: Objects>(
         (ClonesPart object ticket offset bytes (O.heap o.old) (O.heap o.new)) }
     ensures refused { IfErr result
         (CloneStops object ticket offset bytes (O.heap o.old) (O.heap o.new)) }
+    ensures untouched { IfErr result (LeavesTouched (O.transaction o.old) (O.transaction o.new)) }
     ensures works { (row : ObjectRow) (tickets : List Ticket) (sources : List NamedSource) →
         KeepsToClone (O.heap o.old) object row tickets sources →
         Spends O.HasHeap (34 + 33 * length (asked offset bytes row)) o.old o.new result }
@@ -81,6 +84,7 @@ fn check_range(offset: u64, bytes: u64, have: u64) -> Result<(), Stop>
 }
 
 // Makes an object of a range that the part of an object has, and charges its account.
+#[tactic(auto, using(sdr_base::proofs::LeavingLemmas::leaving))]
 fn make_clone<O: Objects>(
     o: &mut O,
     object: Addr,
@@ -95,6 +99,7 @@ fn make_clone<O: Objects>(
         (ClonesPart object ticket offset bytes (O.heap o.old) (O.heap o.new)) }
     ensures refused { IfErr result
         (CloneStops object ticket offset bytes (O.heap o.old) (O.heap o.new)) }
+    ensures untouched { IfErr result (LeavesTouched (O.transaction o.old) (O.transaction o.new)) }
     ensures works { (row : ObjectRow) (tickets : List Ticket) (sources : List NamedSource) →
         KeepsToClone (O.heap o.old) object row tickets sources →
         Spends O.HasHeap (34 + 33 * length (asked offset bytes row)) o.old o.new result }
@@ -129,6 +134,7 @@ fn see_asked<O: Objects>(o: &mut O, object: Addr, offset: u64, bytes: u64) -> Re
 }
 
 // Charges an account for an object of what is asked for.
+#[tactic(auto, using(sdr_base::proofs::LeavingLemmas::leaving))]
 fn charge_clone<O: Objects>(o: &mut O, acct: Acct, ticket: u64, asked: Asked) -> Result<(), Stop>
     requires kept { KeepsSome (O.keeps o.old) }
     requires queue { SomeQueue (O.heap o.old) acct }
@@ -136,6 +142,7 @@ fn charge_clone<O: Objects>(o: &mut O, acct: Acct, ticket: u64, asked: Asked) ->
     ensures charged { OnOk result
         (ChargesClone acct ticket asked (O.heap o.old) (O.heap o.new)) }
     ensures refused { IfErr result (StopsClone acct ticket asked (O.heap o.old) (O.heap o.new)) }
+    ensures untouched { IfErr result (LeavesTouched (O.transaction o.old) (O.transaction o.new)) }
     ensures works { Spends O.HasHeap 5 o.old o.new result }
 {
     let extents = chain_charge(o, asked.first, asked.span)?;

@@ -4,6 +4,7 @@ ghost use Rattle.sdr_base.specs.Blocks.{UsesRange};
 ghost use Rattle.sdr_base.specs.Moves.{KeepsSome};
 ghost use Rattle.sdr_base.specs.Objects.{OnlyShort, OnlyUnmoved};
 ghost use Rattle.sdr_base.specs.Words.{TakesBytes};
+ghost use Rattle.sdr_base.specs.Wanting.{OnlyWanting};
 ghost use Rattle.sdr_base.specs.Works.{Spends};
 ghost use Rattle.sdr_base.specs.ZcoObjects.{ExtentRow};
 ghost use Rattle.sdr_base.specs.declared.account.Acct.{Acct};
@@ -26,11 +27,13 @@ use zco_ref::attach;
 
 // Fills an empty object with one extent for each extent of the chain that the span meets, cut at the
 // span's ends. Each source counts one more. It is linear in the chain.
+#[tactic(auto, using(sdr_base::proofs::LeavingLemmas::wanting))]
 pub fn copy_chain<O: Objects>(o: &mut O, copy: Addr, first: Addr, span: Span) -> Result<(), Stop>
     requires kept { KeepsSome (O.keeps o.old) }
     requires chain { SomeCopy copy (O.heap o.old) first span }
     ensures copied { OnOk result (CopiesChain copy first span (O.heap o.old) (O.heap o.new)) }
     ensures refused { IfErr result (CopyStops copy first span (O.heap o.old) (O.heap o.new)) }
+    ensures wants { IfErr result OnlyWanting }
     ensures works { (acct : Acct) (extents : List ExtentRow) (sources : List NamedSource) →
         CopyAt copy acct (O.heap o.old).blocks first extents sources →
         Spends O.HasHeap (33 * length (parts span extents)) o.old o.new result }
@@ -51,6 +54,7 @@ pub fn copy_chain<O: Objects>(o: &mut O, copy: Addr, first: Addr, span: Span) ->
 }
 
 // Gives an object that is whole an extent of a piece, unless the piece has no byte.
+#[tactic(auto, using(sdr_base::proofs::LeavingLemmas::wanting))]
 fn name_piece<O: Objects>(o: &mut O, object: Addr, piece: ExtentPiece) -> Result<(), Stop>
     requires kept { KeepsSome (O.keeps o.old) }
     requires spare { length (filled piece) ≤ (O.heap o.old).spare }
@@ -58,6 +62,7 @@ fn name_piece<O: Objects>(o: &mut O, object: Addr, piece: ExtentPiece) -> Result
     requires short { piece.bytes ≤ longest_source }
     ensures named { OnOk result (NamesPiece object piece (O.heap o.old) (O.heap o.new)) }
     ensures refused { IfErr result (PieceStops piece (O.heap o.old) (O.heap o.new)) }
+    ensures wants { IfErr result OnlyWanting }
     ensures works { Spends O.HasHeap (33 * length (filled piece)) o.old o.new result }
 {
     if piece.bytes == 0 {

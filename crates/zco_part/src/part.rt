@@ -1,6 +1,7 @@
 // The part of an object.
 ghost use Rattle.std.specs.Prelude.{◌≡◌, ◌≤◌, ◌+◌, IfErr, OnOk};
 ghost use Rattle.sdr_base.specs.Moves.{KeepsSome};
+ghost use Rattle.sdr_base.specs.Transaction.{LeavesTouched};
 ghost use Rattle.sdr_base.specs.Works.{Spends};
 ghost use Rattle.zco_obj.specs.Kept.{IsObject};
 ghost use Rattle.zco_part.specs.Delimiting.{Delimits, DelimitStops, IsPast};
@@ -14,12 +15,14 @@ use zco_obj::extents_length;
 ///
 /// It is refused `BadAddress` or `WrongKind` where the object isn't there, `BadRange` where the
 /// extents have fewer bytes, and `LogFull`, behind which the transaction has to be cancelled.
+#[tactic(auto, using(sdr_base::proofs::LeavingLemmas::leaving))]
 pub fn delimit<O: Objects>(o: &mut O, object: Addr, offset: u64, bytes: u64) -> Result<(), Stop>
     requires kept { KeepsSome (O.keeps o.old) }
     requires object { IsObject (O.heap o.old).blocks object }
     ensures delimited { OnOk result (Delimits object offset bytes (O.heap o.old) (O.heap o.new)) }
     ensures refused { IfErr result
         (DelimitStops object offset bytes (O.heap o.old) (O.heap o.new)) }
+    ensures untouched { IfErr result (LeavesTouched (O.transaction o.old) (O.transaction o.new)) }
     ensures works { Spends O.HasHeap 4 o.old o.new result }
 {
     expect_kind(o, object, Kind::Object)?;

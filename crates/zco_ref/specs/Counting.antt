@@ -24,6 +24,11 @@ pub record CountsUses (found : Option Block) (value : ℕ) : Type 0 where
   pub kind : IsKind found kinds.Source
   pub uses : TellsUses found value
 
+-- so many extents of the account name the source that is kept there
+pub record CountsIn (acct : Acct) (found : Option Block) (value : ℕ) : Type 0 where
+  pub kind : IsKind found kinds.Source
+  pub tells : (source : CountedSource) → KeepsSource found source → value ≡ count_in acct source
+
 -- the word field with the count of an account's extents
 abbrev pub count_field : Acct → ℕ
 count_field accts.Inbound = INBOUND

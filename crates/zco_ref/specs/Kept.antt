@@ -50,6 +50,10 @@ pub record SomeSource (found : Option Block) : Type 0 where
   pub source : CountedSource
   pub keeps : KeepsSource found source
 
+-- where a source's block stands, a source is kept
+abbrev pub IsSource : Option Block → Type 0
+IsSource found = IsKind found kinds.Source → SomeSource found
+
 -- some source is kept there, whose counts can be added
 pub record SomeFew (found : Option Block) : Type 0 where
   pub source : CountedSource

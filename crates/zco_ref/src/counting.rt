@@ -2,11 +2,12 @@
 ghost use Rattle.std.specs.Prelude.{◌≡◌, ◌+◌, ◌*◌, ◌≤◌, IfOk, IfErr, OnOk};
 ghost use Rattle.sdr_base.specs.Moves.{KeepsSome};
 ghost use Rattle.sdr_base.specs.Objects.{Misses, OnlyFault, OnlyUnmoved};
+ghost use Rattle.sdr_base.specs.Wanting.{OnlyWanting};
 ghost use Rattle.sdr_base.specs.Works.{Looks, Spends};
 ghost use Rattle.sdr_base.specs.declared.kind.Kind.TheVariants as kinds;
-ghost use Rattle.zco_ref.specs.Counting.{Attaches, CountsUses, Detaches, DetachStops, TellsUses, count_field};
+ghost use Rattle.zco_ref.specs.Counting.{Attaches, CountsIn, CountsUses, Detaches, DetachStops, TellsUses, count_field};
 ghost use Rattle.zco_ref.specs.Going.{going};
-ghost use Rattle.zco_ref.specs.Kept.{IsFew, SomeAttached, SomeBelow, SomeFew};
+ghost use Rattle.zco_ref.specs.Kept.{IsFew, IsSource, SomeAttached, SomeBelow, SomeFew};
 
 use crate::dropping::vanish;
 use crate::seeing::see;
@@ -38,6 +39,18 @@ pub fn uses_of<O: Objects>(o: &mut O, source: Addr) -> Result<u64, Stop>
     Ok(inbound + outbound)
 }
 
+/// How many extents of an account's objects name a source.
+pub fn count_in<O: Objects>(o: &mut O, source: Addr, acct: Acct) -> Result<u64, Stop>
+    requires kept { KeepsSome (O.keeps o.old) }
+    requires source { IsSource ((O.heap o.old).blocks source) }
+    ensures given { IfOk result (CountsIn acct ((O.heap o.old).blocks source)) }
+    ensures refused { IfErr result (Misses ((O.heap o.old).blocks source) source kinds.Source) }
+    ensures looks { Looks O.HasHeap o.old o.new result }
+{
+    expect_kind(o, source, Kind::Source)?;
+    word(o, source, count_field(acct))
+}
+
 /// Counts an extent more of an account that names a source.
 pub fn attach<O: Objects>(o: &mut O, source: Addr, acct: Acct) -> Result<(), Stop>
     requires kept { KeepsSome (O.keeps o.old) }
@@ -53,12 +66,14 @@ pub fn attach<O: Objects>(o: &mut O, source: Addr, acct: Acct) -> Result<(), Sto
 
 /// Counts an extent less of an account that names a source, and answers whether the source went with
 /// it: it was the last one, and the source is flagged or has taken over a raw object, which went too.
+#[tactic(auto, using(sdr_base::proofs::LeavingLemmas::wanting))]
 pub fn detach<O: Objects>(o: &mut O, source: Addr, acct: Acct) -> Result<bool, Stop>
     requires kept { KeepsSome (O.keeps o.old) }
     requires spare { going ((O.heap o.old).blocks source) ≤ (O.heap o.old).spare }
     requires source { SomeAttached acct (O.heap o.old).blocks source }
     ensures detached { IfOk result (Detaches source acct (O.heap o.old) (O.heap o.new)) }
     ensures refused { IfErr result (DetachStops source (O.heap o.old) (O.heap o.new)) }
+    ensures wants { IfErr result OnlyWanting }
     ensures works { Spends O.HasHeap
         (4 + 24 * going ((O.heap o.old).blocks source)) o.old o.new result }
 {

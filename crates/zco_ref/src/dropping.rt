@@ -1,6 +1,8 @@
 // The end of a source.
 ghost use Rattle.std.specs.Prelude.{◌≡◌, ◌+◌, ◌*◌, ◌≤◌, IfErr, OnOk};
 ghost use Rattle.sdr_base.specs.Moves.{KeepsSome};
+ghost use Rattle.sdr_base.specs.Transaction.{LeavesTouched};
+ghost use Rattle.sdr_base.specs.Wanting.{OnlyWanting};
 ghost use Rattle.sdr_base.specs.Works.{Spends};
 ghost use Rattle.zco_ref.specs.Dropping.{DestroysSource, DestroyStops};
 ghost use Rattle.zco_ref.specs.Going.{Vanishes, VanishStops, blocks_with};
@@ -14,12 +16,14 @@ use sdr_base::{Addr, Kind, Medium, Objects, Refusal, Stop, expect_kind, set_word
 /// Gives a source back where no extent names it, and else flags it: it goes with its last extent. A
 /// source that has taken over a raw object is refused as of the wrong kind, and a flagged one as not
 /// found.
+#[tactic(auto, using(sdr_base::proofs::LeavingLemmas::leaving))]
 pub fn destroy_ref<O: Objects>(o: &mut O, source: Addr) -> Result<(), Stop>
     requires kept { KeepsSome (O.keeps o.old) }
     requires spare { 1 ≤ (O.heap o.old).spare }
     requires source { IsTied (O.heap o.old).blocks source }
     ensures destroyed { OnOk result (DestroysSource source (O.heap o.old) (O.heap o.new)) }
     ensures refused { IfErr result (DestroyStops source (O.heap o.old) (O.heap o.new)) }
+    ensures untouched { IfErr result (LeavesTouched (O.transaction o.old) (O.transaction o.new)) }
     ensures works { Spends O.HasHeap 28 o.old o.new result }
 {
     expect_kind(o, source, Kind::Source)?;
@@ -41,6 +45,7 @@ pub fn destroy_ref<O: Objects>(o: &mut O, source: Addr) -> Result<(), Stop>
 
 // Gives a source back, and before it the raw object that it has taken over. One that stays with its
 // owner is named by no source from then on.
+#[tactic(auto, using(sdr_base::proofs::LeavingLemmas::wanting))]
 pub fn vanish<O: Objects>(o: &mut O, source: Addr, seen: Seen) -> Result<(), Stop>
     requires kept { KeepsSome (O.keeps o.old) }
     requires spare { blocks_with seen.medium ≤ (O.heap o.old).spare }
@@ -49,6 +54,7 @@ pub fn vanish<O: Objects>(o: &mut O, source: Addr, seen: Seen) -> Result<(), Sto
     ensures gone { OnOk result (Vanishes source (O.heap o.old) (O.heap o.new)) }
     ensures refused { IfErr result
         (VanishStops seen.medium seen.subject (O.heap o.old) (O.heap o.new)) }
+    ensures wants { IfErr result OnlyWanting }
     ensures works { Spends O.HasHeap (4 + 24 * blocks_with seen.medium) o.old o.new result }
 {
     match seen.medium {

@@ -18,7 +18,7 @@ mod making;
 mod naming;
 mod seeing;
 
-pub use counting::{attach, count, detach};
+pub use counting::{attach, count, count_in, detach};
 pub use dropping::destroy_ref;
 pub use making::{bulk_ref, file_ref};
 pub use naming::{expect_unnamed, heap_source, obj_ref};

@@ -4,6 +4,7 @@ ghost use Rattle.sdr_base.specs.Moves.{KeepsSome};
 ghost use Rattle.sdr_base.specs.Objects.{OnlyShort};
 ghost use Rattle.sdr_base.specs.Sources.{medium_number};
 ghost use Rattle.sdr_base.specs.Words.{TakesBytes, layout};
+ghost use Rattle.sdr_base.specs.Transaction.{LeavesTouched};
 ghost use Rattle.sdr_base.specs.Works.{Spends};
 ghost use Rattle.sdr_base.specs.declared.kind.Kind.TheVariants as kinds;
 ghost use Rattle.zco_ref.specs.Making.{BulkStops, FileStops, IsPathLength, MakesBulk, MakesFile};
@@ -19,12 +20,14 @@ use sdr_base::{
 pub const PATH_FROM: usize = 48;
 
 /// Makes a source of the first bytes of a file, so many. The file isn't looked at.
+#[tactic(auto, using(sdr_base::proofs::LeavingLemmas::leaving))]
 pub fn file_ref<O: Objects>(o: &mut O, path: &[u8], bytes: u64) -> Result<Addr, Stop>
     requires kept { KeepsSome (O.keeps o.old) }
     requires spare { 1 ≤ (O.heap o.old).spare }
     ensures made { IfOk result (λ source.
         MakesFile path.now bytes source (O.heap o.old) (O.heap o.new)) }
     ensures refused { IfErr result (FileStops path.now bytes (O.heap o.old) (O.heap o.new)) }
+    ensures untouched { IfErr result (LeavesTouched (O.transaction o.old) (O.transaction o.new)) }
     ensures works { Spends O.HasHeap
         (26 + (PATH_FROM + length path.now) / 32) o.old o.new result }
 {
@@ -35,12 +38,14 @@ pub fn file_ref<O: Objects>(o: &mut O, path: &[u8], bytes: u64) -> Result<Addr, 
 }
 
 /// Makes a source of the first bytes of an item of bulk storage, so many. The item isn't looked at.
+#[tactic(auto, using(sdr_base::proofs::LeavingLemmas::leaving))]
 pub fn bulk_ref<O: Objects>(o: &mut O, item: u64, bytes: u64) -> Result<Addr, Stop>
     requires kept { KeepsSome (O.keeps o.old) }
     requires spare { 1 ≤ (O.heap o.old).spare }
     ensures made { IfOk result (λ source.
         MakesBulk item bytes source (O.heap o.old) (O.heap o.new)) }
     ensures refused { IfErr result (BulkStops bytes (O.heap o.old) (O.heap o.new)) }
+    ensures untouched { IfErr result (LeavesTouched (O.transaction o.old) (O.transaction o.new)) }
     ensures works { Spends O.HasHeap 29 o.old o.new result }
 {
     check_failed(o)?;

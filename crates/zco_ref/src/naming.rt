@@ -1,6 +1,7 @@
 // Sources of raw objects.
 ghost use Rattle.std.specs.Prelude.{◌≡◌, ◌≤◌, IfOk, IfErr};
 ghost use Rattle.sdr_base.specs.Moves.{KeepsSome};
+ghost use Rattle.sdr_base.specs.Transaction.{LeavesTouched};
 ghost use Rattle.sdr_base.specs.Works.{Looks, Spends};
 ghost use Rattle.sdr_base.specs.declared.medium.Medium.TheVariants as media;
 ghost use Rattle.zco_ref.specs.Kept.{IsRaw};
@@ -12,6 +13,7 @@ use sdr_base::layout::raw as words;
 use sdr_base::{Addr, Kind, Medium, Objects, Refusal, Stop, expect_kind, set_word, word};
 
 /// Makes a source of a raw object, which stays with its owner.
+#[tactic(auto, using(sdr_base::proofs::LeavingLemmas::leaving))]
 pub fn obj_ref<O: Objects>(o: &mut O, raw: Addr) -> Result<Addr, Stop>
     requires kept { KeepsSome (O.keeps o.old) }
     requires spare { 1 ≤ (O.heap o.old).spare }
@@ -19,6 +21,7 @@ pub fn obj_ref<O: Objects>(o: &mut O, raw: Addr) -> Result<Addr, Stop>
     ensures made { IfOk result (λ source.
         MakesRawSource media.Obj raw source (O.heap o.old) (O.heap o.new)) }
     ensures refused { IfErr result (NamingStops raw (O.heap o.old) (O.heap o.new)) }
+    ensures untouched { IfErr result (LeavesTouched (O.transaction o.old) (O.transaction o.new)) }
     ensures works { Spends O.HasHeap 31 o.old o.new result }
 {
     raw_source(o, raw, Medium::Obj)
@@ -26,6 +29,7 @@ pub fn obj_ref<O: Objects>(o: &mut O, raw: Addr) -> Result<Addr, Stop>
 
 /// Makes a source of a raw object, which takes it over: the raw object goes with the source, before
 /// it, once no extent names the source any more.
+#[tactic(auto, using(sdr_base::proofs::LeavingLemmas::leaving))]
 pub fn heap_source<O: Objects>(o: &mut O, raw: Addr) -> Result<Addr, Stop>
     requires kept { KeepsSome (O.keeps o.old) }
     requires spare { 1 ≤ (O.heap o.old).spare }
@@ -33,12 +37,14 @@ pub fn heap_source<O: Objects>(o: &mut O, raw: Addr) -> Result<Addr, Stop>
     ensures made { IfOk result (λ source.
         MakesRawSource media.Heap raw source (O.heap o.old) (O.heap o.new)) }
     ensures refused { IfErr result (NamingStops raw (O.heap o.old) (O.heap o.new)) }
+    ensures untouched { IfErr result (LeavesTouched (O.transaction o.old) (O.transaction o.new)) }
     ensures works { Spends O.HasHeap 31 o.old o.new result }
 {
     raw_source(o, raw, Medium::Heap)
 }
 
 // Makes a source of a raw object, and names it there.
+#[tactic(auto, using(sdr_base::proofs::LeavingLemmas::leaving))]
 fn raw_source<O: Objects>(o: &mut O, raw: Addr, medium: Medium) -> Result<Addr, Stop>
     requires kept { KeepsSome (O.keeps o.old) }
     requires spare { 1 ≤ (O.heap o.old).spare }
@@ -46,6 +52,7 @@ fn raw_source<O: Objects>(o: &mut O, raw: Addr, medium: Medium) -> Result<Addr, 
     ensures made { IfOk result (λ source.
         MakesRawSource medium raw source (O.heap o.old) (O.heap o.new)) }
     ensures refused { IfErr result (NamingStops raw (O.heap o.old) (O.heap o.new)) }
+    ensures untouched { IfErr result (LeavesTouched (O.transaction o.old) (O.transaction o.new)) }
     ensures works { Spends O.HasHeap 31 o.old o.new result }
 {
     let bytes = expect_unnamed(o, raw)?;

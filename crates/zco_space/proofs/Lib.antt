@@ -2,6 +2,7 @@ pub mod RootLemmas
 pub mod ServedLemmas
 mod ServingLemmas
 mod ServesLemmas
+mod LinesLemmas
 mod LinkLemmas
 mod PlaceLemmas
 mod EnterLemmas

@@ -20,7 +20,7 @@ abbrev heap_with : ℕ → ℕ → Heap
 heap_with most next = record {
   size = 2048;
   blocks = λ addr. None;
-  roots = roots_by (root_words 0 0 (account_words (each 0) (each most) 0 0) (account_words (each 0) (each most) 0 0) next);
+  roots = roots_by (root_words 0 0 0 (account_words (each 0) (each most) 0 0) (account_words (each 0) (each most) 0 0) next);
   marks = λ addr. false;
   moves = [];
   spare = 9;

@@ -1,5 +1,5 @@
 -- The steps of a service, with whichever queue is kept.
-use Rattle.std.proofs.Common.{◌≡◌, ◌≢◌, ◌≤◌, ◌+◌, ◌*◌, ℕ, List, ◌++◌, true, false, sym, ap, ◌∙◌, arith, subst}
+use Rattle.std.proofs.Common.{◌≡◌, ◌≢◌, ◌≤◌, ◌+◌, ◌*◌, ℕ, List, [], ◌∷◌, ◌++◌, true, false, sym, ap, ◌∙◌, arith, subst, take}
 use Rattle.std.specs.Prelude.{IfSome}
 use Rattle.sdr_base.specs.Blocks.{Reaches}
 use Rattle.sdr_base.specs.Entries.{Few, BlocksAre}
@@ -20,7 +20,8 @@ use Rattle.zco_acct.specs.Words.{first_word, last_word, maxima_in, occupied_in, 
 use Rattle.zco_acct.specs.declared.ticket.Queued.{Queued}
 use Rattle.zco_acct.proofs.MoveLemmas.{unmoved_since}
 use Rattle.zco_acct.proofs.TicketLemmas.{ticket_reaches}
-use Rattle.zco_space.specs.Served.{GrantsTicket, ServesQueue, newly_granted, queue_served}
+use Rattle.zco_space.specs.Served.{GrantsTicket, ServesQueue, newly_granted, queue_served, waiting_tickets}
+use Rattle.zco_space.proofs.LinesLemmas.{waiting_next}
 use Rattle.zco_space.proofs.RootLemmas.{first_of_occupied, last_of_occupied}
 use Rattle.zco_space.proofs.ServedLemmas.{All-served, count-fits, count_after, count_served, first-served, front_waits, last-served, sum_after}
 use Rattle.zco_space.proofs.ServingLemmas.{Ends, Serves, at_cursor, cursor_is, ends_with_none, ends_with_one, grants, more, none_left, none_more, read_here, skips}
@@ -159,6 +160,20 @@ module _ {old now : Heap} {acct : Acct} {taken : Amounts} {cursor count i : ℕ}
       (ap (λ (x : Ticket). are_within x.asked (minus (maxima_in old acct) taken)) (sym one)
       ∙ ap (λ a. are_within value.ticket.asked (minus a taken)) (sym most) ∙ fits) in
       let a = count_after (maxima_in old acct) (occupied_in old acct) tickets in omega (arith, c, l, f, a)
+
+  -- the ticket at the cursor is the next that waits
+  pub taken_next : {value : Queued} {tickets : List Ticket} → KeepsQueue old acct tickets → cursor ≢ 0 →
+      TellsTicket (now.blocks cursor) cursor value → value.ticket.granted ≡ false →
+      take (count + 1) (waiting_tickets tickets) ≡ take count (waiting_tickets tickets) ++ value.ticket ∷ []
+  taken_next {value} {tickets} k n t g =
+      let w = s.serving tickets k in
+      let e = more k w n in
+      let one : value.ticket ≡ e.ticket = ap (λ (v : Queued). v.ticket) (read_here k w e t) in
+      let whole : tickets ≡ w.passed ++ (e.ticket ∷ e.behind) = w.whole ∙ ap (λ (l : List Ticket). w.passed ++ l) e.is in
+      ap (λ (l : List Ticket). take (count + 1) (waiting_tickets l)) whole
+      ∙ waiting_next w.passed e.ticket e.behind count (ap (λ (x : Ticket). x.granted) (sym one) ∙ g) w.waited
+      ∙ ap (λ (l : List Ticket). take count (waiting_tickets l) ++ e.ticket ∷ []) (sym whole)
+      ∙ ap (λ (x : Ticket). take count (waiting_tickets tickets) ++ x ∷ []) (sym one)
 
   -- no move was made
   pub unmoved : (next : Heap) (stop : Stop) → OnlyUnmoved now next stop → SomeQueue old acct → OnlyUnmoved old next stop

@@ -20,9 +20,11 @@ use Rattle.zco_acct.specs.declared.ticket.Queued.{Queued}
 use Rattle.zco_acct.proofs.GrantLemmas.{regranted}
 use Rattle.zco_acct.proofs.QueueLemmas.{HasFirst, empty_or, fits_from, has_first, stands_there}
 use Rattle.zco_space.proofs.RootLemmas.{occupied_again, occupied_same}
+use Rattle.zco_space.specs.Served.{waiting_tickets}
+use Rattle.zco_space.proofs.LinesLemmas.{waited_more, waited_passed}
 use Rattle.zco_space.proofs.ServedLemmas.{count-fits, count-granted, count-waits, count_served, served-fits, served-granted, served-waits, sum-fits, sum-granted, sum-waits, sum_served}
 
--- of a queue so many tickets were passed, and so many of them granted; with those as they are now, what is left comes to what
+-- of a queue so many tickets were passed, and so many of them granted, those that waited; with those as they are now, what is left comes to what
 -- the whole queue comes to
 pub record Serving (old now : Heap) (acct : Acct) (m taken : Amounts) (cursor count i : ℕ) (tickets : List Ticket) : Type 0 where
   pub passed : List Ticket
@@ -30,6 +32,7 @@ pub record Serving (old now : Heap) (acct : Acct) (m taken : Amounts) (cursor co
   pub left : List Ticket
   pub whole : tickets ≡ passed ++ left
   pub counted_passed : length passed ≡ i
+  pub waited : length (waiting_tickets passed) ≡ count
   pub at_cursor : cursor ≡ first_of block_of 0 left
   pub stands : (rest : Entries) → BlocksAre old.blocks (queue_entries acct tickets ++ rest) →
       BlocksAre now.blocks (queue_entries acct (done ++ left) ++ rest)
@@ -58,6 +61,7 @@ starts {old} {acct} {taken} {cursor} t e = record {
     left = tickets;
     whole = refl;
     counted_passed = refl;
+    waited = refl;
     at_cursor = e ∙ k.first;
     stands = λ rest s. s;
     others = ap besides (sym (ap (λ a. with_occupied old acct a) t ∙ occupied_same old acct));
@@ -108,6 +112,7 @@ module _ {old now : Heap} {acct : Acct} {m taken : Amounts} {cursor count i : �
     left = e.behind;
     whole = w.whole ∙ ap (λ (l : List Ticket). w.passed ++ l) e.is ∙ sym (append_assoc w.passed (e.ticket ∷ []) e.behind);
     counted_passed = let l = length-append w.passed (e.ticket ∷ []) in let c = w.counted_passed in omega (arith, l, c);
+    waited = waited_passed w.passed e.ticket count g w.waited;
     at_cursor = ap (λ (v : Queued). v.next) r;
     stands = λ rest s.
         subst (λ (l : List Ticket). BlocksAre now.blocks (queue_entries acct l ++ rest))
@@ -133,6 +138,7 @@ module _ {old now : Heap} {acct : Acct} {m taken : Amounts} {cursor count i : �
     left = e.behind;
     whole = w.whole ∙ ap (λ (l : List Ticket). w.passed ++ l) e.is ∙ sym (append_assoc w.passed (e.ticket ∷ []) e.behind);
     counted_passed = let l = length-append w.passed (e.ticket ∷ []) in let c = w.counted_passed in omega (arith, l, c);
+    waited = waited_more w.passed e.ticket count g w.waited;
     at_cursor = ap (λ (v : Queued). v.next) r;
     stands = λ rest s.
         subst (λ (l : List Ticket). BlocksAre next.blocks (queue_entries acct l ++ rest))

@@ -1,5 +1,6 @@
 -- What the service of a queue comes to.
-use Rattle.std.specs.Prelude.{◌≡◌, ◌+◌, ◌-◌, ℕ, List, IfSome, false, count_by, sum_by, if◌then◌else◌}
+use Rattle.std.specs.Prelude.{◌≡◌, ◌+◌, ◌-◌, ℕ, List, [], ◌∷◌, ◌++◌, IfSome, false, not, count_by, filter, flat_map, sum_by, take}
+use Rattle.std.specs.Prelude.{if◌then◌else◌}
 use Rattle.sdr_base.specs.Entries.{Changes}
 use Rattle.sdr_base.specs.Making.{besides}
 use Rattle.sdr_base.specs.Objects.{Heap}
@@ -10,8 +11,8 @@ use Rattle.sdr_model.specs.Amounts.{amount, amounts_by, are_within, minus, plus}
 use Rattle.sdr_model.specs.Queue.{front_waiting, served}
 use Rattle.sdr_model.specs.declared.accounts.Ticket.{Ticket}
 use Rattle.zco_acct.specs.Kept.{KeepsQueue, queue_entries}
-use Rattle.zco_acct.specs.Tickets.{with_grant}
-use Rattle.zco_acct.specs.Words.{maxima_in, occupied_in, with_occupied}
+use Rattle.zco_acct.specs.Tickets.{grant_lines, with_grant}
+use Rattle.zco_acct.specs.Words.{maxima_in, occupied_in, occupied_lines, with_occupied}
 
 -- what those of these tickets that are granted ask of a space
 abbrev pub granted_in : Space → List Ticket → ℕ
@@ -52,3 +53,16 @@ pub record ServesQueue (acct : Acct) (old new : Heap) (count : ℕ) : Type 0 whe
 pub record GrantsTicket (acct : Acct) (ticket : Ticket) (taken : Amounts) (old new : Heap) (after : Amounts) : Type 0 where
   pub sum : after ≡ plus taken ticket.asked
   pub granted : new ≡ with_occupied (with_grant old ticket.block ticket.asked) acct after
+
+-- the tickets of a queue that wait
+abbrev pub waiting_tickets : List Ticket → List Ticket
+waiting_tickets tickets = filter (λ t. not t.granted) tickets
+
+-- those of them that the service grants: the first
+abbrev pub granted_anew : Heap → Acct → List Ticket → List Ticket
+granted_anew heap acct tickets = take (newly_granted tickets (queue_served heap acct tickets)) (waiting_tickets tickets)
+
+-- the lines that the grants of these tickets touch: those of what is occupied in their account, and of each grant
+abbrev pub serving_lines : Acct → List Ticket → List ℕ
+serving_lines acct [] = []
+serving_lines acct (t ∷ tickets) = occupied_lines acct ++ flat_map (λ u. grant_lines u.block) (t ∷ tickets)

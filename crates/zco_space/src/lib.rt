@@ -9,7 +9,8 @@
 //!
 //! Proved: `request` puts a ticket where its priority says, and serves the queue (`requested`). An answered
 //! `serve` leaves a first waiting ticket that asks for more than the room (`served`). `shred` gives back what is
-//! left of a grant, and serves (`shredded`). Lines are bounded, 32 for each ticket granted (`works`).
+//! left of a grant, and serves (`shredded`). Lines are bounded, 32 for each ticket granted (`works`);
+//! `serve` touches those of what is occupied and of the grants alone (`lines`). A refusal leaves them (`untouched`).
 //!
 //! Only tested: each call's answers (`tests/cases`).
 #![tactic(auto)]

@@ -2,6 +2,7 @@
 ghost use Rattle.std.specs.Prelude.{◌≡◌, ◌≤◌, ◌+◌, ◌*◌, List, IfErr, IfOk, OnOk};
 ghost use Rattle.sdr_base.specs.Moves.{KeepsSome};
 ghost use Rattle.sdr_base.specs.Objects.{OnlyFault, OnlyShort};
+ghost use Rattle.sdr_base.specs.Transaction.{LeavesTouched};
 ghost use Rattle.sdr_base.specs.Works.{Looks, Spends};
 ghost use Rattle.sdr_model.specs.declared.accounts.Ticket.{Ticket as GhostTicket};
 ghost use Rattle.zco_acct.specs.Kept.{KeepsQueue, SomeQueue};
@@ -19,6 +20,7 @@ use zco_acct::{Notice, Notify, Sought, last_word, maxima, search};
 /// Asks an account for so many bytes of each space, and serves its queue. Of two tickets that wait,
 /// the one of the greater coarse priority goes first, then that of the greater fine one, then the
 /// older. It answers the new ticket's number, and whether it was granted at once.
+#[tactic(auto, using(sdr_base::proofs::LeavingLemmas::leaving))]
 pub fn request<O: Objects, F: Notify>(
     o: &mut O,
     acct: Acct,
@@ -33,6 +35,7 @@ pub fn request<O: Objects, F: Notify>(
     ensures requested { IfOk result
         (RequestsTicket acct asked.now coarse fine (O.heap o.old) (O.heap o.new)) }
     ensures refused { IfErr result (RequestStops acct asked.now (O.heap o.old) (O.heap o.new)) }
+    ensures untouched { IfErr result (LeavesTouched (O.transaction o.old) (O.transaction o.new)) }
     ensures works { (tickets : List GhostTicket) → KeepsQueue (O.heap o.old) acct tickets →
         Spends O.HasHeap
         (33 + 32 * requests_granted (O.heap o.old) acct asked.now coarse fine tickets)

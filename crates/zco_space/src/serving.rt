@@ -1,15 +1,17 @@
 // The service of an account's queue.
-ghost use Rattle.std.specs.Prelude.{◌≡◌, ◌+◌, ◌*◌, ◌<◌, ◌^◌, List, IfErr, IfOk};
+ghost use Rattle.std.specs.Prelude.{◌≡◌, ◌+◌, ◌*◌, ◌<◌, ◌^◌, List, ◌++◌, IfErr, IfOk};
 ghost use Rattle.sdr_base.specs.Blocks.{UsesRange};
+ghost use Rattle.sdr_base.specs.Cells.{TouchesWithin};
 ghost use Rattle.sdr_base.specs.Moves.{KeepsSome};
 ghost use Rattle.sdr_base.specs.Objects.{OnlyUnmoved};
 ghost use Rattle.sdr_base.specs.Works.{Spends};
 ghost use Rattle.sdr_model.specs.Amounts.{plus};
 ghost use Rattle.sdr_model.specs.declared.accounts.Ticket.{Ticket as GhostTicket};
 ghost use Rattle.zco_acct.specs.Kept.{AmountsFit, KeepsQueue, SomeQueue};
-ghost use Rattle.zco_acct.specs.Tickets.{with_grant};
-ghost use Rattle.zco_acct.specs.Words.{with_occupied};
-ghost use Rattle.zco_space.specs.Served.{GrantsTicket, ServesQueue, newly_granted, queue_served};
+ghost use Rattle.zco_acct.specs.Tickets.{grant_lines, with_grant};
+ghost use Rattle.zco_acct.specs.Words.{occupied_lines, with_occupied};
+ghost use Rattle.zco_space.specs.Served.{GrantsTicket, ServesQueue, granted_anew, newly_granted};
+ghost use Rattle.zco_space.specs.Served.{queue_served, serving_lines};
 
 use sdr_base::{Acct, Amounts, Objects, Stop};
 use sdr_model::Ticket;
@@ -20,7 +22,8 @@ use zco_acct::{
 };
 
 /// Serves the queue of an account, and answers how many tickets it has granted: the first that
-/// waits is granted while each amount that it asks is at most the room. It is linear in the queue.
+/// waits is granted while each amount that it asks is at most the room. It is linear in the queue. It
+/// touches the lines of what is occupied in the account, and those of the grants.
 pub fn serve<O: Objects, F: Notify>(o: &mut O, acct: Acct, notice: &Notice<F>) -> Result<u64, Stop>
     requires kept { KeepsSome (O.keeps o.old) }
     requires queue { SomeQueue (O.heap o.old) acct }
@@ -29,6 +32,9 @@ pub fn serve<O: Objects, F: Notify>(o: &mut O, acct: Acct, notice: &Notice<F>) -
     ensures works { (tickets : List GhostTicket) → KeepsQueue (O.heap o.old) acct tickets →
         Spends O.HasHeap (32 * newly_granted tickets (queue_served (O.heap o.old) acct tickets))
         o.old o.new result }
+    ensures lines { (tickets : List GhostTicket) → KeepsQueue (O.heap o.old) acct tickets →
+        TouchesWithin (serving_lines acct (granted_anew (O.heap o.old) acct tickets))
+        (O.transaction o.old) (O.transaction o.new) result }
 {
     let most = maxima(o, acct)?;
     let mut taken = occupied(o, acct)?;
@@ -67,6 +73,8 @@ fn grant<O: Objects>(
         (GrantsTicket acct ticket.now taken.now (O.heap o.old) (O.heap o.new)) }
     ensures refused { IfErr result (OnlyUnmoved (O.heap o.old) (O.heap o.new)) }
     ensures works { Spends O.HasHeap 5 o.old o.new result }
+    ensures lines { TouchesWithin (grant_lines ticket.now.block ++ occupied_lines acct)
+        (O.transaction o.old) (O.transaction o.new) result }
 {
     put_grant(o, ticket.block, &ticket.asked)?;
     let after = plus(taken, &ticket.asked);

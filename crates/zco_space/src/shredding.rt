@@ -2,6 +2,7 @@
 ghost use Rattle.std.specs.Prelude.{◌≡◌, ◌≤◌, ◌+◌, ◌*◌, List, IfErr, OnOk};
 ghost use Rattle.sdr_base.specs.Moves.{KeepsSome};
 ghost use Rattle.sdr_base.specs.Objects.{OnlyUnmoved};
+ghost use Rattle.sdr_base.specs.Transaction.{LeavesTouched};
 ghost use Rattle.sdr_base.specs.Works.{Spends};
 ghost use Rattle.sdr_base.specs.declared.account.Acct.TheVariants as accts;
 ghost use Rattle.sdr_model.specs.declared.accounts.Ticket.{Ticket as GhostTicket};
@@ -16,6 +17,7 @@ use zco_acct::{Found, Notice, Notify, release};
 
 /// Ends the ticket of this number, of either account, gives back what is left of its grant, and
 /// serves its account's queue.
+#[tactic(auto, using(sdr_base::proofs::LeavingLemmas::leaving))]
 pub fn shred<O: Objects, F: Notify>(o: &mut O, ticket: u64, notice: &Notice<F>) -> Result<(), Stop>
     requires kept { KeepsSome (O.keeps o.old) }
     requires spare { 1 ≤ (O.heap o.old).spare }
@@ -23,6 +25,7 @@ pub fn shred<O: Objects, F: Notify>(o: &mut O, ticket: u64, notice: &Notice<F>) 
     requires outbound { SomeQueue (O.heap o.old) accts.Outbound }
     ensures shredded { OnOk result (ShredsTicket ticket (O.heap o.old) (O.heap o.new)) }
     ensures refused { IfErr result (ShredStops ticket (O.heap o.old) (O.heap o.new)) }
+    ensures untouched { IfErr result (LeavesTouched (O.transaction o.old) (O.transaction o.new)) }
     ensures works { (inbound outbound : List GhostTicket) →
         KeepsQueue (O.heap o.old) accts.Inbound inbound →
         KeepsQueue (O.heap o.old) accts.Outbound outbound →

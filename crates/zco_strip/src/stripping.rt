@@ -3,6 +3,7 @@ ghost use Rattle.std.specs.Prelude.{◌≡◌, ◌≤◌, ◌^◌, List, IfErr, 
 ghost use Rattle.sdr_base.specs.Blocks.{IsKind};
 ghost use Rattle.sdr_base.specs.Moves.{KeepsSome};
 ghost use Rattle.sdr_base.specs.Objects.{OnlyFault, OnlyUnmoved};
+ghost use Rattle.sdr_base.specs.Transaction.{LeavesTouched};
 ghost use Rattle.sdr_base.specs.Works.{Looks, Spends};
 ghost use Rattle.sdr_base.specs.ZcoObjects.{ObjectRow};
 ghost use Rattle.sdr_base.specs.declared.kind.Kind.TheVariants as kinds;
@@ -35,11 +36,13 @@ struct Span {
 ///
 /// It is refused `BadAddress` or `WrongKind` where the object isn't there, and `LogFull`, behind which
 /// the transaction has to be cancelled.
+#[tactic(auto, using(sdr_base::proofs::LeavingLemmas::leaving))]
 pub fn strip<O: Objects>(o: &mut O, object: Addr) -> Result<(), Stop>
     requires kept { KeepsSome (O.keeps o.old) }
     requires object { IsToStrip (O.heap o.old) object }
     ensures stripped { OnOk result (StripsObject object (O.heap o.old) (O.heap o.new)) }
     ensures refused { IfErr result (StripStops object (O.heap o.old) (O.heap o.new)) }
+    ensures untouched { IfErr result (LeavesTouched (O.transaction o.old) (O.transaction o.new)) }
     ensures works { (row : ObjectRow) (sources : List NamedSource) →
         KeepsToStrip (O.heap o.old).blocks object row sources →
         Spends O.HasHeap (strip_lines row sources) o.old o.new result }

@@ -1,20 +1,29 @@
-use Rattle.std.proofs.Common.{◌∙◌, sym, arith}
-use Rattle.audit_owners.proofs.RulesLemmas.{kept_all, kept_more}
+use Rattle.std.proofs.Common.{◌/◌, ◌∙◌, length, sym, arith}
+use Rattle.audit_owners.proofs.RulesLemmas.{kept_all, kept_more, kept_over}
 use Rattle.audit_owners.proofs.rules.check_rule.Goals as goal
 
 pub returns-then-not-keeps-clause-broken : goal.returns-then-not-keeps-clause-broken
-returns-then-not-keeps-clause-broken c reached marked = record {
-  before = c.loop-number.invariant reached marked;
-  wrong = sym (c.keeps.ensures reached marked) ∙ c.if-not-keeps.true;
-}
+returns-then-not-keeps-clause-broken c reached marked =
+    let next = c.in-Some.ensures.next in
+    record {
+      before = kept_over c.args.heap.now reached c.args.rule c.loop-number.from c.in-Some.number next.onward next.before (c.loop-number.invariant.kept reached marked);
+      wrong = sym (c.keeps.ensures reached marked) ∙ c.if-not-keeps.true;
+    }
 
 pub loop-number-preserved : goal.loop-number-preserved
-loop-number-preserved c reached marked other less =
-    kept_more c.args.heap.now reached c.args.rule c.loop-number.number (c.loop-number.invariant reached marked)
-    (sym (c.keeps.ensures reached marked) ∙ c.if-not-keeps.false) other less
+loop-number-preserved c =
+    let next = c.in-Some.ensures.next in
+    let inside = next.inside in
+    record {
+      inside = omega (arith, inside);
+      kept = λ reached marked.
+          kept_more c.args.heap.now reached c.args.rule c.in-Some.number
+          (kept_over c.args.heap.now reached c.args.rule c.loop-number.from c.in-Some.number next.onward next.before (c.loop-number.invariant.kept reached marked))
+          (sym (c.keeps.ensures reached marked) ∙ c.if-not-keeps.false);
+    }
 
 pub returns-clause-kept : goal.returns-clause-kept
 returns-clause-kept c reached marked =
-    let long = c.requires.long in
-    let all = c.loop-number-test.false in
-    kept_all c.args.heap.now reached c.args.rule c.loop-number.number (omega (arith, long, all)) (c.loop-number.invariant reached marked)
+    kept_all c.args.heap.now reached c.args.rule (length c.args.heap.now / 8) (omega arith)
+    (kept_over c.args.heap.now reached c.args.rule c.loop-number.from (length c.args.heap.now / 8) c.loop-number.invariant.inside
+    (λ word onward less. c.next_block.ensures.none c.in_default.is word onward) (c.loop-number.invariant.kept reached marked))

@@ -21,4 +21,4 @@ returns-in-Ok-run_on_ground-clause-ran g c =
     let p = c.into_parts.ensures in
     daemons_ran g.D.Disk g.M.Media c.args.disk c.args.media c.args.script c.in-Ok.base g.J.HandedIn.condition
     c.requires.settled c.in-Ok.ensures.opened g.J.HandedIn.was c.requires.handed c.in-Ok-run_on_ground.ran c.into_parts.result
-    c.in-Ok-run_on_ground.ensures.ran p.disk p.size p.stays p.seen p.media
+    c.in-Ok-run_on_ground.ensures.ran p.disk p.holds p.tells p.stays p.seen p.media

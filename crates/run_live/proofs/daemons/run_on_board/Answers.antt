@@ -8,6 +8,7 @@ returns g c =
     record {
       keeps = e.keeps;
       run = e.run;
+      ended = e.ended;
       failed = e.failed;
       wanting = e.starved;
       totals_are = c.read_totals-totals.ensures ∙ ap totals c.as_slice.ensures;

@@ -11,4 +11,4 @@ ask-requires-clause-question g c =
 pub returns-clause-found : goal.returns-clause-found
 returns-clause-found g c v at =
     c.object_in.ensures
-    ∙ finds v.now.world c.ask.result (subst (λ (call : Call). AnswersByRow v.now.world call c.ask.result) c.requires.finds (c.ask.ensures.answers v at))
+    ∙ finds v.now.world c.in_ok-reply.reply (subst (λ (call : Call). AnswersByRow v.now.world call c.in_ok-reply.reply) c.requires.finds (c.in_ok-reply.ensures.answers v at))

@@ -2,7 +2,7 @@ use Rattle.std.proofs.Common.{◌∙◌, List, ℕ, ap, arith, length, subst, sy
 use Rattle.sdr_core.specs.CoreKept.{BeginsOn}
 use Rattle.sdr_load.specs.Schedule.{script_for}
 use Rattle.sdr_model.specs.declared.script.ScriptStep.{ScriptStep}
-use Rattle.run_load.proofs.LoadingLemmas.{load_is_short, loaded, sound_stands}
+use Rattle.run_load.proofs.LoadingLemmas.{load_is_short, loaded, sound_stands, sound_untouched}
 use Rattle.sdr_run.proofs.ReplayingLemmas.{begins_opened, ground_of, opened_unrun}
 use Rattle.sdr_run.specs.Replaying.{begins_on}
 use Rattle.sdr_station.specs.Grounded.{Grounded}
@@ -36,6 +36,10 @@ pub sum_up-requires-clause-stands : goal.sum_up-requires-clause-stands
 sum_up-requires-clause-stands g c whole =
     sound_stands g.D.Disk g.M.Media g.J.HandedIn.condition _ _ _ _ _ c.in-Ok-play_recorded.ran c.in-Ok-play_recorded.ensures.ran whole
 
+pub sum_up-requires-clause-untouched : goal.sum_up-requires-clause-untouched
+sum_up-requires-clause-untouched g c whole =
+    sound_untouched g.D.Disk g.M.Media g.J.HandedIn.condition _ _ _ _ _ c.in-Ok-play_recorded.ran c.in-Ok-play_recorded.ensures.ran whole
+
 pub returns-in_default-clause-shut : goal.returns-in_default-clause-shut
 returns-in_default-clause-shut g c =
     opened_unrun g.D.Disk c.args.disk c.shut_unrun.result.disk c.args.media c.in-Ok.base c.shut_unrun.result.why c.in-Ok.ensures.opened
@@ -54,4 +58,4 @@ returns-in-Ok-play_recorded-clause-ran g c =
     let e = c.sum_up.ensures in
     loaded g.D.Disk g.M.Media c.args.disk c.args.media c.args.rounds c.in-Ok.base g.J.HandedIn.condition
     c.requires.settled c.in-Ok.ensures.opened g.J.HandedIn.was c.requires.handed c.in-Ok-of.outset.steps c.in-Ok-of.ensures.steps _ _
-    c.in-Ok-play_recorded.ran c.sum_up.result c.in-Ok-play_recorded.ensures.ran e.journal e.end e.fault e.disk e.media e.size e.stays e.seen
+    c.in-Ok-play_recorded.ran c.sum_up.result c.in-Ok-play_recorded.ensures.ran e.journal e.end e.cause e.reads e.later e.media e.holds e.tells e.stays e.seen

@@ -2,7 +2,7 @@
 use Rattle.std.proofs.Common.{◌+◌, ◌/◌, length, sym, subst, arith}
 use Rattle.std.proofs.lemmas.Result.{on_ok_weaker}
 use Rattle.sdr_base.specs.Cells.{lines_of}
-use Rattle.sdr_base.proofs.CellsLemmas.{TouchesAtMost-from_lines, length-lines_of}
+use Rattle.sdr_base.proofs.CellsLemmas.{TouchesAtMost-from_lines, length-lines_of, lines_within}
 use Rattle.sdr_heap.proofs.RangeLemmas.{uses_range}
 use Rattle.sdr_heap.specs.Calls.{WritesBlock}
 use Rattle.sdr_heap.proofs.PutLemmas.{writes}
@@ -29,3 +29,7 @@ returns-clause-room g c =
     TouchesAtMost-from_lines (lines_of (c.args.addr + c.args.place) (length c.args.from.now))
     (2 + length c.args.from.now / 64) _ _ c.write.result
     (omega (arith, length-lines_of (c.args.addr + c.args.place) (length c.args.from.now))) c.write.ensures.room
+
+pub returns-clause-lines : goal.returns-clause-lines
+returns-clause-lines g c =
+    lines_within (lines_of (c.args.addr + c.args.place) (length c.args.from.now)) _ _ c.write.result c.write.ensures.room

@@ -2,6 +2,7 @@
 use Rattle.std.proofs.Common.{ℕ, subst}
 use Rattle.std.specs.Prelude.{Option}
 use Rattle.std.proofs.lemmas.Result.{IfOk-weaker}
+use Rattle.sdr_base.proofs.LeavingLemmas.{none_behind}
 use Rattle.sdr_small.specs.Calls.{TakesSmall}
 use Rattle.sdr_large.specs.Calls.{TakesLarge}
 use Rattle.sdr_heap.specs.Calls.{Chooses}
@@ -23,3 +24,8 @@ returns-in-None-clause-chosen g c =
     (subst (λ (o : Option ℕ). TakesSmall c.args.words o (g.C.Cells.bytes c.args.c.now) (g.C.Cells.bytes c.take.new.c))
     c.in-None.is c.in_ok-addr.ensures.taken) takes)
     c.take-in-None.ensures.taken
+
+pub returns-in-None-clause-none : goal.returns-in-None-clause-none
+returns-in-None-clause-none g c =
+    let t = g.C.Cells.transaction in
+    none_behind (t c.args.c.now) (t c.take.new.c) (t c.take-in-None.new.c) c.take-in-None.result (rw c.in-None.is at c.in_ok-addr.ensures.none) c.take-in-None.ensures.none

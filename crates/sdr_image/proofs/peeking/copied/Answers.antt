@@ -3,8 +3,8 @@ use Rattle.sdr_image.proofs.PeekLemmas.{copy_read, is_copied}
 use Rattle.sdr_image.proofs.peeking.copied.Goals as goal
 
 pub returns-clause-copy : goal.returns-clause-copy
-returns-clause-copy g c x is y now =
-    is_copied _ _ c.args.frame.now x y (g.met.D.Disk.told c.args.disk.now) c.requires.framed is
-    (copy_read c.args.frame.now c.in_ok-bytes.bytes.len c.read_at.new.into c.in_ok-bytes.bytes.items x y
-    (c.in_ok-bytes.ensures.len ∙ c.disk_bytes.ensures) (c.read_at.auto.into ∙ c.deref_mut.ensures.len) (c.in_ok-read_at.ensures.given x is)
-    (cc (now, c.new-2.ensures.bytes)))
+returns-clause-copy g c =
+    is_copied c.args.frame.now _ _ c.requires.framed
+    (copy_read c.args.frame.now c.in_ok-bytes.bytes.len c.read_at.new.into c.in_ok-bytes.bytes.items _ _
+    (c.in_ok-bytes.ensures.len ∙ c.disk_bytes.ensures) (c.read_at.auto.into ∙ c.deref_mut.ensures.len)
+    c.in_ok-read_at.ensures.given c.new-2.ensures.bytes)

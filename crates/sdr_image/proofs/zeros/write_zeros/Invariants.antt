@@ -1,16 +1,14 @@
-use Rattle.std.proofs.Common.{◌≡◌, ◌≤◌, ◌-◌, Some}
-use Rattle.std.specs.Prelude.{replicate, is_some}
+use Rattle.std.proofs.Common.{◌≡◌, ◌≤◌, ◌-◌, length}
+use Rattle.std.specs.Prelude.{replicate}
 use Rattle.sdr_base.specs.Parts.{overwrite}
-use Rattle.sdr_disk.specs.Told.{IfTold}
 use Rattle.sdr_image.proofs.zeros.write_zeros.Given as goal
 
 abbrev pub invariant-loop-done : goal.invariant-loop-done
 invariant-loop-done g l = record {
   below : l.done ≤ l.fn.count;
-  written : IfTold (g.D.Disk.bytes l.fn.disk)
-      (λ x. g.D.Disk.bytes l.disk ≡ Some (overwrite l.fn.place (replicate l.done 0) x));
-  tells : is_some (g.D.Disk.bytes l.disk) ≡ is_some (g.D.Disk.bytes l.fn.disk);
-  size : g.D.Disk.size l.disk ≡ g.D.Disk.size l.fn.disk;
+  written : g.D.Disk.bytes l.disk ≡ overwrite l.fn.place (replicate l.done 0) (g.D.Disk.bytes l.fn.disk);
+  tells : g.D.Disk.tells_crashes l.disk ≡ g.D.Disk.tells_crashes l.fn.disk;
+  size : length (g.D.Disk.bytes l.disk) ≡ length (g.D.Disk.bytes l.fn.disk);
   later : g.D.Disk.faults l.fn.disk ≤ g.D.Disk.faults l.disk;
 }
 

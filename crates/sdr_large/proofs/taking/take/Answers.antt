@@ -2,6 +2,7 @@
 use Rattle.std.proofs.Common.{subst}
 use Rattle.std.specs.Prelude.{Option}
 use Rattle.std.proofs.lemmas.Result.{IfOk-weaker}
+use Rattle.sdr_base.proofs.LeavingLemmas.{none_behind}
 use Rattle.sdr_large.specs.declared.block.Block.{Block}
 use Rattle.sdr_large.specs.Calls.{TakesLarge, TakesNew, IsGiveable}
 use Rattle.sdr_large.specs.Steps.{Finds}
@@ -65,3 +66,8 @@ returns-in-None-clause-others g c =
     OnOk-from (λ found. TakesLarge c.args.words found (g.C.Cells.bytes c.args.c.now) (g.C.Cells.bytes c.take_new.new.c))
     c.take_new.result (λ found takes. TakesLarge-others _ _ c.args.words found takes)
     (returns-in-None-clause-taken g c)
+
+pub returns-in-None-clause-none : goal.returns-in-None-clause-none
+returns-in-None-clause-none g c =
+    let t = g.C.Cells.transaction in
+    none_behind (t c.args.c.now) (t c.find.new.c) (t c.take_new.new.c) c.take_new.result c.in_ok-block.ensures.room.touched c.take_new.ensures.none

@@ -19,4 +19,5 @@ returns-clause-ran g c =
     plays_out g.T.HasGround g.J.Origin.begins c.args.base (g.S.Steps.left c.args.steps.now) c.args.daemons.now c.in-Ok.core c.play-starved.new.run c.play-starved.result
     (output g.K.Sink.taken g.K.Sink.faults c.args.out.now) (output g.K.Sink.taken g.K.Sink.faults c.play-starved.new.out) c.finish-journal.result.0 c.finish-journal.result.1
     (not c.is_sound-failed.result) c.requires.named c.requires.begins c.in-Ok.ensures.made c.play-starved.ensures.plays c.finish-journal.ensures.journal c.finish-journal.ensures.base
-    c.finish-journal.ensures.run (ap not (c.is_sound-failed.ensures ∙ ap is_sound c.as_slice.ensures))
+    c.finish-journal.ensures.run
+    (c.finish-journal.ensures.ended c.play-starved.ensures.none) (ap not (c.is_sound-failed.ensures ∙ ap is_sound c.as_slice.ensures))

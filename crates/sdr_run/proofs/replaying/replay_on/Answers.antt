@@ -52,4 +52,4 @@ returns-in-Ok-play_recorded-clause-ran g c =
     c.requires.settled c.in-Ok.ensures.opened was c.requires.handed old new ran c.with_parts.result
     (subst (λ (steps : List ScriptStep). PlaysOut ground (begins_on g.M.Media was steps base) steps base old new ran)
     c.new-steps.ensures c.in-Ok-play_recorded.ensures.ran)
-    w.same w.disk w.size w.stays w.seen w.media
+    w.same w.disk w.holds w.tells w.stays w.seen w.media

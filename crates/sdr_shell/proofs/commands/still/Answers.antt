@@ -36,13 +36,11 @@ returns-in-Some-Dry g c =
 
 pub returns-in-Some-Format : goal.returns-in-Some-Format
 returns-in-Some-Format g c =
-    let disk = seen g.D.Disk.bytes g.D.Disk.faults c.args.disk in
-    let disk' = seen g.D.Disk.bytes g.D.Disk.faults c.format_disk-status.new.disk in
     let sink = seen g.K.Sink.taken g.K.Sink.faults c.args.output.now in
     let sink' = seen g.K.Sink.taken g.K.Sink.faults c.format_disk-status.new.output in
     let e = c.format_disk-status.ensures in
     let frame = c.in-Some-Format.frame in
-    let answers : AnswersFormat c.format_disk-status.result frame (g.D.Disk.size c.args.disk) disk disk' sink sink' = record {
+    let answers : AnswersFormat g.D.Disk c.format_disk-status.result frame c.args.disk c.format_disk-status.new.disk sink sink' = record {
       known = e.known;
       formatted = e.formatted;
       text = e.text;
@@ -60,7 +58,7 @@ returns-in-Some-Format g c =
     (unrun c.format_disk-status.result c.format_disk-status.new.disk c.args.media) (ap still_form form)
     c.without_journal-in-Some-Format.ensures
     (answers_format g.D.Disk g.M.Media g.S.Source g.K.Sink c.args.disk c.args.media c.args.input.now c.args.input.now c.args.output.now
-    c.format_disk-status.new.output frame c.format_disk-status.result c.format_disk-status.new.disk answers e.synced e.later e.same e.tells e.size)
+    c.format_disk-status.new.output frame c.format_disk-status.result c.format_disk-status.new.disk answers e.synced e.later e.same e.keeps)
 
 pub returns-in-Some-Replay : goal.returns-in-Some-Replay
 returns-in-Some-Replay g c =
@@ -100,7 +98,7 @@ returns-in-Some-Inspect g c =
     (unrun c.inspect_disk-status.result c.inspect_disk-status.new.disk c.args.media) (ap still_form form)
     c.without_journal-in-Some-Inspect.ensures
     (answers_inspect g.D.Disk g.M.Media g.S.Source g.K.Sink c.args.disk c.args.media c.args.input.now c.args.input.now c.args.output.now
-    c.inspect_disk-status.new.output c.inspect_disk-status.result c.inspect_disk-status.new.disk e.answers e.later e.size)
+    c.inspect_disk-status.new.output c.inspect_disk-status.result c.inspect_disk-status.new.disk e.answers e.later)
 
 pub returns-in-Some-Run : goal.returns-in-Some-Run
 returns-in-Some-Run g c =

@@ -7,7 +7,7 @@ returns-in-Ok-clause-answers g c =
     let e = c.tell_recovered-status.ensures in
     opened_answers g.D.Disk c.tell_recovered-status.result c.args.disk c.into_parts-disk.result.0
     (seen g.K.Sink.taken g.K.Sink.faults c.args.output.now) (seen g.K.Sink.taken g.K.Sink.faults c.tell_recovered-status.new.output)
-    c.in-Ok.ground c.restored.result c.restored.ensures c.into_parts-disk.ensures.disk c.in-Ok.ensures.opened c.in-Ok.ensures.any_moment e.known e.text e.part e.output
+    c.in-Ok.ground c.restored.result c.restored.ensures c.into_parts-disk.ensures.disk c.in-Ok.ensures.opened c.in-Ok.ensures.any_moment c.in-Ok.ensures.quiet e.known e.text e.part e.output
 
 pub returns-in-Err-clause-answers : goal.returns-in-Err-clause-answers
 returns-in-Err-clause-answers g c =
@@ -19,4 +19,4 @@ returns-in-Err-clause-answers g c =
       bytes = c.in-Err.ensures.bytes;
       outside = c.in-Err.ensures.inside;
       again = c.in-Err.ensures.again;
-    }) c.in-Err.ensures.any_moment c.tell_shut-status.ensures.written
+    }) c.in-Err.ensures.any_moment c.in-Err.ensures.quiet c.tell_shut-status.ensures.written

@@ -1,6 +1,7 @@
 -- The front or a new block is what the rule gives.
 use Rattle.std.proofs.Common.{◌≡◌, ◌∙◌, sym, ap, arith, ℕ, List}
 use Rattle.std.proofs.lemmas.Result.{IfOk-weaker}
+use Rattle.sdr_base.proofs.LeavingLemmas.{none_behind}
 use Rattle.sdr_base.specs.Stored.{number_at}
 use Rattle.sdr_base.specs.KeptPools.{list_place}
 use Rattle.sdr_small.specs.Calls.{TakesNew, TakesSmall, IsGiveable}
@@ -71,3 +72,9 @@ returns-clause-used g c = TakesSmall-used _ _ c.args.words _ c.requires.pools (r
 
 pub returns-clause-kept : goal.returns-clause-kept
 returns-clause-kept g c = TakesSmall-kept _ _ c.args.words _ c.requires.pools (returns-clause-taken g c)
+
+pub returns-then-front-eq0-clause-none : goal.returns-then-front-eq0-clause-none
+returns-then-front-eq0-clause-none g c =
+    let t = g.C.Cells.transaction in
+    none_behind (t c.args.c.now) (t c.read_number-2.new.c) (t c.take_new.new.c) c.take_new.result
+    (c.in_ok-front.ensures.room.touched ∙ c.in_ok-low.ensures.room.touched) c.take_new.ensures.none

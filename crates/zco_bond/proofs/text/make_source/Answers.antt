@@ -1,7 +1,9 @@
 -- The raw object is made, and then its source.
 use Rattle.std.proofs.lemmas.Result.{IfErr-weaker, IfOk-weaker, err_from_is_err_and}
+use Rattle.sdr_base.specs.Wanting.{OnlyWanting}
 use Rattle.zco_bond.specs.Rows.{RowStops}
 use Rattle.zco_bond.specs.Texts.{IsSourceRow, MakesSource}
+use Rattle.zco_bond.proofs.RowLemmas.{rows_want}
 use Rattle.zco_bond.proofs.TextLemmas.{makes_source, raw_spare, raw_stops, some_raw, source_stops}
 use Rattle.zco_bond.proofs.text.make_source.Goals as goal
 
@@ -28,3 +30,11 @@ returns-clause-refused g c =
     let new = g.O.HasHeap.heap c.heap_source.new.o in
     IfErr-weaker _ _ (RowStops (IsSourceRow c.args.text.bytes) old new)
     (λ stop s. source_stops c.requires.text c.in_ok-raw.ensures.copied new stop s) c.heap_source.ensures.refused
+
+pub returns-clause-wants : goal.returns-clause-wants
+returns-clause-wants g c =
+    let old = g.O.HasHeap.heap c.args.o.now in
+    let new = g.O.HasHeap.heap c.heap_source.new.o in
+    IfErr-weaker _ _ OnlyWanting
+    (λ stop s. rows_want (IsSourceRow c.args.text.bytes) old new stop (source_stops c.requires.text c.in_ok-raw.ensures.copied new stop s))
+    c.heap_source.ensures.refused

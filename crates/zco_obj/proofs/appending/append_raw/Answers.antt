@@ -1,8 +1,9 @@
 -- The raw object is tested, the account is charged, a source takes the raw object over, and the extent comes.
 use Rattle.std.proofs.Common.{arith}
 use Rattle.std.proofs.lemmas.Result.{IfErr-weaker, err_from_is_err_and, on_ok_weaker}
+use Rattle.sdr_base.proofs.LeavingLemmas.{wanting_leaves}
 use Rattle.zco_obj.specs.AppendStops.{RawPieceStops}
-use Rattle.zco_obj.proofs.RawStopLemmas.{appends_raw, extent_stops, queue_with_raw, raw_range_stops, raw_short, raw_uncharged, some_raw, source_stops, taken_pair, taken_spare}
+use Rattle.zco_obj.proofs.RawStopLemmas.{appends_raw, extent_stops, queue_with_raw, raw_range_stops, raw_short, raw_uncharged, some_raw, source_stops, source_wants, taken_pair, taken_spare}
 use Rattle.zco_obj.proofs.RawLemmas.{address_stops, is_raw}
 use Rattle.zco_obj.proofs.SourceStopLemmas.{object_spare}
 use Rattle.zco_obj.proofs.appending.append_raw.Goals as goal
@@ -62,6 +63,15 @@ returns-in_err-source-clause-refused g c =
     rw (p.1, p.2)
     (source_stops c.args.ticket c.args.piece c.in_ok-have.have c.requires.object c.requires.raw c.in_ok-have.ensures.found
     c.in_ok-check_range.ensures.within d (g.O.HasHeap.heap c.heap_source.new.o) _ c.in_err-source.ensures.refused)
+
+pub returns-in_err-source-clause-untouched : goal.returns-in_err-source-clause-untouched
+returns-in_err-source-clause-untouched g c =
+    let p = err_from_is_err_and c.from_residual-in_err-source.result c.from_residual-in_err-source.ensures.1 in
+    let d = rw (c.extent_amounts.ensures, c.expect_unnamed.ensures.looks.same) at c.in_ok-charge_object.ensures.charged in
+    rw (p.1, p.2)
+    (wanting_leaves (g.O.HasHeap.transaction c.args.o.now) (g.O.HasHeap.transaction c.heap_source.new.o) _
+    (source_wants c.args.ticket c.args.piece c.in_ok-have.have c.requires.object c.requires.raw c.in_ok-have.ensures.found
+    c.in_ok-check_range.ensures.within d (g.O.HasHeap.heap c.heap_source.new.o) _ c.in_err-source.ensures.refused))
 
 pub name_source-requires-clause-spare : goal.name_source-requires-clause-spare
 name_source-requires-clause-spare g c =

@@ -10,3 +10,6 @@ returns-clause-keeps g c =
     subst (KeepsToScripts b.told b.first g.S.Scripted.script) (sym c.finish.ensures.journal)
     (all_left g.T.HasGround b g.S.Scripted.script c.self.inside.core c.self.inside.progress.items c.finish.ensures.ran c.self.invariant.0
     (subst (λ (v : ScriptedCore g.row.T.Denot). have_left v.core.lock.roll v.progress ≡ true) (sym c.self.view_is) c.requires.left))
+
+pub returns-clause-ended : goal.returns-clause-ended
+returns-clause-ended g c = c.finish.ensures.ended (λ unfailed. c.self.invariant.0.free)

@@ -4,7 +4,7 @@ use Rattle.sdr_disk.proofs.MemoryDiskLemmas.{sync_durable, sync_moments}
 use Rattle.sdr_disk.proofs.memory.MemoryDiskDisk.sync.Goals as goal
 
 pub returns-in-Done-clause-durable : goal.returns-in-Done-clause-durable
-returns-in-Done-clause-durable c = sync_durable _ _ _ c.in-Ok.ensures.ok (grind arith)
+returns-in-Done-clause-durable c told = sync_durable _ _ _ c.in-Ok.ensures.ok (grind arith)
 
 pub returns-in-Done-clause-moments : goal.returns-in-Done-clause-moments
 returns-in-Done-clause-moments c = sync_moments _ _ _ c.in-Ok.ensures.ok _ _ (grind arith) (grind arith)

@@ -2,7 +2,7 @@
 use Rattle.std.proofs.Common.{refl, arith}
 use Rattle.std.proofs.lemmas.Result.{on_ok_weaker}
 use Rattle.sdr_heap.proofs.HeldLemmas.{Settled-from, kept_inside, moved_kept}
-use Rattle.sdr_heap.proofs.HeldWorksLemmas.{full_stays, held_unmoved, held_works}
+use Rattle.sdr_heap.proofs.HeldWorksLemmas.{full_stays, held_lines, held_unmoved, held_works}
 use Rattle.sdr_heap.proofs.SeenLemmas.{heap_root}
 use Rattle.sdr_heap.proofs.RootLemmas.{root_put}
 use Rattle.sdr_heap.proofs.objects.HeapObjects.set_root.Goals as goal
@@ -32,3 +32,8 @@ returns-clause-works g c =
     c.write_number.ensures.written)
     c.write_number.ensures.refused)
     (c.write_number.ensures.line (omega arith)) c.write_number.ensures.cause c.write_number.ensures.quiet
+
+pub returns-clause-lines : goal.returns-clause-lines
+returns-clause-lines g c =
+    held_lines g.C.Cells.bytes g.C.Cells.transaction g.C.Cells.quiet g.met.C.Cells.quiet_trans
+    _ _ _ c.write_number.new.c c.write_number.result c.self.view_is c.write_number.ensures.lines

@@ -4,10 +4,11 @@ use Rattle.std.proofs.lemmas.Result.{err_from_is_err_and}
 use Rattle.sdr_base.specs.Moves.{Moves}
 use Rattle.sdr_base.specs.Rules.{words_for}
 use Rattle.sdr_base.specs.declared.moves.Move.{Move}
+use Rattle.sdr_base.proofs.LeavingLemmas.{full_leaves}
 use Rattle.sdr_base.proofs.TransactionLemmas.{reason_answer, reason_stopped, reason_then, touches_answer, touches_more}
 use Rattle.sdr_base.proofs.TransactionLemmas.{touches_stopped, touches_then}
 use Rattle.sdr_base.specs.KeptHeap.{KeepsRegion}
-use Rattle.sdr_heap.specs.Noted.{marked_in, moves_in}
+use Rattle.sdr_heap.specs.Noted.{Held, marked_in, moves_in}
 use Rattle.sdr_heap.proofs.HeldLemmas.{full_short, kept_inside, moved_short, moved_took, none_same, stopped}
 use Rattle.sdr_heap.proofs.HeldWorksLemmas.{held_unmoved, held_works}
 use Rattle.sdr_heap.proofs.MarkLemmas.{marked-set}
@@ -118,3 +119,20 @@ returns-clause-works g c =
     (touches_answer _ tt (touches_more room (omega arith)))
     (reason_answer _ cause.explained cause)
     (g.met.C.Cells.quiet_trans _ _ _ c.in_ok-addr.ensures.quiet c.in_ok-label.ensures.quiet)
+
+pub returns-in_err-addr-clause-untouched : goal.returns-in_err-addr-clause-untouched
+returns-in_err-addr-clause-untouched g c =
+    let p = err_from_is_err_and c.from_residual.result c.from_residual.ensures.1 in
+    rw (p.1, p.2)
+    (full_leaves (g.C.Cells.transaction c.args.self.now.cells) (g.C.Cells.transaction c.choose.new.c) _ c.in_err-addr.ensures.refused)
+
+pub returns-in_default-clause-untouched : goal.returns-in_default-clause-untouched
+returns-in_default-clause-untouched g c =
+    let same = rw c.in_default.is at c.in_ok-addr.ensures.none in
+    same ∙ ap (λ (h : Held g.row.C.Denot). (g.C.Cells.transaction h.cells).touched) c.self.view_is
+
+pub returns-in_err-label-clause-untouched : goal.returns-in_err-label-clause-untouched
+returns-in_err-label-clause-untouched g c =
+    let p = err_from_is_err_and c.from_residual-in_err-label.result c.from_residual-in_err-label.ensures.1 in
+    rw (p.1, p.2)
+    (full_leaves (g.C.Cells.transaction c.args.self.now.cells) (g.C.Cells.transaction c.label.new.c) _ c.in_err-label.ensures.refused)

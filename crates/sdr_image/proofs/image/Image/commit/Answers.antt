@@ -1,50 +1,88 @@
-use Rattle.std.proofs.Common.{◌≡◌, ◌∙◌, ap, sym, subst, [], length, inl, List, arith}
-use Rattle.std.proofs.lemmas.List.{nil_from_length}
-use Rattle.std.proofs.lemmas.Bool.{eqb-true}
+use Rattle.std.proofs.Common.{◌≡◌, ◌∙◌, [], inl, false, length, sym, ap, subst, arith}
+use Rattle.std.proofs.Common.{Some}
 use Rattle.sdr_disk.specs.Moments.{AtEach}
-use Rattle.sdr_disk.specs.Told.{IfTold}
-use Rattle.sdr_disk.proofs.MomentsLemmas.{at_then}
-use Rattle.sdr_image.specs.Changed.{GivesEither}
-use Rattle.sdr_image.specs.Opened.{Opened, lines_named}
-use Rattle.sdr_log.specs.Logged.{GivesHeap}
-use Rattle.sdr_log.specs.declared.record.Record.{Record}
-use Rattle.sdr_image.proofs.OpenedLemmas.{image_bytes, rests_now}
-use Rattle.sdr_image.proofs.SavedLemmas.{Saves-from, calls_of-touched}
+use Rattle.sdr_disk.proofs.MomentsLemmas.{at_first}
+use Rattle.sdr_log.specs.Spilled.{GivesEither}
+use Rattle.sdr_image.specs.Lines.{now_of}
+use Rattle.sdr_image.specs.Marks.{touched_in}
+use Rattle.sdr_image.specs.Opened.{Opened}
+use Rattle.sdr_image.specs.QuietLaws.{rests_leaves}
+use Rattle.sdr_image.proofs.EndedLemmas.{calls_of-some, untouched_image, untouched_now}
+use Rattle.sdr_image.proofs.ImageLemmas.{nil_of}
+use Rattle.sdr_image.proofs.RestedLemmas.{positive}
 use Rattle.sdr_image.proofs.image.Image.commit.Goals as goal
 
-pub returns-then-not-is_empty-clause-calls : goal.returns-then-not-is_empty-clause-calls
-returns-then-not-is_empty-clause-calls g c = omega (
-  arith,
-  c.save.ensures.calls,
-  calls_of-touched c.self.inside.undo.olds _ _ _ c.olds-touched.ensures
-      (ap (λ (v : Opened g.row.D.Denot). v.touched) c.self.view_is) c.is_empty.ensures c.if-not-is_empty.true,
-)
+pub save-requires-clause-some : goal.save-requires-clause-some
+save-requires-clause-some g c =
+    omega (arith, c.touched.ensures, positive c.touched.result c.if-touched-ne0.true)
+
+pub returns-then-touched-ne0-clause-calls : goal.returns-then-touched-ne0-clause-calls
+returns-then-touched-ne0-clause-calls g c =
+    omega (
+      arith,
+      c.save.ensures.calls,
+      calls_of-some (length c.args.self.now.touched)
+          (omega (arith, c.touched.ensures, positive c.touched.result c.if-touched-ne0.true)),
+    )
+
+pub returns-then-touched-ne0-clause-idle : goal.returns-then-touched-ne0-clause-idle
+returns-then-touched-ne0-clause-idle g c none =
+    absurd (omega (arith, ap length none, c.touched.ensures, positive c.touched.result c.if-touched-ne0.true))
+
+pub invariant_of-self : goal.invariant_of-self
+invariant_of-self g c =
+    let d = g.D.Disk in
+    let o = c.self.inside in
+    let x = d.bytes o.disk in
+    let touched = ap (λ (v : Opened g.row.D.Denot). length v.touched) c.self.view_is in
+    let none : length (touched_in o.lines.marks) ≡ 0 = touched ∙ sym c.touched.ensures ∙ c.if-touched-ne0.false in
+    untouched_image o.frame x o.lines o.is_open o.failed c.self.invariant c.if-self.false none
+
+pub returns-clause-ended : goal.returns-clause-ended
+returns-clause-ended g c =
+    let d = g.D.Disk in
+    let o = c.self.inside in
+    let x = d.bytes o.disk in
+    let touched = ap (λ (v : Opened g.row.D.Denot). length v.touched) c.self.view_is in
+    let none : length (touched_in o.lines.marks) ≡ 0 = touched ∙ sym c.touched.ensures ∙ c.if-touched-ne0.false in
+    let same = untouched_now o.frame x o.lines o.is_open o.failed c.self.invariant c.if-self.false none in
+    let nil = nil_of (touched_in o.lines.marks) none in
+    (λ i. record {
+      disk = o.disk;
+      frame = o.frame;
+      bytes = now_of o.frame o.lines x;
+      begun = sym same i;
+      touched = nil i;
+      is_open = false;
+      failed = o.failed;
+      restored = o.restored;
+    })
+    ∙ ap (λ (v : Opened g.row.D.Denot). record v { disk = o.disk; begun = v.bytes; touched = []; is_open = false }) c.self.view_is
 
 pub returns-clause-saved : goal.returns-clause-saved
 returns-clause-saved g c =
-    let old = c.self.inside in
-    let i = c.self.invariant in
-    let none : old.undo.olds ≡ [] = sym c.olds-touched.ensures ∙ nil_from_length _
-    (eqb-true (length c.olds-touched.result.now) 0 (sym c.is_empty.ensures ∙ c.if-not-is_empty.false)) in
-    let touched = ap (λ (v : Opened g.row.D.Denot). v.touched) c.self.view_is in
-    let idle = sym touched ∙ ap (λ (rs : List Record). lines_named rs) none in
-    Saves-from g.D.Disk.bytes g.D.Disk.moment g.D.Disk.may_hold_after c.args.self.now _ old.disk old.frame old.bytes
-    old.undo.olds
-    (ap (λ (v : Opened g.row.D.Denot). v.disk) c.self.view_is)
-    (ap (λ (v : Opened g.row.D.Denot). v.frame) c.self.view_is)
-    (ap (λ (v : Opened g.row.D.Denot). v.bytes) c.self.view_is)
-    (ap (λ (v : Opened g.row.D.Denot). v.begun) c.self.view_is)
-    touched i.good i.whole i.long
-    (λ some. absurd (some idle))
-    (image_bytes _ _ _ _ _ _ _ _ i c.if-self.false none)
-    (λ some. absurd (some idle))
+    let d = g.D.Disk in
+    let o = c.self.inside in
+    let x = d.bytes o.disk in
+    let touched = ap (λ (v : Opened g.row.D.Denot). length v.touched) c.self.view_is in
+    let none : length (touched_in o.lines.marks) ≡ 0 = touched ∙ sym c.touched.ensures ∙ c.if-touched-ne0.false in
+    let same = untouched_now o.frame x o.lines o.is_open o.failed c.self.invariant c.if-self.false none in
+    record {
+      back = (c.self.invariant.stands c.if-self.false).may.keeps.gives
+          ∙ ap Some (sym same ∙ ap (λ (v : Opened g.row.D.Denot). v.bytes) c.self.view_is);
+      written = λ gate some. absurd (some (nil_of c.args.self.now.touched (sym touched ∙ none)));
+      rests = λ some. absurd (some (nil_of c.args.self.now.touched (sym touched ∙ none)));
+    }
 
 pub returns-clause-any_moment : goal.returns-clause-any_moment
-returns-clause-any_moment g c sound rests =
+returns-clause-any_moment g c sound rests told =
+    let d = g.D.Disk in
+    let o = c.self.inside in
+    let x = d.bytes o.disk in
+    let touched = ap (λ (v : Opened g.row.D.Denot). length v.touched) c.self.view_is in
+    let none : length (touched_in o.lines.marks) ≡ 0 = touched ∙ sym c.touched.ensures ∙ c.if-touched-ne0.false in
     let old = c.args.self.now in
-    subst (λ (disk : g.row.D.Denot). IfTold (g.D.Disk.bytes old.disk)
-    (λ _. AtEach g.D.Disk.moment g.D.Disk.may_hold_after old.disk disk (GivesEither old.begun old.bytes)))
+    subst (λ (disk : g.row.D.Denot). AtEach d.moment d.may_hold_after old.disk disk (GivesEither old.begun old.bytes))
     (sym (ap (λ (v : Opened g.row.D.Denot). v.disk) c.self.view_is))
-    (λ x is. at_then g.D.Disk.moment g.D.Disk.may_hold_after old.disk old.disk (GivesHeap old.begun)
-    (GivesEither old.begun old.bytes)
-    (rests_now g.D.Disk.bytes g.D.Disk.moment g.D.Disk.may_hold_after old sound rests x is) (λ image gives. inl gives))
+    (at_first d.moment d.may_hold_after old.disk (GivesEither old.begun old.bytes)
+    (λ image l. inl (rests_leaves d.bytes d.tells_crashes d.moment d.may_hold_after old sound rests told image l)))

@@ -1,29 +1,36 @@
-use Rattle.std.proofs.Common.{ap, refl, sym, subst, List, ℕ}
-use Rattle.sdr_log.specs.Log.{put_records}
-use Rattle.sdr_disk.proofs.ToldLemmas.{told_before}
-use Rattle.sdr_image.specs.Opened.{HoldsHeap, lines_named}
-use Rattle.sdr_image.specs.Undo.{Olds}
-use Rattle.sdr_image.proofs.OpenedLemmas.{opened_heap}
-use Rattle.sdr_image.proofs.SavedLemmas.{bytes_held}
+use Rattle.std.proofs.Common.{◌∙◌, ap, false, refl, sym, Some}
+use Rattle.sdr_log.specs.Log.{heap_of}
+use Rattle.sdr_image.proofs.EndedLemmas.{opened_image, opened_rested, rested_rests}
+use Rattle.sdr_image.proofs.StandsLemmas.{stands_begun}
 use Rattle.sdr_image.proofs.image.Image.open.Goals as goal
+
+pub invariant_of-result : goal.invariant_of-result
+invariant_of-result g c =
+    let d = g.D.Disk in
+    let loaded = c.in-Ok.loaded in
+    let e = c.in-Ok.ensures in
+    opened_image loaded.frame loaded.restored (d.bytes c.args.disk) (d.bytes c.load.new.disk) loaded.lines e.fresh e.back e.found
+    e.disk.size
 
 pub returns-in-Ok-clause-opened : goal.returns-in-Ok-clause-opened
 returns-in-Ok-clause-opened g c =
+    let d = g.D.Disk in
     let loaded = c.in-Ok.loaded in
     let e = c.in-Ok.ensures in
-    let begun = ap (λ (u : Olds). put_records u.olds loaded.bytes) e.ready.undo_is in
+    let f = loaded.frame in
+    let x = d.bytes c.args.disk in
+    let y = d.bytes c.load.new.disk in
+    let r = opened_rested f loaded.restored x y loaded.lines e.fresh e.back in
     record {
       limits = e.found.limits;
       head = e.found.head;
-      heap = λ x is. opened_heap _ _ loaded.frame loaded.restored loaded.bytes x e.disk.tells e.back e.bytes is;
+      heap = e.back.gives ∙ ap Some (sym r.now);
       back = e.back;
-      rests = λ may sound y now.
-          let t = told_before _ _ y e.disk.tells now in
-          subst (λ (heap : List ℕ). HoldsHeap loaded.frame heap y
-          (g.D.Disk.may_hold_after c.load.new.disk (g.D.Disk.moment c.load.new.disk))) (sym begun)
-          (bytes_held loaded.frame loaded.bytes y _ (e.bytes y now) (e.synced t.x t.is (may t.x t.is) y now));
-      begun = begun;
-      touched = ap (λ (u : Olds). lines_named u.olds) e.ready.undo_is;
+      rests = λ may.
+          rested_rests d.bytes d.tells_crashes d.moment d.may_hold_after c.load.new.disk f (heap_of f y) loaded.lines false
+          false loaded.restored r (λ told. e.synced (sym e.disk.tells ∙ told) (may (sym e.disk.tells ∙ told)) told);
+      begun = stands_begun f (heap_of f y) loaded.lines y r.stands ∙ sym r.now;
+      touched = r.untouched;
       closed = refl;
       sound = refl;
     }

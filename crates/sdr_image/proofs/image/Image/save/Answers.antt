@@ -1,53 +1,161 @@
-use Rattle.std.proofs.Common.{◌≡◌, ◌∙◌, ap, sym, subst, List, ℕ, Some}
-use Rattle.sdr_disk.proofs.ToldLemmas.{told_before}
-use Rattle.sdr_log.specs.Log.{put_records}
-use Rattle.sdr_log.specs.declared.record.Record.{Record}
+use Rattle.std.proofs.Common.{◌≡◌, ◌<◌, ◌∙◌, [], false, length, sym, ap, subst, arith}
+use Rattle.std.proofs.Common.{Some, true≢false}
+use Rattle.sdr_disk.specs.Moments.{AtEach}
+use Rattle.sdr_log.specs.Spilled.{GivesEither}
+use Rattle.sdr_log.specs.Log.{first_gate}
 use Rattle.sdr_image.specs.Changed.{HasChanged}
-use Rattle.sdr_image.specs.Opened.{HasBytes, Opened}
-use Rattle.sdr_image.proofs.ImageLemmas.{IsImage-saved}
-use Rattle.sdr_image.proofs.SavedLemmas.{Saves-from, saved_rests}
-use Rattle.sdr_image.proofs.image.Image.save.Given as given
+use Rattle.sdr_image.specs.Lines.{now_of}
+use Rattle.sdr_image.specs.Marks.{touched_in}
+use Rattle.sdr_image.specs.Opened.{Opened, Rests}
+use Rattle.sdr_image.proofs.EndedLemmas.{image_rested, rested_ended, rested_rests, touched_open}
+use Rattle.sdr_image.proofs.ImageLemmas.{image_failed}
 use Rattle.sdr_image.proofs.image.Image.save.Goals as goal
 
--- the bytes now stand on the disk
-stand : (g : given.Over) (c : goal.After-self-2-1 g) (y : List ℕ) → g.D.Disk.bytes c.save.new.disk ≡ Some y →
-    HasBytes c.self.inside.frame c.self.inside.bytes y
-stand g c y now =
-    let old = c.self.inside in
+pub end-requires-clause-regions : goal.end-requires-clause-regions
+end-requires-clause-regions g c =
+    record { limits = c.self.invariant.limits; inside = c.self.invariant.fits }
+
+pub end-requires-clause-kept : goal.end-requires-clause-kept
+end-requires-clause-kept g c =
+    c.self.invariant.lines_kept
+
+pub end-requires-clause-stands : goal.end-requires-clause-stands
+end-requires-clause-stands g c =
+    let d = g.D.Disk in
+    let o = c.self.inside in
+    let inv = c.self.invariant in
     let sound = ap (λ (v : Opened g.row.D.Denot). v.failed) c.self.view_is ∙ c.requires.sound in
-    let t = told_before (g.D.Disk.bytes old.disk) _ y c.in-Ok.ensures.disk.tells now in
-    c.in-Ok.ensures.bytes t.x t.is y now
-    (subst (λ (rs : List Record). HasBytes old.frame (put_records rs old.bytes) t.x) (sym c.olds-olds.ensures)
-    (c.self.invariant.disk sound t.x t.is))
+    let x = d.bytes o.disk in
+    let some : 0 < length (touched_in o.lines.marks) =
+    omega (arith, c.requires.some, ap (λ (v : Opened g.row.D.Denot). length v.touched) c.self.view_is) in
+    inv.stands sound
+
+pub end-requires-clause-some : goal.end-requires-clause-some
+end-requires-clause-some g c =
+    let d = g.D.Disk in
+    let o = c.self.inside in
+    let inv = c.self.invariant in
+    let sound = ap (λ (v : Opened g.row.D.Denot). v.failed) c.self.view_is ∙ c.requires.sound in
+    let x = d.bytes o.disk in
+    let some : 0 < length (touched_in o.lines.marks) =
+    omega (arith, c.requires.some, ap (λ (v : Opened g.row.D.Denot). length v.touched) c.self.view_is) in
+    some
+
+pub returns-in_default-clause-rests : goal.returns-in_default-clause-rests
+returns-in_default-clause-rests g c sound told =
+    absurd (true≢false sound)
+
+pub returns-in_default-clause-any_moment : goal.returns-in_default-clause-any_moment
+returns-in_default-clause-any_moment g c rests told =
+    let d = g.D.Disk in
+    let o = c.self.inside in
+    let inv = c.self.invariant in
+    let sound = ap (λ (v : Opened g.row.D.Denot). v.failed) c.self.view_is ∙ c.requires.sound in
+    let x = d.bytes o.disk in
+    let some : 0 < length (touched_in o.lines.marks) =
+    omega (arith, c.requires.some, ap (λ (v : Opened g.row.D.Denot). length v.touched) c.self.view_is) in
+    let y = d.bytes c.end.new.disk in
+    let l = c.end.new.lines in
+    subst (λ (v : Opened g.row.D.Denot). AtEach d.moment d.may_hold_after v.disk c.end.new.disk (GivesEither v.begun v.bytes))
+    c.self.view_is (c.end.ensures.any_moment (sym (ap (λ (v : Opened g.row.D.Denot). d.tells_crashes v.disk) (sym c.self.view_is)) ∙ told)
+    (subst (λ (v : Opened g.row.D.Denot). Rests d.bytes d.tells_crashes d.moment d.may_hold_after v) (sym c.self.view_is) rests sound
+    (sym (ap (λ (v : Opened g.row.D.Denot). d.tells_crashes v.disk) (sym c.self.view_is)) ∙ told)))
+
+pub invariant_of-self : goal.invariant_of-self
+invariant_of-self g c =
+    let d = g.D.Disk in
+    let o = c.self.inside in
+    let inv = c.self.invariant in
+    let sound = ap (λ (v : Opened g.row.D.Denot). v.failed) c.self.view_is ∙ c.requires.sound in
+    let x = d.bytes o.disk in
+    let some : 0 < length (touched_in o.lines.marks) =
+    omega (arith, c.requires.some, ap (λ (v : Opened g.row.D.Denot). length v.touched) c.self.view_is) in
+    let y = d.bytes c.end.new.disk in
+    let l = c.end.new.lines in
+    image_failed o.frame x y o.lines l o.is_open o.failed inv (touched_open o.frame x o.lines o.is_open o.failed inv some)
+    c.end.ensures.disk.size c.end.ensures.lines
 
 pub invariant_of-self-2 : goal.invariant_of-self-2
 invariant_of-self-2 g c =
-    let old = c.self.inside in
-    IsImage-saved (g.D.Disk.size old.disk) (g.D.Disk.bytes old.disk) old.frame old.bytes old.undo
-    old.saving old.is_open old.failed c.self.invariant (g.D.Disk.size c.save.new.disk)
-    (g.D.Disk.bytes c.save.new.disk) c.clear.new.self c.save.new.self c.in-Ok.ensures.disk.size
-    c.in-Ok.ensures.memory c.clear.ensures (stand g c)
+    let d = g.D.Disk in
+    let o = c.self.inside in
+    let inv = c.self.invariant in
+    let sound = ap (λ (v : Opened g.row.D.Denot). v.failed) c.self.view_is ∙ c.requires.sound in
+    let x = d.bytes o.disk in
+    let some : 0 < length (touched_in o.lines.marks) =
+    omega (arith, c.requires.some, ap (λ (v : Opened g.row.D.Denot). length v.touched) c.self.view_is) in
+    let y = d.bytes c.end.new.disk in
+    let l = c.end.new.lines in
+    image_rested o.frame x y (now_of o.frame o.lines x) o.lines l o.is_open false o.failed o.failed inv c.end.ensures.disk.size
+    c.end.ensures.lines c.in-Ok.ensures.rests
+
+pub returns-clause-ended : goal.returns-clause-ended
+returns-clause-ended g c =
+    let d = g.D.Disk in
+    let o = c.self.inside in
+    let inv = c.self.invariant in
+    let sound = ap (λ (v : Opened g.row.D.Denot). v.failed) c.self.view_is ∙ c.requires.sound in
+    let x = d.bytes o.disk in
+    let some : 0 < length (touched_in o.lines.marks) =
+    omega (arith, c.requires.some, ap (λ (v : Opened g.row.D.Denot). length v.touched) c.self.view_is) in
+    let y = d.bytes c.end.new.disk in
+    let l = c.end.new.lines in
+    rested_ended d.bytes o.disk c.end.new.disk o.frame (now_of o.frame o.lines x) o.lines l o.is_open o.failed o.restored
+    c.in-Ok.ensures.rests
+    ∙ ap (λ (v : Opened g.row.D.Denot). record v {
+      disk = c.end.new.disk;
+      begun = v.bytes;
+      touched = [];
+      is_open = false;
+    }) c.self.view_is
 
 pub returns-clause-rests : goal.returns-clause-rests
-returns-clause-rests g c sound y now =
-    saved_rests c.self.inside.frame c.self.inside.bytes y _ c.clear.new.self _ _ c.clear.ensures (stand g c y now)
-    (c.in-Ok.ensures.synced y now)
+returns-clause-rests g c =
+    let d = g.D.Disk in
+    let o = c.self.inside in
+    let inv = c.self.invariant in
+    let sound = ap (λ (v : Opened g.row.D.Denot). v.failed) c.self.view_is ∙ c.requires.sound in
+    let x = d.bytes o.disk in
+    let some : 0 < length (touched_in o.lines.marks) =
+    omega (arith, c.requires.some, ap (λ (v : Opened g.row.D.Denot). length v.touched) c.self.view_is) in
+    let y = d.bytes c.end.new.disk in
+    let l = c.end.new.lines in
+    rested_rests d.bytes d.tells_crashes d.moment d.may_hold_after c.end.new.disk o.frame (now_of o.frame o.lines x) l false
+    o.failed o.restored c.in-Ok.ensures.rests c.in-Ok.ensures.synced
 
 pub returns-clause-saved : goal.returns-clause-saved
 returns-clause-saved g c =
-    let old = c.self.inside in
-    let i = c.self.invariant in
-    let e = c.in-Ok.ensures in
-    Saves-from g.D.Disk.bytes g.D.Disk.moment g.D.Disk.may_hold_after c.args.self.now _ old.disk old.frame old.bytes
-    old.undo.olds
-    (ap (λ (v : Opened g.row.D.Denot). v.disk) c.self.view_is)
-    (ap (λ (v : Opened g.row.D.Denot). v.frame) c.self.view_is)
-    (ap (λ (v : Opened g.row.D.Denot). v.bytes) c.self.view_is)
-    (ap (λ (v : Opened g.row.D.Denot). v.begun) c.self.view_is)
-    (ap (λ (v : Opened g.row.D.Denot). v.touched) c.self.view_is)
-    i.good i.whole i.long
-    (λ some x is y now. subst (λ (rs : List Record). HasChanged old.frame rs old.bytes x y) c.olds-olds.ensures
-    (e.written x is y now))
-    (stand g c)
-    (λ some sound y now.
-    saved_rests old.frame old.bytes y _ c.clear.new.self _ _ c.clear.ensures (stand g c y now) (e.synced y now))
+    let d = g.D.Disk in
+    let o = c.self.inside in
+    let inv = c.self.invariant in
+    let sound = ap (λ (v : Opened g.row.D.Denot). v.failed) c.self.view_is ∙ c.requires.sound in
+    let x = d.bytes o.disk in
+    let some : 0 < length (touched_in o.lines.marks) =
+    omega (arith, c.requires.some, ap (λ (v : Opened g.row.D.Denot). length v.touched) c.self.view_is) in
+    let y = d.bytes c.end.new.disk in
+    let l = c.end.new.lines in
+    let written = subst (λ (v : Opened g.row.D.Denot). first_gate (d.bytes v.disk) ≡ 0 →
+    HasChanged v.frame v.begun v.bytes v.touched (d.bytes v.disk) y) c.self.view_is c.in-Ok.ensures.written in
+    record {
+      written = λ gate touched. written gate;
+      back = c.in-Ok.ensures.rests.stands.may.keeps.gives ∙ ap (λ (v : Opened g.row.D.Denot). Some v.bytes) c.self.view_is;
+      rests = λ touched.
+          rested_rests d.bytes d.tells_crashes d.moment d.may_hold_after c.end.new.disk o.frame (now_of o.frame o.lines x) l
+          false o.failed o.restored c.in-Ok.ensures.rests c.in-Ok.ensures.synced;
+    }
+
+pub returns-clause-any_moment : goal.returns-clause-any_moment
+returns-clause-any_moment g c rests told =
+    let d = g.D.Disk in
+    let o = c.self.inside in
+    let inv = c.self.invariant in
+    let sound = ap (λ (v : Opened g.row.D.Denot). v.failed) c.self.view_is ∙ c.requires.sound in
+    let x = d.bytes o.disk in
+    let some : 0 < length (touched_in o.lines.marks) =
+    omega (arith, c.requires.some, ap (λ (v : Opened g.row.D.Denot). length v.touched) c.self.view_is) in
+    let y = d.bytes c.end.new.disk in
+    let l = c.end.new.lines in
+    subst (λ (v : Opened g.row.D.Denot). AtEach d.moment d.may_hold_after v.disk c.end.new.disk (GivesEither v.begun v.bytes))
+    c.self.view_is (c.end.ensures.any_moment (sym (ap (λ (v : Opened g.row.D.Denot). d.tells_crashes v.disk) (sym c.self.view_is)) ∙ told)
+    (subst (λ (v : Opened g.row.D.Denot). Rests d.bytes d.tells_crashes d.moment d.may_hold_after v) (sym c.self.view_is) rests sound
+    (sym (ap (λ (v : Opened g.row.D.Denot). d.tells_crashes v.disk) (sym c.self.view_is)) ∙ told)))

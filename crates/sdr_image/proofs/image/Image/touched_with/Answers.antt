@@ -1,41 +1,41 @@
-use Rattle.std.proofs.Common.{ap, arith, ◌-◌}
+use Rattle.std.proofs.Common.{◌-◌, ap, arith, length}
 use Rattle.std.specs.List.{range_with_len}
 use Rattle.std.proofs.lemmas.List.FromFn.{length-range_with_len}
-use Rattle.sdr_base.proofs.CellsLemmas.{length-with_lines}
+use Rattle.sdr_base.specs.Cells.{with_lines}
+use Rattle.sdr_image.specs.Marks.{touched_in}
 use Rattle.sdr_image.specs.Opened.{Opened}
-use Rattle.sdr_image.proofs.TouchedLemmas.{touched_count, touched_few}
+use Rattle.sdr_image.proofs.ImageLemmas.{touched_count}
+use Rattle.sdr_image.proofs.MarksLemmas.{length-touched}
+use Rattle.sdr_image.proofs.TouchedLemmas.{with_lines-most}
 use Rattle.sdr_image.proofs.image.Image.touched_with.Goals as goal
 
 pub overflow_add-result : goal.overflow_add-result
 overflow_add-result g c =
-    let n = c.args.end - c.args.first in
-    let own = range_with_len c.args.first n in
-    let same = ap (λ (v : Opened g.row.D.Denot). v.touched) c.self.view_is in
-    let frame = ap (λ (v : Opened g.row.D.Denot). v.frame.heap_lines) c.self.view_is in
-    let all = touched_count c.self.inside.undo.olds c.args.self.now.touched own same in
+    let own = range_with_len c.args.first (c.args.end - c.args.first) in
+    let marks = c.self.inside.lines.marks in
     omega (
       arith,
-      all,
-      (length-with_lines c.args.self.now.touched own).1,
-      length-range_with_len c.args.first n,
-      touched_few c.self.inside.undo.olds c.args.self.now.touched same,
       c.touched.ensures,
       c.untouched.ensures,
-      frame,
-      c.requires.below,
-      c.self.invariant.few,
-      c.self.invariant.limits.most_log,
+      touched_count marks own,
+      with_lines-most (touched_in marks) own,
+      length-range_with_len c.args.first (c.args.end - c.args.first),
+      length-touched 0 marks,
+      c.self.invariant.lines_kept.long,
       c.self.invariant.limits.most_heap,
+      c.requires.below,
+      ap (λ (v : Opened g.row.D.Denot). v.frame.heap_lines) c.self.view_is,
+      ap (λ (v : Opened g.row.D.Denot). length v.touched) c.self.view_is,
     )
 
 pub returns : goal.returns
 returns g c =
     let own = range_with_len c.args.first (c.args.end - c.args.first) in
-    let same = ap (λ (v : Opened g.row.D.Denot). v.touched) c.self.view_is in
     omega (
       arith,
-      touched_count c.self.inside.undo.olds c.args.self.now.touched own same,
-      c.untouched.ensures,
       c.touched.ensures,
-      touched_few c.self.inside.undo.olds c.args.self.now.touched same,
+      c.untouched.ensures,
+      touched_count c.self.inside.lines.marks own,
+      ap (λ (v : Opened g.row.D.Denot). length v.touched) c.self.view_is,
+      ap (λ (v : Opened g.row.D.Denot). length (with_lines v.touched own)) c.self.view_is,
     )

@@ -14,9 +14,9 @@ returns-clause-put_back g c =
     let D = g.row.D.Denot in
     let M = g.row.M.Denot in
     let d = g.D.Disk in
-    on_ok_both c.restore.result _ _ (Brings (λ (x : Grounded D M) (v : GroundState). StandsWhere g.J.HandedIn.condition d.bytes d.moment d.may_hold_after x v) c.args.self.now c.restore.new.self RollsBack)
-    (λ memory both. subst (λ (o : Grounded D M). Brings (λ (x : Grounded D M) (v : GroundState). StandsWhere g.J.HandedIn.condition d.bytes d.moment d.may_hold_after x v) o c.restore.new.self RollsBack)
-    c.self.view_is (brings_where g.J.HandedIn.condition d.bytes d.moment d.faults d.may_hold_after g.M.Media c.self.inside.ground c.restore.new.self memory both))
+    on_ok_both c.restore.result _ _ (Brings (λ (x : Grounded D M) (v : GroundState). StandsWhere g.J.HandedIn.condition d.bytes d.tells_crashes d.moment d.may_hold_after x v) c.args.self.now c.restore.new.self RollsBack)
+    (λ memory both. subst (λ (o : Grounded D M). Brings (λ (x : Grounded D M) (v : GroundState). StandsWhere g.J.HandedIn.condition d.bytes d.tells_crashes d.moment d.may_hold_after x v) o c.restore.new.self RollsBack)
+    c.self.view_is (brings_where g.J.HandedIn.condition d.bytes d.tells_crashes d.moment d.faults d.may_hold_after g.M.Media c.self.inside.ground c.restore.new.self memory both))
     c.restore.ensures.memory c.restore.ensures.put_back
 
 pub returns-clause-fault : goal.returns-clause-fault
@@ -24,9 +24,9 @@ returns-clause-fault g c =
     let D = g.row.D.Denot in
     let M = g.row.M.Denot in
     let d = g.D.Disk in
-    on_err_more c.restore.result _ (MeetsFault (ground_where g.J.HandedIn.condition d.bytes d.moment d.faults d.may_hold_after g.M.Media) c.args.self.now c.restore.new.self)
-    (λ fault. subst (λ (o : Grounded D M). MeetsFault (ground_where g.J.HandedIn.condition d.bytes d.moment d.faults d.may_hold_after g.M.Media) o c.restore.new.self) c.self.view_is
-    (meets_where g.J.HandedIn.condition d.bytes d.moment d.faults d.may_hold_after g.M.Media c.self.inside.ground c.restore.new.self fault))
+    on_err_more c.restore.result _ (MeetsFault (ground_where g.J.HandedIn.condition d.bytes d.tells_crashes d.moment d.faults d.may_hold_after g.M.Media) c.args.self.now c.restore.new.self)
+    (λ fault. subst (λ (o : Grounded D M). MeetsFault (ground_where g.J.HandedIn.condition d.bytes d.tells_crashes d.moment d.faults d.may_hold_after g.M.Media) o c.restore.new.self) c.self.view_is
+    (meets_where g.J.HandedIn.condition d.bytes d.tells_crashes d.moment d.faults d.may_hold_after g.M.Media c.self.inside.ground c.restore.new.self fault))
     c.restore.ensures.fault
 
 pub returns-clause-keeps : goal.returns-clause-keeps
@@ -34,20 +34,20 @@ returns-clause-keeps g c =
     let D = g.row.D.Denot in
     let M = g.row.M.Denot in
     let d = g.D.Disk in
-    subst (λ (o : Grounded D M). KeepsGround (ground_where g.J.HandedIn.condition d.bytes d.moment d.faults d.may_hold_after g.M.Media) false o c.restore.new.self) c.self.view_is
-    (keeps_where g.J.HandedIn.condition d.bytes d.moment d.faults d.may_hold_after g.M.Media c.self.inside.ground c.restore.new.self c.restore.ensures.keeps)
+    subst (λ (o : Grounded D M). KeepsGround (ground_where g.J.HandedIn.condition d.bytes d.tells_crashes d.moment d.faults d.may_hold_after g.M.Media) false o c.restore.new.self) c.self.view_is
+    (keeps_where g.J.HandedIn.condition d.bytes d.tells_crashes d.moment d.faults d.may_hold_after g.M.Media c.self.inside.ground c.restore.new.self c.restore.ensures.keeps)
 
 pub returns-clause-any_moment : goal.returns-clause-any_moment
 returns-clause-any_moment g c =
     let D = g.row.D.Denot in
     let M = g.row.M.Denot in
     let d = g.D.Disk in
-    subst (λ (o : Grounded D M). LeavesBefore (ground_where g.J.HandedIn.condition d.bytes d.moment d.faults d.may_hold_after g.M.Media) o c.restore.new.self) c.self.view_is
-    (leaves_where g.J.HandedIn.condition d.bytes d.moment d.faults d.may_hold_after g.M.Media c.self.inside.ground c.restore.new.self c.restore.ensures.time c.restore.ensures.any_moment)
+    subst (λ (o : Grounded D M). LeavesBefore (ground_where g.J.HandedIn.condition d.bytes d.tells_crashes d.moment d.faults d.may_hold_after g.M.Media) o c.restore.new.self) c.self.view_is
+    (leaves_where g.J.HandedIn.condition d.bytes d.tells_crashes d.moment d.faults d.may_hold_after g.M.Media c.self.inside.ground c.restore.new.self c.restore.ensures.time c.restore.ensures.any_moment)
 
 pub invariant_of-self : goal.invariant_of-self
 invariant_of-self g c =
-    stays_more g.D.Disk.bytes g.J.HandedIn.was.bytes c.self.inside.ground c.restore.new.self c.self.invariant c.restore.ensures.inside
+    stays_more g.D.Disk.bytes g.D.Disk.tells_crashes g.J.HandedIn.was.bytes c.self.inside.ground c.restore.new.self c.self.invariant c.restore.ensures.inside
 
 pub returns-clause-idle : goal.returns-clause-idle
 returns-clause-idle g c =

@@ -14,7 +14,7 @@ returns g c =
     let d = g.D.Disk in
     IfOk-weaker c.room_for.result
     (λ (room : Room). (v : GroundState) → StandsInMemory c.self.inside.ground v → HoldsAny room v.now c.args.call.now)
-    (λ (room : Room). (v : GroundState) → StandsWhere g.J.HandedIn.condition d.bytes d.moment d.may_hold_after c.args.self.now v
+    (λ (room : Room). (v : GroundState) → StandsWhere g.J.HandedIn.condition d.bytes d.tells_crashes d.moment d.may_hold_after c.args.self.now v
     → HoldsAny room v.now c.args.call.now)
     (λ room holds v at. holds v (subst (λ (o : Grounded D M). StandsInMemory o v) (sym c.self.view_is) at.memory))
     c.room_for.ensures.memory

@@ -1,7 +1,0 @@
--- A region's bytes, written anew.
-use Rattle.std.proofs.Common.{◌≡◌, ℕ, List, ◌++◌, length, take, drop}
-use Rattle.std.proofs.lemmas.List.{take_at}
-
--- a vector's items, where all of them are written
-pub items_anew : (len : ℕ) (new old : List ℕ) → length new ≡ len → take len (new ++ drop (length new) old) ≡ new
-items_anew len new old is = take_at new (drop (length new) old) len is
