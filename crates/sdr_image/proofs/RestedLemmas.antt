@@ -9,14 +9,14 @@ use Rattle.std.specs.declared.alloc.Global.{Global}
 use Rattle.sdr_base.specs.Parts.{part}
 use Rattle.sdr_disk.specs.Moments.{AtEach, Only}
 use Rattle.sdr_disk.proofs.MomentsLemmas.{at_first, at_then}
-use Rattle.sdr_log.specs.Calls.{AreBelow, PutsBack}
+use Rattle.sdr_log.specs.Calls.{AreBelow, HoldLines, PutsBack}
 use Rattle.sdr_log.specs.Log.{AreLines, first_gate, heap_of, put_records}
 use Rattle.sdr_log.specs.Logged.{GivesHeap, GivesSame, Logs}
 use Rattle.sdr_log.specs.Spilled.{Ends, Just, KeepsBegin, MaySpill}
 use Rattle.sdr_log.specs.Undoing.{AreOpen}
 use Rattle.sdr_log.specs.declared.frame.Frame.{Frame}
 use Rattle.sdr_log.specs.declared.record.Record.{Record}
-use Rattle.sdr_log.proofs.GoodLemmas.{are_good-before}
+use Rattle.sdr_log.proofs.GoodLemmas.{HoldLines-put_records, are_good-before}
 use Rattle.sdr_log.proofs.LoggedLemmas.{Logs-lines, closed_only, logs_gate}
 use Rattle.sdr_log.proofs.RecordsLemmas.{SameBut-put_records, part-same_but}
 use Rattle.sdr_log.proofs.RestoringLemmas.{none_closed}
@@ -29,7 +29,8 @@ use Rattle.sdr_image.specs.Marks.{is_buffered, is_clean, is_logged, stand_at, to
 use Rattle.sdr_image.specs.declared.lines.Lines.{Lines}
 use Rattle.sdr_image.specs.declared.marks.Stand.{Stand}
 use Rattle.sdr_image.specs.declared.marks.Stand.TheVariants.{Clean}
-use Rattle.sdr_image.proofs.EnteredLemmas.{clean_apart, unbuffered}
+use Rattle.sdr_image.proofs.EnteredLemmas.{clean_apart, news_good, unbuffered}
+use Rattle.sdr_image.proofs.LinesLemmas.{HoldLines-permutation}
 use Rattle.sdr_image.proofs.MarksLemmas.{clean-replicate, touched-clean}
 use Rattle.sdr_image.proofs.StandsLemmas.{AreBelow-permutation, stands_logs, stands_wide}
 
@@ -122,6 +123,15 @@ module _ (f : Frame) (begun : List ℕ) (lines : Lines) (x : List ℕ) (s : Stan
       (are_good-before f.heap_lines s.records lines.buffer.olds s.may.good) (Logs-lines f x s.records logs) wide)
       (s.marked.logged e.0 ∙ apart.0) (omega (arith, was.0.0, wide)) in
       (was.0.0, was.0.1 ∙ sym kept ∙ ap (part (64 * e.0) 64) (sym all ∙ sym heap))
+
+  -- the buffer's lines by rising number, where the bytes now are in the heap region
+  pub news_held : (y : List ℕ) → heap_of f y ≡ now_of f lines x → (risen : Changes) → Rises lines.buffer risen →
+      HoldLines (heap_of f y) risen.news
+  news_held y heap risen r =
+      subst (λ (h : List ℕ). HoldLines h risen.news) (sym heap)
+      (HoldLines-permutation (now_of f lines x) lines.buffer.news risen.news r.news
+      (HoldLines-put_records f.heap_lines lines.buffer.news (heap_of f x) (news_good f begun lines x s k) k.whole
+      (stands_wide f begun lines x s)))
 
   -- a transaction that touched a line, and has none in the buffer, has open batches
   pub logged_some : lines.buffer.olds ≡ [] → 0 < length (touched_in lines.marks) → 0 < length s.records
