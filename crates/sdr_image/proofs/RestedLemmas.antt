@@ -1,6 +1,6 @@
 -- How the lines of a transaction come to rest.
 use Rattle.std.proofs.Common.{◌≡◌, ◌<◌, ◌∙◌, ℕ, ◌+◌, ◌*◌, List, [], ◌∷◌, length, refl, sym, ap, subst, arith}
-use Rattle.std.proofs.Common.{true≢false}
+use Rattle.std.proofs.Common.{false, true, true≢false}
 use Rattle.std.specs.Prelude.{IsPermutation, Contains, replicate}
 use Rattle.std.proofs.lemmas.List.{length-map, length-replicate}
 use Rattle.std.proofs.lemmas.List.Sorted.{IsPermutation-refl, length_permutation}
@@ -10,29 +10,29 @@ use Rattle.sdr_base.specs.Parts.{part}
 use Rattle.sdr_disk.specs.Moments.{AtEach, Only}
 use Rattle.sdr_disk.proofs.MomentsLemmas.{at_first, at_then}
 use Rattle.sdr_log.specs.Calls.{AreBelow, HoldLines, PutsBack}
-use Rattle.sdr_log.specs.Log.{AreLines, first_gate, heap_of, put_records}
+use Rattle.sdr_log.specs.Log.{AreLines, first_gate, heap_of, names_line, put_records}
 use Rattle.sdr_log.specs.Logged.{GivesHeap, GivesSame, Logs}
 use Rattle.sdr_log.specs.Spilled.{Ends, Just, KeepsBegin, MaySpill}
 use Rattle.sdr_log.specs.Undoing.{AreOpen}
 use Rattle.sdr_log.specs.declared.frame.Frame.{Frame}
 use Rattle.sdr_log.specs.declared.record.Record.{Record}
-use Rattle.sdr_log.proofs.GoodLemmas.{HoldLines-put_records, are_good-before}
+use Rattle.sdr_log.proofs.GoodLemmas.{HoldLines-put_records, are_good-before, names_line-below}
 use Rattle.sdr_log.proofs.LoggedLemmas.{Logs-lines, closed_only, logs_gate}
 use Rattle.sdr_log.proofs.RecordsLemmas.{SameBut-put_records, part-same_but}
 use Rattle.sdr_log.proofs.RestoringLemmas.{none_closed}
 use Rattle.sdr_log.proofs.SpilledLemmas.{undone_bytes}
 use Rattle.sdr_log.proofs.SpillingLemmas.{keeps_begun, keeps_gives, rest_keeps}
 use Rattle.sdr_image.specs.Buffer.{Changes, Rises}
-use Rattle.sdr_image.specs.Lines.{AreMarked, lines_named}
+use Rattle.sdr_image.specs.Lines.{AreAllMarked, AreMarked, lines_named}
 use Rattle.sdr_image.specs.Lines.{IsLineOf, IsLines, IsRested, Keeps, Stands, now_of}
 use Rattle.sdr_image.specs.Marks.{is_buffered, is_clean, is_logged, stand_at, touched_in}
 use Rattle.sdr_image.specs.declared.lines.Lines.{Lines}
 use Rattle.sdr_image.specs.declared.marks.Stand.{Stand}
-use Rattle.sdr_image.specs.declared.marks.Stand.TheVariants.{Clean}
+use Rattle.sdr_image.specs.declared.marks.Stand.TheVariants.{Buffered, Clean, Logged}
 use Rattle.sdr_image.proofs.EnteredLemmas.{clean_apart, news_good, unbuffered}
-use Rattle.sdr_image.proofs.LinesLemmas.{HoldLines-permutation}
+use Rattle.sdr_image.proofs.LinesLemmas.{HoldLines-permutation, names_line-permutation}
 use Rattle.sdr_image.proofs.MarksLemmas.{clean-replicate, touched-clean}
-use Rattle.sdr_image.proofs.StandsLemmas.{AreBelow-permutation, stands_logs, stands_wide}
+use Rattle.sdr_image.proofs.StandsLemmas.{AreBelow-permutation, olds_good, stands_logs, stands_wide}
 
 -- a disk at rest keeps its heap region
 pub ends_keeps : (f : Frame) (bytes y : List ℕ) (left : List ℕ → Type 0) → Ends f bytes y left →
@@ -132,6 +132,37 @@ module _ (f : Frame) (begun : List ℕ) (lines : Lines) (x : List ℕ) (s : Stan
       (HoldLines-permutation (now_of f lines x) lines.buffer.news risen.news r.news
       (HoldLines-put_records f.heap_lines lines.buffer.news (heap_of f x) (news_good f begun lines x s k) k.whole
       (stands_wide f begun lines x s)))
+
+  -- each touched line is marked
+  pub all_marked : AreAllMarked lines
+  all_marked = record {
+    below = λ line named.
+        omega (arith, names_line-below f.heap_lines lines.buffer.olds line (olds_good f begun lines x s) named, k.long);
+    named = λ none line touched.
+        s.marked.buffered line ∙ by (stand_at lines.marks line) touched
+        (sym (s.marked.logged line)
+        ∙ ap (λ (rs : List Record). names_line rs line) (nil s.records (omega (arith, s.many, none))));
+  }
+    where
+      by : (stand : Stand) → is_clean stand ≡ false → is_logged stand ≡ false → is_buffered stand ≡ true
+      by Clean touched other = absurd (true≢false touched)
+      by (Buffered place) touched other = refl
+      by Logged touched other = absurd (true≢false other)
+
+      nil : (rs : List Record) → length rs ≡ 0 → rs ≡ []
+      nil [] is = refl
+      nil (r ∷ rs) is = absurd (omega (arith, is))
+
+  -- also in another order
+  pub risen_marked : (l : Lines) → Rises lines.buffer l.buffer → l.logged ≡ lines.logged → l.marks ≡ lines.marks → AreAllMarked l
+  risen_marked l r logged marks =
+      let names = λ (line : ℕ). names_line-permutation lines.buffer.olds l.buffer.olds line r.olds in
+      record {
+        below = λ line named. omega (arith, all_marked.below line (sym (names line) ∙ named), ap length marks);
+        named = λ none line touched.
+            names line ∙ all_marked.named (sym logged ∙ none) line
+            (sym (ap (λ (ms : List Stand). is_clean (stand_at ms line)) marks) ∙ touched);
+      }
 
   -- a transaction that touched a line, and has none in the buffer, has open batches
   pub logged_some : lines.buffer.olds ≡ [] → 0 < length (touched_in lines.marks) → 0 < length s.records

@@ -1,5 +1,5 @@
 // How the lines of a transaction come to rest.
-ghost use Rattle.std.specs.Prelude.{◌≡◌, ◌≤◌, ◌<◌, ◌+◌, ◌*◌, [], ℕ, List, length, Contains, OnErr, OnOk};
+ghost use Rattle.std.specs.Prelude.{◌≡◌, ◌≤◌, ◌<◌, ◌+◌, ◌*◌, [], ℕ, List, length, replicate, Contains, OnErr, OnOk};
 ghost use Rattle.sdr_base.specs.Causes.{HasCause};
 ghost use Rattle.sdr_disk.specs.Moments.{AtEach};
 ghost use Rattle.sdr_disk.specs.Pending.{IsSynced};
@@ -11,11 +11,13 @@ ghost use Rattle.sdr_log.specs.Logged.{GivesHeap};
 ghost use Rattle.sdr_log.specs.Spilled.{Ends, GivesEither, Just};
 ghost use Rattle.sdr_image.specs.Buffer.{Rises};
 ghost use Rattle.sdr_image.specs.Changed.{HasChanged};
-ghost use Rattle.sdr_image.specs.Lines.{IsLineOf, IsLines, IsRested, IsUntouched, Keeps, Stands, begun_of, now_of};
+ghost use Rattle.sdr_image.specs.Lines.{AreAllMarked, IsLineOf, IsLines, IsRested, IsUntouched, Keeps, Stands, begun_of, now_of};
 ghost use Rattle.sdr_image.specs.Marks.{touched_in};
+ghost use Rattle.sdr_image.specs.declared.marks.Stand.TheVariants.{Clean};
 
 use crate::cache::Cache;
 use crate::lines::Lines;
+use crate::marks::Stand;
 use sdr_disk::{Disk, DiskFault};
 use sdr_log::{Frame, Record, end_spilled, end_with, undo};
 
@@ -33,14 +35,27 @@ fn keep_all(cache: &mut Cache, lines: &[Record])
     }
 }
 
+// Puts down that all lines are clean.
+fn clear_marks(lines: &mut Lines)
+    requires { AreAllMarked lines.old }
+    ensures { lines.new ≡ record lines.old { marks = replicate (length lines.old.marks) Clean } }
+{
+    if lines.logged != 0 {
+        lines.marks.clear();
+        return;
+    }
+    lines.marks.set_all(lines.buffer.olds(), Stand::Clean);
+}
+
 // No line is touched any more.
 fn untouch(lines: &mut Lines)
+    requires { AreAllMarked lines.old }
     ensures { IsUntouched lines.old lines.new }
 {
+    clear_marks(lines);
     lines.place = 0;
     lines.logged = 0;
     lines.buffer.clear();
-    lines.marks.clear();
 }
 
 // Closes all batches, with one of the buffer's lines, where there are any, opened first.

@@ -5,7 +5,7 @@ use Rattle.sdr_log.specs.Log.{heap_of}
 use Rattle.sdr_image.specs.Lines.{IsLineOf, begun_of, now_of}
 use Rattle.sdr_image.specs.declared.lines.Lines.{Lines}
 use Rattle.sdr_image.specs.declared.marks.Stand.TheVariants.{Clean}
-use Rattle.sdr_image.proofs.RestedLemmas.{cached_now, news_held, rested, rested_lines}
+use Rattle.sdr_image.proofs.RestedLemmas.{cached_now, news_held, rested, rested_lines, risen_marked}
 use Rattle.sdr_image.proofs.closing.end.Goals as goal
 
 pub returns-clause-rests : goal.returns-clause-rests
@@ -42,3 +42,9 @@ returns-clause-lines g c =
 
 pub returns-clause-written : goal.returns-clause-written
 returns-clause-written g c gate = c.in_ok-close_all.ensures.written gate
+
+pub untouch-requires : goal.untouch-requires
+untouch-requires g c =
+    let e = c.close_all.ensures in
+    risen_marked c.args.frame (begun_of (g.D.Disk.bytes c.args.disk.now)) c.args.lines.now (g.D.Disk.bytes c.args.disk.now)
+    c.requires.stands c.requires.kept (record c.close_all.new.lines { cache = c.keep_all.new.cache }) e.risen e.logged e.marks
