@@ -101,6 +101,10 @@ rested_lines f l logged buffer marks batch = record {
       ∙ omega (arith, logged, ap length (ap touched_in marks ∙ touched-clean 0 f.heap_lines));
 }
 
+pub nil_records : (rs : List Record) → length rs ≡ 0 → rs ≡ []
+nil_records [] is = refl
+nil_records (r ∷ rs) is = absurd (omega (arith, is))
+
 -- Lines of a transaction that comes to rest.
 module _ (f : Frame) (begun : List ℕ) (lines : Lines) (x : List ℕ) (s : Stands f begun lines x) (k : IsLines f lines) where
   -- the cached lines, where the bytes now are in the heap region
@@ -141,17 +145,13 @@ module _ (f : Frame) (begun : List ℕ) (lines : Lines) (x : List ℕ) (s : Stan
     named = λ none line touched.
         s.marked.buffered line ∙ by (stand_at lines.marks line) touched
         (sym (s.marked.logged line)
-        ∙ ap (λ (rs : List Record). names_line rs line) (nil s.records (omega (arith, s.many, none))));
+        ∙ ap (λ (rs : List Record). names_line rs line) (nil_records s.records (omega (arith, s.many, none))));
   }
     where
       by : (stand : Stand) → is_clean stand ≡ false → is_logged stand ≡ false → is_buffered stand ≡ true
       by Clean touched other = absurd (true≢false touched)
       by (Buffered place) touched other = refl
       by Logged touched other = absurd (true≢false other)
-
-      nil : (rs : List Record) → length rs ≡ 0 → rs ≡ []
-      nil [] is = refl
-      nil (r ∷ rs) is = absurd (omega (arith, is))
 
   -- also in another order
   pub risen_marked : (l : Lines) → Rises lines.buffer l.buffer → l.logged ≡ lines.logged → l.marks ≡ lines.marks → AreAllMarked l
@@ -171,17 +171,13 @@ module _ (f : Frame) (begun : List ℕ) (lines : Lines) (x : List ℕ) (s : Stan
   -- where none is open, the heap region has the bytes at begin
   pub unlogged : lines.logged ≡ 0 → Ends f begun x (Just x)
   unlogged none =
-      let empty : s.records ≡ [] = nil s.records (omega (arith, s.many, none)) in
+      let empty : s.records ≡ [] = nil_records s.records (omega (arith, s.many, none)) in
       let logs = subst (Logs f x) empty (stands_logs f begun lines x s) in
       record {
         rest = record { regions = logs.regions; gate = none_closed f x logs; only = λ image is. is };
         heap = ap (λ (rs : List Record). put_records rs (heap_of f x)) (sym empty)
             ∙ sym (keeps_begun f begun lines.place s.records x _ s.may.keeps);
       }
-    where
-      nil : (rs : List Record) → length rs ≡ 0 → rs ≡ []
-      nil [] is = refl
-      nil (r ∷ rs) is = absurd (omega (arith, is))
 
   -- whatever is pending
   pub unlogged_left : lines.logged ≡ 0 → (left : List ℕ → Type 0) → Keeps f begun x left → Ends f begun x left
@@ -225,10 +221,6 @@ module _ (f : Frame) (begun : List ℕ) (lines : Lines) (x : List ℕ) (s : Stan
   unmoved_begun moment may_hold_after old keeps =
       at_first moment may_hold_after old (GivesHeap begun)
       (keeps_gives f begun keeps.place keeps.records x _ keeps.keeps)
-
-pub nil_records : (rs : List Record) → length rs ≡ 0 → rs ≡ []
-nil_records [] is = refl
-nil_records (r ∷ rs) is = absurd (omega (arith, is))
 
 pub positive : (n : ℕ) → (n ≡ 0 → ⊥) → 0 < n
 positive n some = grind (arith, some)

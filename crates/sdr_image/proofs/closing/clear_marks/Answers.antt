@@ -3,7 +3,6 @@ use Rattle.std.specs.Prelude.{replicate}
 use Rattle.sdr_log.specs.Log.{names_line}
 use Rattle.sdr_log.specs.declared.record.Record.{Record}
 use Rattle.sdr_image.specs.Marks.{stand_at}
-use Rattle.sdr_image.specs.declared.lines.Lines.{Lines}
 use Rattle.sdr_image.specs.declared.marks.Stand.{Stand}
 use Rattle.sdr_image.specs.declared.marks.Stand.TheVariants.{Clean}
 use Rattle.sdr_image.proofs.MarksLemmas.{put_clean, replicate-clean}

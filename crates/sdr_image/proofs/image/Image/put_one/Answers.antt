@@ -1,4 +1,4 @@
-use Rattle.std.proofs.Common.{◌≡◌, ◌∙◌, ◌+◌, ◌*◌, ◌/◌, ◌%◌, ◌∷◌, [], ℕ, true, List, length, sym, ap, subst, arith, true≢false, length-append}
+use Rattle.std.proofs.Common.{◌≡◌, ◌∙◌, ◌+◌, ◌*◌, ◌/◌, ◌%◌, ◌∷◌, [], ℕ, true, List, length, ap, subst, arith, true≢false, length-append}
 use Rattle.std.specs.Prelude.{IsPermutation, OnOk}
 use Rattle.sdr_base.specs.Cells.{with_lines}
 use Rattle.sdr_base.specs.Parts.{overwrite}

@@ -4,7 +4,7 @@ use Rattle.std.proofs.lemmas.List.Sorted.{length_permutation}
 use Rattle.sdr_base.specs.Cells.{IsFull, TouchesSome, lines_of, with_lines}
 use Rattle.sdr_base.specs.declared.refusal.Refusal.TheVariants.{LogFull}
 use Rattle.sdr_log.specs.Frame.{room_of}
-use Rattle.sdr_image.specs.Opened.{Opened, transaction_of}
+use Rattle.sdr_image.specs.Opened.{transaction_of}
 use Rattle.sdr_image.specs.QuietLaws.{quiet_same}
 use Rattle.sdr_image.proofs.StandsLemmas.{on_ok}
 use Rattle.sdr_image.proofs.StopLemmas.{never_refused, on_err, quiet_stays}
