@@ -7,6 +7,7 @@ use Rattle.sdr_disk.specs.Moments.{AtEach, Reads}
 use Rattle.sdr_disk.specs.Tells.{IfTells}
 use Rattle.sdr_disk.specs.declared.disk.Disk.{Ghosts as DiskGhosts}
 use Rattle.sdr_image.specs.Opening.{MayBeOpened}
+use Rattle.sdr_log.proofs.LoggedLemmas.{closed_only}
 use Rattle.sdr_log.specs.Log.{first_gate}
 use Rattle.sdr_log.specs.Logged.{GivesSame}
 use Rattle.sdr_shell.proofs.ShutLemmas.{by_shut, by_world, shut_not_usage, shut_status}
@@ -35,7 +36,9 @@ opened_recovered d disk g o = record {
     pools = o.memory.before.pools;
     stands = o.memory.before.stands;
   };
-  synced = λ may told. ((o.stands may).rests o.sound told).rest.only;
+  synced = λ may told.
+      let now = g.heap.cells.disk in
+      closed_only g.heap.cells.frame (d.bytes now) (d.may_hold_after now (d.moment now)) ((o.stands may).rests o.sound told).keeps.logged o.back.gate;
 }
 
 -- what a recovery came to gives its answers
