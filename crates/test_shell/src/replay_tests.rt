@@ -49,7 +49,7 @@ fn replayed(
     answered(alloc, &["replay"], bytes, failing, script, output)
 }
 
-// What a script came to on a disk whose call fails: its status, whether the journal is empty or ends with a fault, and how many calls were made.
+// What a script came to on a disk whose call fails: its status, whether the journal is empty or has a fault, and how many calls were made.
 #[derive(Drop)]
 struct Came {
     status: u8,
@@ -57,22 +57,24 @@ struct Came {
     calls: u64,
 }
 
-// Whether there is no entry, or the disk failed in the last one.
+// Whether the disk failed in an entry.
+fn met_a_fault(entry: &Entry) -> bool {
+    matches!(
+        &entry.what,
+        What::Work {
+            close: Close::Faulted,
+            ..
+        }
+    )
+}
+
+// Whether there is no entry, or the disk failed in one.
 fn is_faulted(journal: &[Entry]) -> bool {
-    match journal.last() {
-        None => true,
-        Some(entry) => matches!(
-            &entry.what,
-            What::Work {
-                close: Close::Faulted,
-                ..
-            }
-        ),
-    }
+    journal.is_empty() || journal.iter().any(met_a_fault)
 }
 
 // What a script comes to on a formatted disk whose call of this number fails, 0 for none.
-fn came(alloc: Global, call: u64, script: &[u8], output: &mut MemorySink) -> Option<Came> {
+fn played(alloc: Global, call: u64, script: &[u8], output: &mut MemorySink) -> Option<Came> {
     let failing = vec![in alloc; call; 1].ok()?;
     let outcome = replayed(alloc, formatted(alloc)?, failing, script, output)?;
     Some(Came {
@@ -85,7 +87,7 @@ fn came(alloc: Global, call: u64, script: &[u8], output: &mut MemorySink) -> Opt
 // Whether the failure of a call comes to a disk fault, and which of these texts is printed. `None`: none is, or it comes to something else.
 fn text_of(alloc: Global, call: u64, script: &[u8], texts: &[&[u8]]) -> Option<usize> {
     let mut output = MemorySink::new(alloc, Vec::new(alloc));
-    let came = came(alloc, call, script, &mut output)?;
+    let came = played(alloc, call, script, &mut output)?;
     if came.status != DISK_FAULT || !came.faulted {
         return None;
     }
@@ -107,8 +109,8 @@ fn wrong_opening(alloc: Global) -> Option<u64> {
 // where those before it don't any more, up to the last; and behind the last call the script is done.
 fn wrong_fault(alloc: Global, script: &[u8], texts: &[&[u8]]) -> Option<Option<u64>> {
     let mut output = MemorySink::new(alloc, Vec::new(alloc));
-    let opening = came(alloc, 0, b"", &mut output)?.calls;
-    let all = came(alloc, 0, script, &mut output)?;
+    let opening = played(alloc, 0, b"", &mut output)?.calls;
+    let all = played(alloc, 0, script, &mut output)?;
     let mut at = 0usize;
     for call in opening.checked_add(1)?..all.calls.checked_add(1)? {
         match text_of(alloc, call, script, texts) {
