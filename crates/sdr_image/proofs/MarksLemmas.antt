@@ -1,6 +1,6 @@
 -- Marks of the lines of a heap region.
 use Rattle.std.proofs.Common.{◌≡◌, ◌≤◌, ◌<◌, ◌∙◌, inl, inr, ℕ, zero, suc, ◌+◌, ◌-◌, ◌==◌, Bool, true, false, not, cond, List, [], ◌∷◌, ◌++◌}
-use Rattle.std.proofs.Common.{length, take, drop, get_or, refl, sym, ap, subst, arith}
+use Rattle.std.proofs.Common.{length, take, drop, get_or, refl, sym, ap, subst, arith, true≢false}
 use Rattle.std.specs.Prelude.{filter, map, replicate, slice_set, IsPermutation}
 use Rattle.std.specs.List.{range_with_len}
 use Rattle.std.proofs.lemmas.Bool.{cases_eq}
@@ -126,6 +126,21 @@ pub clean-replicate : (n line : ℕ) → stand_at (replicate n Clean) line ≡ C
 clean-replicate zero line = refl
 clean-replicate (suc n) zero = refl
 clean-replicate (suc n) (suc line) = clean-replicate n line
+
+-- where each is, they all are
+pub replicate-clean : (marks : List Stand) → ((line : ℕ) → stand_at marks line ≡ Clean) →
+    marks ≡ replicate (length marks) Clean
+replicate-clean [] each = refl
+replicate-clean (s ∷ marks) each =
+    let rest = replicate-clean marks (λ line. each (suc line)) in
+    (λ i. each 0 i ∷ rest i)
+
+-- a line that isn't clean is named, and each that is named is put down as clean
+pub put_clean : (named : Bool) (stand : Stand) → (is_clean stand ≡ false → named ≡ true) → cond named Clean stand ≡ Clean
+put_clean true stand each = refl
+put_clean false Clean each = refl
+put_clean false (Buffered place) each = absurd (true≢false (sym (each refl)))
+put_clean false Logged each = absurd (true≢false (sym (each refl)))
 
 -- a byte and where its line stands
 clean_byte : (byte : ℕ) → is_clean (stand_of byte) ≡ (byte == 0)

@@ -1,6 +1,6 @@
 -- How the lines of a transaction come to rest.
 use Rattle.std.proofs.Common.{◌≡◌, ◌<◌, ◌∙◌, ℕ, ◌+◌, ◌*◌, List, [], ◌∷◌, length, refl, sym, ap, subst, arith}
-use Rattle.std.proofs.Common.{true≢false}
+use Rattle.std.proofs.Common.{false, true, true≢false}
 use Rattle.std.specs.Prelude.{IsPermutation, Contains, replicate}
 use Rattle.std.proofs.lemmas.List.{length-map, length-replicate}
 use Rattle.std.proofs.lemmas.List.Sorted.{IsPermutation-refl, length_permutation}
@@ -9,29 +9,30 @@ use Rattle.std.specs.declared.alloc.Global.{Global}
 use Rattle.sdr_base.specs.Parts.{part}
 use Rattle.sdr_disk.specs.Moments.{AtEach, Only}
 use Rattle.sdr_disk.proofs.MomentsLemmas.{at_first, at_then}
-use Rattle.sdr_log.specs.Calls.{AreBelow, PutsBack}
-use Rattle.sdr_log.specs.Log.{AreLines, first_gate, heap_of, put_records}
+use Rattle.sdr_log.specs.Calls.{AreBelow, HoldLines, PutsBack}
+use Rattle.sdr_log.specs.Log.{AreLines, first_gate, heap_of, names_line, put_records}
 use Rattle.sdr_log.specs.Logged.{GivesHeap, GivesSame, Logs}
 use Rattle.sdr_log.specs.Spilled.{Ends, Just, KeepsBegin, MaySpill}
 use Rattle.sdr_log.specs.Undoing.{AreOpen}
 use Rattle.sdr_log.specs.declared.frame.Frame.{Frame}
 use Rattle.sdr_log.specs.declared.record.Record.{Record}
-use Rattle.sdr_log.proofs.GoodLemmas.{are_good-before}
+use Rattle.sdr_log.proofs.GoodLemmas.{HoldLines-put_records, are_good-before, names_line-below}
 use Rattle.sdr_log.proofs.LoggedLemmas.{Logs-lines, closed_only, logs_gate}
 use Rattle.sdr_log.proofs.RecordsLemmas.{SameBut-put_records, part-same_but}
 use Rattle.sdr_log.proofs.RestoringLemmas.{none_closed}
 use Rattle.sdr_log.proofs.SpilledLemmas.{undone_bytes}
 use Rattle.sdr_log.proofs.SpillingLemmas.{keeps_begun, keeps_gives, rest_keeps}
 use Rattle.sdr_image.specs.Buffer.{Changes, Rises}
-use Rattle.sdr_image.specs.Lines.{AreMarked, lines_named}
+use Rattle.sdr_image.specs.Lines.{AreAllMarked, AreMarked, lines_named}
 use Rattle.sdr_image.specs.Lines.{IsLineOf, IsLines, IsRested, Keeps, Stands, now_of}
 use Rattle.sdr_image.specs.Marks.{is_buffered, is_clean, is_logged, stand_at, touched_in}
 use Rattle.sdr_image.specs.declared.lines.Lines.{Lines}
 use Rattle.sdr_image.specs.declared.marks.Stand.{Stand}
-use Rattle.sdr_image.specs.declared.marks.Stand.TheVariants.{Clean}
-use Rattle.sdr_image.proofs.EnteredLemmas.{clean_apart, unbuffered}
+use Rattle.sdr_image.specs.declared.marks.Stand.TheVariants.{Buffered, Clean, Logged}
+use Rattle.sdr_image.proofs.EnteredLemmas.{clean_apart, news_good, unbuffered}
+use Rattle.sdr_image.proofs.LinesLemmas.{HoldLines-permutation, names_line-permutation}
 use Rattle.sdr_image.proofs.MarksLemmas.{clean-replicate, touched-clean}
-use Rattle.sdr_image.proofs.StandsLemmas.{AreBelow-permutation, stands_logs, stands_wide}
+use Rattle.sdr_image.proofs.StandsLemmas.{AreBelow-permutation, olds_good, stands_logs, stands_wide}
 
 -- a disk at rest keeps its heap region
 pub ends_keeps : (f : Frame) (bytes y : List ℕ) (left : List ℕ → Type 0) → Ends f bytes y left →
@@ -100,6 +101,10 @@ rested_lines f l logged buffer marks batch = record {
       ∙ omega (arith, logged, ap length (ap touched_in marks ∙ touched-clean 0 f.heap_lines));
 }
 
+pub nil_records : (rs : List Record) → length rs ≡ 0 → rs ≡ []
+nil_records [] is = refl
+nil_records (r ∷ rs) is = absurd (omega (arith, is))
+
 -- Lines of a transaction that comes to rest.
 module _ (f : Frame) (begun : List ℕ) (lines : Lines) (x : List ℕ) (s : Stands f begun lines x) (k : IsLines f lines) where
   -- the cached lines, where the bytes now are in the heap region
@@ -123,6 +128,42 @@ module _ (f : Frame) (begun : List ℕ) (lines : Lines) (x : List ℕ) (s : Stan
       (s.marked.logged e.0 ∙ apart.0) (omega (arith, was.0.0, wide)) in
       (was.0.0, was.0.1 ∙ sym kept ∙ ap (part (64 * e.0) 64) (sym all ∙ sym heap))
 
+  -- the buffer's lines by rising number, where the bytes now are in the heap region
+  pub news_held : (y : List ℕ) → heap_of f y ≡ now_of f lines x → (risen : Changes) → Rises lines.buffer risen →
+      HoldLines (heap_of f y) risen.news
+  news_held y heap risen r =
+      subst (λ (h : List ℕ). HoldLines h risen.news) (sym heap)
+      (HoldLines-permutation (now_of f lines x) lines.buffer.news risen.news r.news
+      (HoldLines-put_records f.heap_lines lines.buffer.news (heap_of f x) (news_good f begun lines x s k) k.whole
+      (stands_wide f begun lines x s)))
+
+  -- each touched line is marked
+  pub all_marked : AreAllMarked lines
+  all_marked = record {
+    below = λ line named.
+        omega (arith, names_line-below f.heap_lines lines.buffer.olds line (olds_good f begun lines x s) named, k.long);
+    named = λ none line touched.
+        s.marked.buffered line ∙ by (stand_at lines.marks line) touched
+        (sym (s.marked.logged line)
+        ∙ ap (λ (rs : List Record). names_line rs line) (nil_records s.records (omega (arith, s.many, none))));
+  }
+    where
+      by : (stand : Stand) → is_clean stand ≡ false → is_logged stand ≡ false → is_buffered stand ≡ true
+      by Clean touched other = absurd (true≢false touched)
+      by (Buffered place) touched other = refl
+      by Logged touched other = absurd (true≢false other)
+
+  -- also in another order
+  pub risen_marked : (l : Lines) → Rises lines.buffer l.buffer → l.logged ≡ lines.logged → l.marks ≡ lines.marks → AreAllMarked l
+  risen_marked l r logged marks =
+      let names = λ (line : ℕ). names_line-permutation lines.buffer.olds l.buffer.olds line r.olds in
+      record {
+        below = λ line named. omega (arith, all_marked.below line (sym (names line) ∙ named), ap length marks);
+        named = λ none line touched.
+            names line ∙ all_marked.named (sym logged ∙ none) line
+            (sym (ap (λ (ms : List Stand). is_clean (stand_at ms line)) marks) ∙ touched);
+      }
+
   -- a transaction that touched a line, and has none in the buffer, has open batches
   pub logged_some : lines.buffer.olds ≡ [] → 0 < length (touched_in lines.marks) → 0 < length s.records
   logged_some none some = omega (arith, k.counted, s.many, ap length none, some)
@@ -130,17 +171,13 @@ module _ (f : Frame) (begun : List ℕ) (lines : Lines) (x : List ℕ) (s : Stan
   -- where none is open, the heap region has the bytes at begin
   pub unlogged : lines.logged ≡ 0 → Ends f begun x (Just x)
   unlogged none =
-      let empty : s.records ≡ [] = nil s.records (omega (arith, s.many, none)) in
+      let empty : s.records ≡ [] = nil_records s.records (omega (arith, s.many, none)) in
       let logs = subst (Logs f x) empty (stands_logs f begun lines x s) in
       record {
         rest = record { regions = logs.regions; gate = none_closed f x logs; only = λ image is. is };
         heap = ap (λ (rs : List Record). put_records rs (heap_of f x)) (sym empty)
             ∙ sym (keeps_begun f begun lines.place s.records x _ s.may.keeps);
       }
-    where
-      nil : (rs : List Record) → length rs ≡ 0 → rs ≡ []
-      nil [] is = refl
-      nil (r ∷ rs) is = absurd (omega (arith, is))
 
   -- whatever is pending
   pub unlogged_left : lines.logged ≡ 0 → (left : List ℕ → Type 0) → Keeps f begun x left → Ends f begun x left
@@ -184,10 +221,6 @@ module _ (f : Frame) (begun : List ℕ) (lines : Lines) (x : List ℕ) (s : Stan
   unmoved_begun moment may_hold_after old keeps =
       at_first moment may_hold_after old (GivesHeap begun)
       (keeps_gives f begun keeps.place keeps.records x _ keeps.keeps)
-
-pub nil_records : (rs : List Record) → length rs ≡ 0 → rs ≡ []
-nil_records [] is = refl
-nil_records (r ∷ rs) is = absurd (omega (arith, is))
 
 pub positive : (n : ℕ) → (n ≡ 0 → ⊥) → 0 < n
 positive n some = grind (arith, some)

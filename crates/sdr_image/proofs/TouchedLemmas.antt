@@ -1,5 +1,5 @@
 -- The lines that a transaction touches.
-use Rattle.std.proofs.Common.{◌≡◌, ◌≤◌, ◌<◌, inl, inr, ℕ, zero, suc, ◌+◌, ◌-◌, ◌/◌, Bool, true, false}
+use Rattle.std.proofs.Common.{◌≡◌, ◌≤◌, ◌<◌, inl, inr, ℕ, zero, suc, ◌+◌, ◌-◌, ◌/◌, ◌%◌, Bool, true, false}
 use Rattle.std.proofs.Common.{not, cond, ◌||◌, ◌==◌}
 use Rattle.std.proofs.Common.{List, [], ◌∷◌, ◌++◌, length, refl, sym, ap, ◌∙◌, arith}
 use Rattle.std.proofs.Common.{append-nil, append_assoc, length-append}
@@ -52,6 +52,15 @@ is_among-lines_of place count i ge lt =
     let some : (count == 0) ≡ false = grind (arith, nat_tests) in
     ap (λ (b : Bool). is_among (cond b [] (range_with_len (place / 64) n)) (i / 64)) some
     ∙ is_among-range_with_len (place / 64) n (i / 64) (omega arith) (omega arith)
+
+-- the line of bytes that lie in one
+pub lines_of-one : (place count : ℕ) → 0 < count → place % 64 + count ≤ 64 → lines_of place count ≡ (place / 64) ∷ []
+unfolding lines_of
+lines_of-one place count some one =
+    let n = (place + count - 1) / 64 + 1 - place / 64 in
+    let is : (count == 0) ≡ false = grind (arith, nat_tests) in
+    let single : n ≡ 1 = omega arith in
+    ap (λ (b : Bool). cond b [] (range_with_len (place / 64) n)) is ∙ ap (range_with_len (place / 64)) single
 
 range_with_len-append : (first m n : ℕ) → range_with_len first (m + n) ≡ range_with_len first m ++ range_with_len
     (first + m) n

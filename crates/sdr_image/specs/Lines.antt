@@ -1,5 +1,5 @@
 -- Where the lines of an opened disk stand while a transaction is open, and what stands on the disk then.
-use Rattle.std.specs.Prelude.{◌≡◌, ◌≤◌, ◌<◌, ◌+◌, ◌-◌, ◌*◌, ℕ, Bool, true, List, [], length, map, get_or, Contains, unwrap_or, replicate, IsPermutation, ◌++◌}
+use Rattle.std.specs.Prelude.{◌≡◌, ◌≤◌, ◌<◌, ◌+◌, ◌-◌, ◌*◌, ℕ, Bool, true, false, List, [], length, map, get_or, Contains, unwrap_or, replicate, IsPermutation, ◌++◌}
 use Rattle.std.specs.List.{range_with_len}
 use Rattle.sdr_base.specs.Cells.{lines_of}
 use Rattle.sdr_base.specs.Parts.{part}
@@ -89,6 +89,12 @@ pub record IsFresh (f : Frame) (lines : Lines) : Type 0 where
   pub marks : lines.marks ≡ replicate f.heap_lines Clean
   pub batch : length lines.batch.items ≡ 4357
   pub cache : lines.cache ≡ []
+
+-- the buffer names lines that there are, and where none is logged, each that is touched
+pub record AreAllMarked (lines : Lines) : Type 0 where
+  pub below : (line : ℕ) → names_line lines.buffer.olds line ≡ true → line < length lines.marks
+  pub named : lines.logged ≡ 0 → (line : ℕ) → is_clean (stand_at lines.marks line) ≡ false →
+      names_line lines.buffer.olds line ≡ true
 
 -- no line is touched any more, and the cache is the same
 abbrev pub IsUntouched : Lines → Lines → Type 0

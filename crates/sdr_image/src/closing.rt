@@ -1,30 +1,61 @@
 // How the lines of a transaction come to rest.
-ghost use Rattle.std.specs.Prelude.{◌≡◌, ◌≤◌, ◌<◌, ◌+◌, ◌*◌, [], length, OnErr, OnOk};
+ghost use Rattle.std.specs.Prelude.{◌≡◌, ◌≤◌, ◌<◌, ◌+◌, ◌*◌, [], ℕ, List, length, replicate, Contains, OnErr, OnOk};
 ghost use Rattle.sdr_base.specs.Causes.{HasCause};
 ghost use Rattle.sdr_disk.specs.Moments.{AtEach};
 ghost use Rattle.sdr_disk.specs.Pending.{IsSynced};
 ghost use Rattle.sdr_disk.specs.Tells.{IfTells};
-ghost use Rattle.sdr_log.specs.Calls.{KeepsDisk, KeepsOutside};
+ghost use Rattle.sdr_log.specs.Calls.{AreBelow, HoldLines, KeepsDisk, KeepsOutside};
 ghost use Rattle.sdr_log.specs.Frame.{LieInside};
-ghost use Rattle.sdr_log.specs.Log.{first_gate};
+ghost use Rattle.sdr_log.specs.Log.{first_gate, heap_of};
 ghost use Rattle.sdr_log.specs.Logged.{GivesHeap};
 ghost use Rattle.sdr_log.specs.Spilled.{Ends, GivesEither, Just};
+ghost use Rattle.sdr_image.specs.Buffer.{Rises};
 ghost use Rattle.sdr_image.specs.Changed.{HasChanged};
-ghost use Rattle.sdr_image.specs.Lines.{IsLines, IsRested, IsUntouched, Keeps, Stands, begun_of, now_of};
+ghost use Rattle.sdr_image.specs.Lines.{AreAllMarked, IsLineOf, IsLines, IsRested, IsUntouched, Keeps, Stands, begun_of, now_of};
 ghost use Rattle.sdr_image.specs.Marks.{touched_in};
+ghost use Rattle.sdr_image.specs.declared.marks.Stand.TheVariants.{Clean};
 
+use crate::cache::Cache;
 use crate::lines::Lines;
+use crate::marks::Stand;
 use sdr_disk::{Disk, DiskFault};
-use sdr_log::{Frame, end_spilled, end_with, undo};
+use sdr_log::{Frame, Record, end_spilled, end_with, undo};
+
+// Keeps these lines in a cache. Others may go.
+fn keep_all(cache: &mut Cache, lines: &[Record])
+    ensures { (f : Frame) (x : List ℕ) → HoldLines (heap_of f x) lines.now
+        → AreBelow f.heap_lines lines.now
+        → ((e : ℕ × List ℕ) → Contains cache.old e → IsLineOf f x e)
+        → (e : ℕ × List ℕ) → Contains cache.new e → IsLineOf f x e }
+{
+    let mut rest = lines;
+    while let Some((first, after)) = rest.split_first() {
+        cache.keep(first.line, first.bytes);
+        rest = after;
+    }
+}
+
+// Puts down that all lines are clean.
+fn clear_marks(lines: &mut Lines)
+    requires { AreAllMarked lines.old }
+    ensures { lines.new ≡ record lines.old { marks = replicate (length lines.old.marks) Clean } }
+{
+    if lines.logged != 0 {
+        lines.marks.clear();
+        return;
+    }
+    lines.marks.set_all(lines.buffer.olds(), Stand::Clean);
+}
 
 // No line is touched any more.
 fn untouch(lines: &mut Lines)
+    requires { AreAllMarked lines.old }
     ensures { IsUntouched lines.old lines.new }
 {
+    clear_marks(lines);
     lines.place = 0;
     lines.logged = 0;
     lines.buffer.clear();
-    lines.marks.clear();
 }
 
 // Closes all batches, with one of the buffer's lines, where there are any, opened first.
@@ -45,6 +76,8 @@ fn close_all<D: Disk>(disk: &mut D, frame: Frame, lines: &mut Lines) -> Result<(
     ensures cause { HasCause (D.faults disk.old) (D.faults disk.new) result }
 
     ensures lines { IsLines frame lines.new }
+    ensures risen { Rises lines.old.buffer lines.new.buffer }
+    ensures logged { lines.new.logged ≡ lines.old.logged }
     ensures marks { lines.new.marks ≡ lines.old.marks }
     ensures cache { lines.new.cache ≡ lines.old.cache }
     ensures disk { KeepsDisk D.bytes D.tells_crashes disk.old disk.new }
@@ -75,7 +108,8 @@ fn close_all<D: Disk>(disk: &mut D, frame: Frame, lines: &mut Lines) -> Result<(
     Ok(())
 }
 
-/// Ends the transaction: its lines are on the disk, and none is touched.
+/// Ends the transaction: its lines are on the disk, and none is touched. Those of the buffer are
+/// cached.
 pub fn end<D: Disk>(disk: &mut D, frame: Frame, lines: &mut Lines) -> Result<(), DiskFault>
     requires regions { LieInside frame (length (D.bytes disk.old)) }
     requires kept { IsLines frame lines.old }
@@ -106,6 +140,7 @@ pub fn end<D: Disk>(disk: &mut D, frame: Frame, lines: &mut Lines) -> Result<(),
         (begun_of (D.bytes disk.old)) (now_of frame lines.old (D.bytes disk.old)))) }
 {
     close_all(disk, frame, lines)?;
+    keep_all(&mut lines.cache, lines.buffer.news());
     untouch(lines);
     Ok(())
 }

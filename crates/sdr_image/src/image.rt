@@ -264,6 +264,18 @@ impl<D: Disk> Image<D> {
         self.touched() + self.lines.marks.untouched(first, end)
     }
 
+    // How many lines are touched with this one.
+    fn touched_with_one(&self, line: u64) -> u64
+        requires { line < self.now.frame.heap_lines }
+        ensures { result ≡ length (with_lines self.now.touched (line ∷ [])) }
+    {
+        let touched = self.touched();
+        if self.lines.marks.is_clean(line) {
+            return touched + 1;
+        }
+        touched
+    }
+
     /// Ends the transaction with the bytes as they were at its begin, which a crash leaves up to
     /// the return and after it. Where some of its lines are on the disk already, it makes a write for
     /// each of them and three writes and syncs more, and no call of the disk else. Where none was
@@ -422,6 +434,60 @@ impl<D: Disk> Image<D> {
         Ok(())
     }
 
+    // Writes bytes from a place on, which lie in one line, where there is room for it.
+    fn put_one(&mut self, place: u64, from: &[u8]) -> Result<(), Stop>
+        requires sound { self.old.failed ≡ false }
+        requires one { place % LINE + length from.now ≤ LINE }
+        requires below { place / LINE < self.old.frame.heap_lines }
+        requires room { length (with_lines self.old.touched (place / LINE ∷ []))
+            ≤ room_of self.old.frame }
+        ensures written { OnOk result (self.new.bytes ≡ overwrite place from.now self.old.bytes) }
+        ensures touched { OnOk result (IsPermutation (with_lines self.old.touched
+            (place / LINE ∷ [])) self.new.touched) }
+        ensures opened { OnOk result (self.new.is_open ≡ true) }
+
+        ensures size { length self.new.bytes ≡ length self.old.bytes }
+        ensures some { TouchesSome 1 (transaction_of D.faults self.old)
+            (transaction_of D.faults self.new) }
+        ensures answered { IfRefused result (λ _. ⊥) }
+        ensures cause { HasReason (transaction_of D.faults self.old)
+            (transaction_of D.faults self.new) result }
+        ensures quiet { IsQuiet D.bytes D.tells_crashes D.moment D.may_hold_after self.old
+            self.new }
+    {
+        self.is_open = true;
+        self.put(place / LINE, (place % LINE) as usize, from)
+    }
+
+    // Writes bytes from a place on, which lie in one line.
+    fn write_one(&mut self, place: u64, from: &[u8]) -> Result<(), Stop>
+        requires sound { self.old.failed ≡ false }
+        requires some { 0 < length from.now }
+        requires one { place % LINE + length from.now ≤ LINE }
+        requires below { place / LINE < self.old.frame.heap_lines }
+
+        ensures written { OnOk result (self.new.bytes ≡ overwrite place from.now self.old.bytes) }
+
+        ensures size { length self.new.bytes ≡ length self.old.bytes }
+        ensures same { IfRefused result (λ _. self.new.bytes ≡ self.old.bytes) }
+        ensures room { TouchesLines (lines_of place (length from.now))
+            (transaction_of D.faults self.old) (transaction_of D.faults self.new) result }
+        ensures cause { HasReason (transaction_of D.faults self.old)
+            (transaction_of D.faults self.new) result }
+        ensures quiet { IsQuiet D.bytes D.tells_crashes D.moment D.may_hold_after self.old
+            self.new }
+
+        ensures begins { OnOk result (self.new.is_open ≡ true) }
+        ensures stays { StaysAt result self.old self.new }
+    {
+        let lines = self.touched_with_one(place / LINE);
+        let room = self.room();
+        if lines > room {
+            return Err(Stop::Refused(Refusal::LogFull { lines, room }));
+        }
+        self.put_one(place, from)
+    }
+
     // Writes bytes from a place on, where there is room for their lines.
     fn put_all(&mut self, place: u64, from: &[u8], first: u64, end: u64) -> Result<(), Stop>
         requires sound { self.old.failed ≡ false }
@@ -536,7 +602,11 @@ impl<D: Disk> Cells for Image<D> {
         if self.failed {
             return Err(Stop::Failed);
         }
-        let (first, end) = span(place, from.len() as u64);
+        let count = from.len() as u64;
+        if count > 0 && place % LINE + count <= LINE {
+            return self.write_one(place, from);
+        }
+        let (first, end) = span(place, count);
         let lines = self.touched_with(first, end);
         let room = self.room();
         if lines > room {

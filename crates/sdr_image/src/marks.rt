@@ -97,6 +97,14 @@ impl Marks {
         stand_of(self.bytes[line as usize])
     }
 
+    /// Whether a line isn't touched.
+    pub fn is_clean(&self, line: u64) -> bool
+        requires { line < length self.now }
+        ensures { result ≡ is_clean (stand_at self.now line) }
+    {
+        matches!(self.at(line), Stand::Clean)
+    }
+
     /// Puts down where a line stands.
     pub fn set(&mut self, line: u64, stand: Stand)
         requires below { line < length self.old }

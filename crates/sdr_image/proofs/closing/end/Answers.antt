@@ -1,9 +1,11 @@
-use Rattle.std.proofs.Common.{◌∙◌, ap, subst, List, ℕ, length}
+use Rattle.std.proofs.Common.{◌∙◌, ap, subst, sym, List, ℕ, length}
 use Rattle.std.specs.Prelude.{Contains, replicate}
-use Rattle.sdr_image.specs.Lines.{begun_of, now_of}
+use Rattle.sdr_log.specs.Calls.{AreBelow, HoldLines}
+use Rattle.sdr_log.specs.Log.{heap_of}
+use Rattle.sdr_image.specs.Lines.{IsLineOf, begun_of, now_of}
 use Rattle.sdr_image.specs.declared.lines.Lines.{Lines}
 use Rattle.sdr_image.specs.declared.marks.Stand.TheVariants.{Clean}
-use Rattle.sdr_image.proofs.RestedLemmas.{cached_now, rested, rested_lines}
+use Rattle.sdr_image.proofs.RestedLemmas.{cached_now, news_held, rested, rested_lines, risen_marked}
 use Rattle.sdr_image.proofs.closing.end.Goals as goal
 
 pub returns-clause-rests : goal.returns-clause-rests
@@ -17,10 +19,16 @@ returns-clause-rests g c =
     let l = c.untouch.new.lines in
     let u = c.untouch.ensures in
     let ends = c.in_ok-close_all.ensures.ends in
-    let cache = ap (λ (v : Lines). v.cache) u ∙ c.close_all.ensures.cache in
+    let cache = ap (λ (v : Lines). v.cache) u in
+    let held = subst (HoldLines (heap_of f y)) (sym c.news.ensures)
+    (news_held f (begun_of x) o x c.requires.stands c.requires.kept y ends.heap m.buffer c.close_all.ensures.risen) in
+    let below = subst (AreBelow f.heap_lines) (sym c.news.ensures) c.close_all.ensures.lines.below in
+    let cached : (e : ℕ × List ℕ) → Contains m.cache e → IsLineOf f y e =
+    λ e has. cached_now f (begun_of x) o x c.requires.stands c.requires.kept y ends.heap e
+    (subst (λ (es : List (ℕ × List ℕ)). Contains es e) c.close_all.ensures.cache has) in
     rested f (now_of f o x) y l ends (ap (λ (v : Lines). v.place) u) (ap (λ (v : Lines). v.logged) u)
     (ap (λ (v : Lines). v.buffer) u) (length m.marks) (ap (λ (v : Lines). v.marks) u)
-    (λ e has. cached_now f (begun_of x) o x c.requires.stands c.requires.kept y ends.heap e
+    (λ e has. c.keep_all.ensures f y held below cached e
     (subst (λ (es : List (ℕ × List ℕ)). Contains es e) cache has))
 
 pub returns-clause-lines : goal.returns-clause-lines
@@ -34,3 +42,9 @@ returns-clause-lines g c =
 
 pub returns-clause-written : goal.returns-clause-written
 returns-clause-written g c gate = c.in_ok-close_all.ensures.written gate
+
+pub untouch-requires : goal.untouch-requires
+untouch-requires g c =
+    let e = c.close_all.ensures in
+    risen_marked c.args.frame (begun_of (g.D.Disk.bytes c.args.disk.now)) c.args.lines.now (g.D.Disk.bytes c.args.disk.now)
+    c.requires.stands c.requires.kept (record c.close_all.new.lines { cache = c.keep_all.new.cache }) e.risen e.logged e.marks

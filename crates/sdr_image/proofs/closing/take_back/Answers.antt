@@ -3,7 +3,7 @@ use Rattle.std.specs.Prelude.{Contains, replicate}
 use Rattle.sdr_image.specs.Lines.{begun_of}
 use Rattle.sdr_image.specs.declared.lines.Lines.{Lines}
 use Rattle.sdr_image.specs.declared.marks.Stand.TheVariants.{Clean}
-use Rattle.sdr_image.proofs.RestedLemmas.{cached_begun, ends_rest, rested, rested_lines}
+use Rattle.sdr_image.proofs.RestedLemmas.{all_marked, cached_begun, ends_rest, rested, rested_lines}
 use Rattle.sdr_image.proofs.closing.take_back.Goals as goal
 
 pub returns-clause-rests : goal.returns-clause-rests
@@ -35,3 +35,8 @@ returns-clause-lines g c =
     rested_lines f c.untouch.new.lines (ap (λ (v : Lines). v.logged) u) (ap (λ (v : Lines). v.buffer) u)
     (ap (λ (v : Lines). v.marks) u ∙ ap (λ (n : ℕ). replicate n Clean) k.long)
     (ap (λ (v : Lines). length v.batch.items) u ∙ k.batch)
+
+pub untouch-requires : goal.untouch-requires
+untouch-requires g c =
+    let x = g.D.Disk.bytes c.args.disk.now in
+    all_marked c.args.frame (begun_of x) c.args.lines.now x c.requires.stands c.requires.kept

@@ -73,3 +73,15 @@ returns-clause-stays g c =
     let e = c.put_all.ensures in
     quiet_stays d.bytes d.tells_crashes d.moment d.may_hold_after d.faults c.args.self.now c.put_all.new.self c.put_all.result
     (ap (λ (v : Opened g.row.D.Denot). v.failed) (sym c.self.view_is) ∙ c.if-self.false) e.answered e.cause e.quiet
+
+pub write_one-requires-clause-below : goal.write_one-requires-clause-below
+write_one-requires-clause-below g c =
+    let o = c.self.inside in
+    let inv = c.self.invariant in
+    omega (
+      arith,
+      c.requires.inside,
+      now_long o.frame o.lines (g.D.Disk.bytes o.disk) inv.lines_kept inv.fits,
+      ap (λ (v : Opened g.row.D.Denot). length v.bytes) c.self.view_is,
+      ap (λ (v : Opened g.row.D.Denot). v.frame.heap_lines) c.self.view_is,
+    )
