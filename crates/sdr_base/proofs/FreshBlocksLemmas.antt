@@ -7,6 +7,7 @@ use Rattle.std.specs.List.{AllByRecursion}
 use Rattle.std.proofs.lemmas.Bool.{cases_lt, le-leb, le-ltb, lt-leb, lt-ltb}
 use Rattle.std.proofs.lemmas.List.{get_or-append_right, get_or_past}
 use Rattle.std.proofs.lemmas.Nat.Bits.{bit_at-zero}
+use Rattle.sdr_base.specs.declared.control.TheConstants.{HEAP_VERSION}
 use Rattle.sdr_base.specs.FreshHeap.{first_block, fresh_account, fresh_heap, fresh_words}
 use Rattle.sdr_base.specs.KeptHeap.{KeepsHeap, block_in, block_led, block_of, leader_place, root_in}
 use Rattle.sdr_base.specs.Kinds.{kind_of}
@@ -51,7 +52,7 @@ fresh_block lines addr least = none_led lines addr (leader_place (fresh_heap lin
 
 -- the control words from 89 on
 abbrev pub fresh_roots : ℕ → List ℕ
-fresh_roots lines = 0 ∷ 0 ∷ 0 ∷ (fresh_account lines ++ fresh_account lines ++ 1 ∷ replicate 19 0)
+fresh_roots lines = 0 ∷ 0 ∷ HEAP_VERSION ∷ (fresh_account lines ++ fresh_account lines ++ 1 ∷ replicate 19 0)
 
 -- those before them
 abbrev front_words : ℕ → List ℕ

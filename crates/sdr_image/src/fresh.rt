@@ -5,8 +5,8 @@ ghost use Rattle.sdr_base.specs.FreshHeap.{first_block, fresh_account, fresh_wor
 
 use byteorder::{BigEndian, ByteOrder};
 use sdr_base::control::{
-    BULK_MAXIMUM, FILE_MAXIMUM, HEAP_MAXIMUM, HIGH, INBOUND, LOW, NEXT_TICKET, OUTBOUND, SIZE,
-    START,
+    BULK_MAXIMUM, FILE_MAXIMUM, HEAP_MAXIMUM, HEAP_VERSION, HIGH, INBOUND, LOW, NEXT_TICKET,
+    OUTBOUND, SIZE, START, VERSION,
 };
 use sdr_base::{LINE, MOST_LINES, START_BITS};
 
@@ -40,6 +40,7 @@ fn fresh_words(lines: u64) -> [u64; 128]
     words[START as usize] = first_block(lines);
     words[LOW as usize] = first_block(lines);
     words[HIGH as usize] = LINE * lines;
+    words[VERSION as usize] = HEAP_VERSION;
     let account = fresh_account(lines);
     words[INBOUND as usize..OUTBOUND as usize].copy_from_slice(&account);
     words[OUTBOUND as usize..NEXT_TICKET as usize].copy_from_slice(&account);

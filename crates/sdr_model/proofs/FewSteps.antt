@@ -12,7 +12,7 @@ use Rattle.sdr_model.specs.AccountSteps.{pending_of}
 use Rattle.sdr_model.specs.Accounts.{Pending, account_of, most_amount, pending_in, tickets_of}
 use Rattle.sdr_model.specs.Amounts.{amounts_by, first_above, in_space, minus}
 use Rattle.sdr_model.specs.BondSteps.{bond_charge, bond_moves, bonded, capsules_of, with_bonded}
-use Rattle.sdr_model.specs.Charges.{bytes_charge, capsule_bytes, object_bytes, object_charge, rooms}
+use Rattle.sdr_model.specs.Charges.{bytes_charge, capsule_bytes, object_bytes, object_charge, rooms, use_charge}
 use Rattle.sdr_model.specs.Charging.{Charges, grant_left, no_space, with_covered}
 use Rattle.sdr_model.specs.Cuts.{placed}
 use Rattle.sdr_model.specs.Few.{HasFewPieces, pieces}
@@ -33,7 +33,7 @@ use Rattle.sdr_model.specs.Steps.{DoesWith, Outcome, Refuses, Takes, On, taken_a
 use Rattle.sdr_model.specs.TableSteps.{as_table}
 use Rattle.sdr_model.specs.Things.{capsule_need, extent_need, object_need}
 use Rattle.sdr_model.specs.World.{World, as_raw, as_text, block_at, is_marked, misnamed, spot_of, thing_at}
-use Rattle.sdr_model.specs.Zco.{empty_object, extents_length, object_at, owned_raw, source_at, source_naming, space_of, uses_of}
+use Rattle.sdr_model.specs.Zco.{empty_object, extents_length, object_at, owned_raw, source_at, source_naming, uses_of}
 use Rattle.sdr_model.specs.declared.answer.Reply.{Reply}
 use Rattle.sdr_model.specs.declared.answer.Reply.TheVariants as replies
 use Rattle.sdr_model.specs.declared.call.Call.{Call}
@@ -235,7 +235,7 @@ module _ (most : ℕ) (w : World) (o : Outcome) (few : HasFewPieces most w.thing
   few_row (calls.AppendExtent addr ticket named offset bytes) s = on_object addr s (λ z small s.
       in_option (source_at w named) s
       (λ s. on named (as_raw (thing_at w named)) s (λ text s. unnamed named s (λ s. in_range offset bytes (length text) s
-      (λ s. charges z.account ticket (bytes_charge spaces.Heap bytes)
+      (λ s. charges z.account ticket (bytes_charge spaces.Heap (length text))
       (λ used. DoesWith w o raw_append_moves
       (λ at. with_object (with_thing used (at 0) (things.Source (new_source (subjects.Heap named) (length text)))) addr
       (with_extent z (record { block = at 1; source = at 0; offset = offset; length = bytes })))
@@ -243,7 +243,7 @@ module _ (most : ℕ) (w : World) (o : Outcome) (few : HasFewPieces most w.thing
       (put_object (with_thing used (taken_at o.moves 0) (things.Source (new_source (subjects.Heap named) (length text)))) addr _
       (few_insert most used.things (taken_at o.moves 0) _ few tt) (extended z _ small)))))))
       (λ source s. in_bool source.flagged s (λ s. leaves s.1 same) (λ s. in_range offset bytes source.length s
-      (λ s. charges z.account ticket (bytes_charge (space_of source.subject) bytes)
+      (λ s. charges z.account ticket (use_charge w z.account named source)
       (λ used. Takes w o extent_need
       (λ block. with_object used addr (with_extent z (record { block = block; source = named; offset = offset; length = bytes })))
       (λ block. replies.Done)) s (λ used few s.
@@ -261,7 +261,7 @@ module _ (most : ℕ) (w : World) (o : Outcome) (few : HasFewPieces most w.thing
       (put_object (with_bonded used (taken_at o.moves) 0 (capsules_of z)) addr _ (few_bonded most used (taken_at o.moves) 0 (capsules_of z) few)
       (omega (arith, small, pieces-bonded (taken_at o.moves) z)))))
   few_row (calls.ClonePart addr ticket offset bytes) s = on_object addr s (λ z small s. in_range offset bytes z.part.length s
-      (λ s. charges z.account ticket (λ space. object_charge w space (object_of z.account (asked_extents z offset bytes)))
+      (λ s. charges z.account ticket (λ space. object_charge space (object_of z.account (asked_extents z offset bytes)))
       (λ used. DoesWith w o (λ at. clone_moves at (asked_extents z offset bytes))
       (λ at. with_object used (at 0) (object_of z.account (placed at 1 (asked_extents z offset bytes)))) (λ at. replies.At (at 0))) s (λ used few s. leaves s.1
       (put_object used (taken_at o.moves 0) _ few (cloned z (z.part.offset + offset) (z.part.offset + offset + bytes) (taken_at o.moves) small)))))

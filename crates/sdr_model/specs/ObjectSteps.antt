@@ -6,7 +6,7 @@ use Rattle.sdr_base.specs.declared.moves.Move.{Move}
 use Rattle.sdr_base.specs.declared.moves.Move.TheVariants.{Took}
 use Rattle.sdr_base.specs.declared.refusal.Refusal.TheVariants as refusals
 use Rattle.sdr_model.specs.Amounts.{in_space}
-use Rattle.sdr_model.specs.Charges.{bytes_charge, capsule_bytes, object_bytes}
+use Rattle.sdr_model.specs.Charges.{bytes_charge, capsule_bytes, object_bytes, use_charge}
 use Rattle.sdr_model.specs.Charging.{Charges}
 use Rattle.sdr_model.specs.Gone.{gone_blocks, gone_things, without_things}
 use Rattle.sdr_model.specs.Limits.{is_no_capsule, longest_capsule}
@@ -15,7 +15,7 @@ use Rattle.sdr_model.specs.SourceSteps.{OnUnnamed, new_source}
 use Rattle.sdr_model.specs.Steps.{Outcome, RefusedIf, RefusedWithout, ReadsBytes, Does, DoesWith, Takes, On, gave, with_thing, without_thing}
 use Rattle.sdr_model.specs.Things.{capsule_need, extent_need, object_need, source_need}
 use Rattle.sdr_model.specs.World.{World, thing_at, as_raw}
-use Rattle.sdr_model.specs.Zco.{capsules_length, empty_object, extents_length, object_at, source_at, space_of}
+use Rattle.sdr_model.specs.Zco.{capsules_length, empty_object, extents_length, object_at, source_at}
 use Rattle.sdr_model.specs.declared.answer.Reply.TheVariants as replies
 use Rattle.sdr_model.specs.declared.things.Thing.TheVariants as things
 use Rattle.sdr_model.specs.declared.zco.Capsule.{Capsule}
@@ -55,7 +55,7 @@ abbrev pub AppendsSource : World → Outcome → ℕ → ZcoObject → ℕ → �
 AppendsSource w o addr z number source s offset bytes =
     RefusedIf w o s.flagged refusals.NotFound
     (InRange w o offset bytes s.length
-    (Charges w o z.account number (bytes_charge (space_of s.subject) bytes) (λ used.
+    (Charges w o z.account number (use_charge w z.account source s) (λ used.
     Takes w o extent_need
     (λ block. with_object used addr
     (with_extent z (record { block = block; source = source; offset = offset; length = bytes })))
@@ -70,7 +70,7 @@ abbrev pub AppendsRaw : World → Outcome → ℕ → ZcoObject → ℕ → ℕ 
 AppendsRaw w o addr z number raw text offset bytes =
     OnUnnamed w o raw
     (InRange w o offset bytes (length text)
-    (Charges w o z.account number (bytes_charge spaces.Heap bytes) (λ used.
+    (Charges w o z.account number (bytes_charge spaces.Heap (length text)) (λ used.
     DoesWith w o raw_append_moves
     (λ at. with_object (with_thing used (at 0) (things.Source (new_source (subjects.Heap raw) (length text)))) addr
     (with_extent z (record { block = at 1; source = at 0; offset = offset; length = bytes })))

@@ -36,7 +36,7 @@ ClonePart w o addr number offset bytes =
     On w o addr (object_at w addr) (λ z.
     InRange w o offset bytes z.part.length
     (let extents = asked_extents z offset bytes in
-    Charges w o z.account number (λ space. object_charge w space (object_of z.account extents)) (λ used.
+    Charges w o z.account number (λ space. object_charge space (object_of z.account extents)) (λ used.
     DoesWith w o (λ at. clone_moves at extents)
     (λ at. with_object used (at 0) (object_of z.account (placed at 1 extents)))
     (λ at. replies.At (at 0)))))
