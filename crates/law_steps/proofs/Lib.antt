@@ -64,6 +64,7 @@ pub mod RowShapes
 pub mod Shapes
 pub mod SourceCharges
 pub mod SourceLaws
+pub mod SourceMoves
 pub mod SourceRows
 pub mod SourceShapes
 pub mod SourceViews
