@@ -46,8 +46,9 @@ bonded_charge space at k (c ∷ cs) =
 
 -- so does an object that is bonded
 pub bonded_object : (at : ℕ → ℕ) (z : ZcoObject) (space : Space)
-    → object_charge space (bonded at z) + sum_by (λ e. in_space spaces.Heap e.length space) (bonded_extents at 0 (capsules_of z))
-    + 0 ≡ object_charge space z + 0 + bond_charge (capsules_of z) space
+    → object_charge space (bonded at z)
+    + sum_by (λ e. in_space spaces.Heap e.length space) (bonded_extents at 0 (capsules_of z))
+    ≡ object_charge space z + bond_charge (capsules_of z) space
 bonded_object at z space =
     let heads = bonded_extents at 0 z.headers in
     let tails = bonded_extents at (3 * length z.headers) z.trailers in

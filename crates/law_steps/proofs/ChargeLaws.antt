@@ -103,7 +103,7 @@ module _ {w : World} {o : Outcome} (valid : IsValid w) (fits : Fits w.things NoS
       nothing (done.keeps n.addr (things.Object n.old) was) refl refl
       (sources_firsts mid n.old.account (Some n.old) (Some (bonded at n.old)) (bonded_extents at 0 (capsules_of n.old))
       (bonded_names at n.old) (done.firsts n.old.account))
-      (bonded_object at n.old)))
+      (λ space. omega (arith, bonded_object at n.old space))))
 
   drops_moves : {call : Call} (n : Drops w call o) → MovesCharge w.things o.after.things n.old.account nothing
       (drop_release w n.old n.new n.out)
