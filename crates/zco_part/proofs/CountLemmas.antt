@@ -1,5 +1,5 @@
 -- How many pieces a chain of extents has.
-use Rattle.std.proofs.Common.{◌≡◌, ◌≢◌, ◌+◌, ◌-◌, ◌≤◌, ℕ, List, [], length, refl, sym, ap, ◌∙◌, arith, subst, length-append}
+use Rattle.std.proofs.Common.{◌≡◌, ◌≢◌, ◌+◌, ◌-◌, ℕ, List, [], length, refl, sym, ap, ◌∙◌, arith, subst, length-append}
 use Rattle.sdr_base.specs.Blocks.{Blocks}
 use Rattle.sdr_base.specs.Linked.{first_of}
 use Rattle.sdr_base.specs.ZcoObjects.{ExtentRow, extent_addr, extent_block}
