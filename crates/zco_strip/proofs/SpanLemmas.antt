@@ -1,6 +1,6 @@
 -- The extents of an object are cut to its part.
 use Rattle.std.proofs.Common.{◌≡◌, ◌∙◌, ◌+◌, ◌≤◌, ◌<◌, ◌^◌, ℕ, List, [], ◌∷◌, ◌++◌, refl, sym, ap, subst, arith, append_assoc}
-use Rattle.sdr_base.proofs.StandingLemmas.{found, moved}
+use Rattle.sdr_base.proofs.StandingLemmas.{found}
 use Rattle.sdr_base.proofs.WritingLemmas.{reaches}
 use Rattle.sdr_base.specs.Blocks.{Block, Blocks, Reaches}
 use Rattle.sdr_base.specs.Entries.{Changes, Entries, BlocksAre}
