@@ -1,12 +1,8 @@
 -- The sources that some extents name, which extents more are to name.
-use Rattle.std.specs.Prelude.{◌≡◌, ◌+◌, ◌<◌, ◌==◌, ◌^◌, ℕ, List, ◌++◌, length, map, sum_by, All, if◌then◌else◌}
-use Rattle.sdr_base.specs.Blocks.{Blocks}
-use Rattle.sdr_base.specs.Entries.{Entries, BlocksAre}
-use Rattle.sdr_base.specs.Linked.{first_of}
-use Rattle.sdr_base.specs.ZcoObjects.{ExtentRow, extent_addr, extent_entries}
+use Rattle.std.specs.Prelude.{◌+◌, ◌<◌, ◌==◌, ◌^◌, ℕ, List, map, sum_by, All, if◌then◌else◌}
+use Rattle.sdr_base.specs.ZcoObjects.{ExtentRow}
 use Rattle.sdr_base.specs.declared.account.Acct.{Acct}
-use Rattle.zco_obj.specs.Gone.{NamedSource, source_at, sources_entries}
-use Rattle.zco_obj.specs.Kept.{ExtentFits}
+use Rattle.zco_obj.specs.Gone.{NamedSource, source_at}
 use Rattle.zco_obj.specs.Uses.{IsThere}
 use Rattle.zco_obj.specs.declared.extent.ExtentPiece.{ExtentPiece}
 use Rattle.zco_ref.specs.Counting.{with_count}
@@ -38,18 +34,3 @@ pub record MayCount (s : NamedSource) : Type 0 where
 pub record AreCountable (extents : List ExtentRow) (sources : List NamedSource) : Type 0 where
   pub there : All (λ e. IsThere (source_at e.source sources)) extents
   pub counted : All MayCount sources
-
--- extents are a chain there, and their sources stand beside
-pub record ExtentsBeside (blocks : Blocks) (first : ℕ) (extents : List ExtentRow) (sources : List NamedSource) : Type 0 where
-  pub rest : Entries
-  pub stands : BlocksAre blocks (sources_entries sources ++ (extent_entries extents ++ rest))
-  pub at_first : first ≡ first_of extent_addr 0 extents
-  pub fits : All ExtentFits extents
-  pub few : length extents < 2 ^ 22
-  pub may : AreCountable extents sources
-
--- some are
-pub record SomeExtentsBeside (blocks : Blocks) (first : ℕ) : Type 0 where
-  pub extents : List ExtentRow
-  pub sources : List NamedSource
-  pub is : ExtentsBeside blocks first extents sources
