@@ -1,9 +1,10 @@
-use Rattle.std.proofs.Common.{◌+◌, ◌*◌, ◌∙◌, ◌/◌, ℕ, List, length, sum_by, arith, ap}
+use Rattle.std.proofs.Common.{◌≡◌, ◌+◌, ◌*◌, ◌∙◌, ◌/◌, ℕ, List, length, sum_by, arith, ap}
 use Rattle.sdr_base.specs.declared.kind.Space.{Space}
 use Rattle.sdr_base.specs.declared.kind.Space.TheVariants as spaces
 use Rattle.audit_counts.proofs.ChargesLemmas.{charges_same, few_members}
 use Rattle.audit_counts.specs.Occupied.{capsule_charge_at, object_charge_at}
 use Rattle.sdr_model.specs.Amounts.{in_space}
+use Rattle.audit_owners.specs.Members.{members}
 use Rattle.audit_owners.specs.View.{view_in}
 use Rattle.audit_owners.specs.declared.owner.Owner.TheVariants as owners
 use Rattle.audit_counts.proofs.occupied.with_object.Goals as goal
@@ -22,7 +23,8 @@ returns c of is =
     let extents : Space → ℕ = λ space. own space + in_space spaces.Heap (32 * c.len.result) space in
     let headers : Space → ℕ = λ space. extents space + sum_by (capsule_charge_at heap space) c.deref.result.now in
     let trailers : Space → ℕ = λ space. headers space + sum_by (capsule_charge_at heap space) c.deref-2.result.now in
-    let e = c.len.ensures ∙ ap (λ (ms : List ℕ). length ms) c.in_ok-extents.ensures in
+    let e : c.len.result ≡ length (members heap words (owners.Extents c.args.addr)) =
+    omega (arith, c.len.ensures, c.in_ok-extents.extents.ok.0, ap (λ (ms : List ℕ). length ms) c.in_ok-extents.ensures) in
     let h = c.deref.ensures.value ∙ c.in_ok-headers.ensures in
     let t = c.deref-2.ensures.value ∙ c.in_ok-trailers.ensures in
     c.with_capsules.ensures headers (c.with_capsules-charges.ensures extents (c.with-charges-2.ensures own (c.with-charges.ensures of is)))
