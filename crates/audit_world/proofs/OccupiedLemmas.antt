@@ -28,7 +28,7 @@ use Rattle.sdr_model.specs.Charges.{capsule_bytes, capsule_charge, extent_bytes,
 use Rattle.sdr_model.specs.Zco as model
 use Rattle.sdr_model.specs.declared.accounts.Ticket.{Ticket}
 use Rattle.sdr_model.specs.declared.things.Thing.{Thing}
-use Rattle.audit_owners.specs.Chains.{ChainGoes, first_link, is_member, next_of}
+use Rattle.audit_owners.specs.Chains.{ChainGoes, is_member, next_of}
 use Rattle.audit_owners.specs.Reading.{behind_words}
 use Rattle.audit_owners.specs.Rules.{IsKept}
 use Rattle.audit_owners.specs.View.{View, is_kind, length_of, word_of}
