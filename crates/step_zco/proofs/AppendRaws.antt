@@ -236,8 +236,8 @@ module _ (w : World) (addr raw : ℕ) (p : IsWithRawAt w addr raw) where
           ++ (counted_entries source (counted i) ++ (raw_entries raw (names i) p.text ++ others_alike i)))
           three_first
 
-      -- the account of the object is charged for the extent
-      pub raw_charge : MovesCharge w.things raw_things p.object.account (bytes_charge spaces.Heap bytes) nothing
+      -- the account of the object is charged for the extent and the whole raw object
+      pub raw_charge : MovesCharge w.things raw_things p.object.account (bytes_charge spaces.Heap (length p.text)) nothing
       raw_charge =
           after_same (λ acct space. charge_source w.things source acct space NoSpare (fits_from w fits) taking free)
           (object_moves mid.things addr p.object.account (Some p.object) (Some raw_object) (bytes_charge spaces.Heap bytes) nothing

@@ -109,8 +109,8 @@ module _ (w : World) (addr named : ℕ) (p : IsPair w addr named) where
         (two_first g pair_things addr named now (things.Source p.source) pair_apart (here_at w.things addr (Some now))
         (apart_at w.things addr (Some now) named pair_apart ∙ p.named_there))
 
-    -- the account of the object is charged for the extent
-    pub pair_charge : MovesCharge w.things pair_things p.object.account (bytes_charge (space_of p.source.subject) bytes) nothing
+    -- the account of the object is charged for the extent, and for the source where it named that by none
+    pub pair_charge : MovesCharge w.things pair_things p.object.account (use_charge w p.object.account named p.source) nothing
     pair_charge =
         object_moves w.things addr p.object.account (Some p.object) (Some pair_object)
         (bytes_charge (space_of p.source.subject) bytes) nothing p.there refl refl

@@ -136,7 +136,7 @@ module _ (old : Heap) (w : World) (unmoved : old.moves ≡ []) (s : HeapStandsFo
         let frees : Space → ℕ = in_space spaces.Heap (capsule_bytes (length c.text)) in
         let charges : MovesCharge w.things m acct nothing frees =
         object_moves w.things addr acct (Some z) (Some new) nothing frees d.gone.there refl (drops.account z)
-        (λ space. let less = drops.less (of w.things) z c d.gone.is space in omega (arith, less)) in
+        (λ space. let less = drops.less z c d.gone.is space in omega (arith, less)) in
         let alike : TieAlike (Some (things.Object z)) (Some (things.Object new)) = record {
           raws = λ raw. refl;
           sources = λ source b. λ i. if is_same_account b (sym (drops.account z) i)

@@ -80,8 +80,9 @@ module _ (w : World) (addr : ℕ) (z : ZcoObject) (there : thing_at w addr ≡ S
     pub lost_fits : FitTogether (lost_world w addr z.extents None)
     lost_fits = fits_to (lost_world w addr z.extents None) (subst (λ (m : Things). Fits m NoSpare) things_are all_went.fits)
 
-    -- and its account is charged less by what it charged
-    pub lost_charge : MovesCharge w.things (left_things w addr z.extents None) z.account nothing (λ space. object_charge (of w.things) space z)
+    -- and its account is charged less by what it charged, and by the sources that no other object of it names
+    pub lost_charge : MovesCharge w.things (left_things w addr z.extents None) z.account nothing
+        (λ space. object_charge space z + sources_less w z.account z.extents space)
     unfolding drops
     lost_charge =
         let one : MovesCharge w.things (lose w.things addr) z.account nothing (λ space. object_charge (of w.things) space z) =

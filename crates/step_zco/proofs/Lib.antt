@@ -24,6 +24,7 @@ pub mod GoneUses
 pub mod GoneMoves
 pub mod GoneKeys
 pub mod GoneTies
+pub mod GoneCharges
 pub mod GoneChanges
 pub mod GoneWorlds
 pub mod GoneLosses

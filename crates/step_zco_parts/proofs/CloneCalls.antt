@@ -83,7 +83,7 @@ module _ (old new : Heap) (w : World) (unmoved : old.moves ≡ []) (s : HeapStan
   call = calls.ClonePart addr number offset bytes
 
   abbrev charge_for : ZcoObject → Space → ℕ
-  charge_for x space = object_charge w space (object_of x.account (asked_extents x offset bytes))
+  charge_for x space = object_charge space (object_of x.account (asked_extents x offset bytes))
 
   -- how its row goes on, where the object is there, where the range is one, and where the account is charged
   abbrev making : Outcome → ZcoObject → World → Type 0
@@ -127,10 +127,8 @@ module _ (old new : Heap) (w : World) (unmoved : old.moves ≡ []) (s : HeapStan
     kept = kept_to_clone old w s served small addr z at.there
 
     -- the charge is that of the world
-    same_charge : clone_amounts sources (asked offset bytes (object_row z)) ≡ amounts_by (charge_for z)
-    same_charge =
-        ap (clone_amounts sources) (asked_same z offset bytes)
-        ∙ clone_charge z.extents w mine.sources mine.are.found z.account (z.part.offset + offset) (z.part.offset + offset + bytes)
+    same_charge : clone_amounts (asked offset bytes (object_row z)) ≡ amounts_by (charge_for z)
+    same_charge = ap clone_amounts (asked_same z offset bytes) ∙ clone_charge z.account es
 
     many : length (asked offset bytes (object_row z)) ≡ length es
     many = ap (length {A = ExtentPiece}) (asked_same z offset bytes) ∙ length-map es named
@@ -324,7 +322,7 @@ module _ (old new : Heap) (w : World) (unmoved : old.moves ≡ []) (s : HeapStan
 
     -- or where the account refuses
     unpaid_row : (refusal : Refusal) → HasRange offset bytes (object_row z) →
-        refusal_in old z.account number (clone_amounts sources (asked offset bytes (object_row z))) tickets ≡ Some refusal → new ≡ old →
+        refusal_in old z.account number (clone_amounts (asked offset bytes (object_row z))) tickets ≡ Some refusal → new ≡ old →
         ByRow w (record { moves = new.moves; after = w; reply = replies.Refused refusal }) call
     unpaid_row refusal range some same =
         let o : Outcome = record { moves = []; after = w; reply = replies.Refused refusal } in

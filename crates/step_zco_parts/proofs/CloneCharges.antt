@@ -67,71 +67,22 @@ uncut q from to (e ∷ es) none =
               (cut_all (from - e.length) (to - e.length) es),
         )
 
--- extents that are cut name sources that all do
-module _ (all : List Extent) where
-  abbrev pub IsNamed : Extent → Type 0
-  IsNamed e = names_source e.source all ≡ true
-
-  each_named : (es : List Extent) → ((q : ℕ) → names_source q es ≡ true → names_source q all ≡ true) → AllByRecursion IsNamed es
-  each_named [] part = tt
-  each_named (e ∷ es) part = (part e.source (itself e es), each_named es (λ q some. part q (named_later q e es some)))
-
-  cut_named : (from to : ℕ) (es : List Extent) → AllByRecursion IsNamed es → AllByRecursion IsNamed (cut_all from to es)
-  cut_named from to [] some = tt
-  cut_named from to (e ∷ es) some =
-      by ((model.cut from to e).length == 0) (cut_named (from - e.length) (to - e.length) es some.1)
-    where
-      by : (b : Bool) → AllByRecursion IsNamed (cut_all (from - e.length) (to - e.length) es) →
-          AllByRecursion IsNamed (if b then cut_all (from - e.length) (to - e.length) es
-          else model.cut from to e ∷ cut_all (from - e.length) (to - e.length) es)
-      by true rest = rest
-      by false rest = (some.0, rest)
-
-  pub all_named : (from to : ℕ) → AllByRecursion IsNamed (cut_all from to all)
-  all_named from to = cut_named from to all (each_named all (λ q some. some))
-
-  -- pieces charge what their extents do, where the sources are found
-  module _ (w : World) (us : List (UsedSource w all)) (found : (q : ℕ) → names_source q all ≡ true → IsFound w all us q) where
-    abbrev sources : List NamedSource
-    sources = map (named_of w all) us
-
-    one_charge : (space : Space) (e : Extent) → IsFound w all us e.source →
-        piece_charge sources space (named e) ≡ extent_charge w space e
-    one_charge space e f =
-        ap (λ (o : Option NamedSource). bytes_charge (rows.space_in o) e.length space) f.is
-        ∙ ap (λ (of : Space). bytes_charge of e.length space) (same_space f.used.source.subject)
-        ∙ ap (λ (o : Option ZcoSource). bytes_charge (space_in o) e.length space)
-        (sym (ap (source_at w) (sym f.here) ∙ ap as_source f.used.there))
-
-    pieces_charge : (space : Space) (es : List Extent) → AllByRecursion IsNamed es →
-        sum_by (piece_charge sources space) (map named es) ≡ sum_by (extent_charge w space) es
-    pieces_charge space [] some = refl
-    pieces_charge space (e ∷ es) some =
+-- a clone charges by its pieces what it does by the world, without the sources that its extents name
+pub clone_charge : (acct : Acct) (es : List Extent) →
+    clone_amounts (map named es) ≡ amounts_by (λ space. object_charge space (object_of acct es))
+clone_charge acct es = λ i. amounts_by (λ space. each space i)
+  where
+    each : (space : Space) →
+        in_space spaces.Heap (object_bytes + extent_bytes * length (map named es)) space ≡ object_charge space (object_of acct es)
+    each space =
         omega (
           arith,
-          pieces_charge space es some.1,
-          one_charge space e (found e.source some.0),
-          sum_by-cons (piece_charge sources space) (named e) (map named es),
-          sum_by-cons (extent_charge w space) e es,
+          ap (λ (n : ℕ). in_space spaces.Heap (object_bytes + extent_bytes * n) space) (length-map es named),
+          in_heap-add object_bytes (extent_bytes * length es) space,
         )
 
-    -- so does a clone of them
-    pub clone_charge : (acct : Acct) (from to : ℕ) →
-        clone_amounts sources (map named (cut_all from to all))
-        ≡ amounts_by (λ space. object_charge w space (object_of acct (cut_all from to all)))
-    clone_charge acct from to = λ i. amounts_by (λ space. each space i)
-      where
-        each : (space : Space) →
-            in_space spaces.Heap object_bytes space + sum_by (piece_charge sources space) (map named (cut_all from to all))
-            ≡ object_charge w space (object_of acct (cut_all from to all))
-        each space =
-            let same = pieces_charge space (cut_all from to all) (all_named from to) in omega (arith, same)
-
--- the account is charged for the clone, wherever its blocks are
+-- the account is charged for the clone, wherever its blocks are: it names the sources already
 pub clone_moves_charge : (w : World) (clone : ℕ) (acct : Acct) (at : ℕ → ℕ) (es : List Extent) → thing_at w clone ≡ None →
     MovesCharge w.things (finite.insert w.things clone (things.Object (object_of acct (model.placed at 1 es)))) acct
-    (λ space. object_charge w space (object_of acct es)) nothing
-clone_moves_charge w clone acct at es none =
-    object_moves w.things clone acct None (Some (object_of acct (model.placed at 1 es)))
-    (λ space. object_charge w space (object_of acct es)) nothing none tt refl
-    (λ space. let same = placed_charge (of w.things) space at 1 es in omega (arith, same))
+    (λ space. object_charge space (object_of acct es)) nothing
+clone_moves_charge w clone acct at es none = ?

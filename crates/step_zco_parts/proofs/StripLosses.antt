@@ -114,9 +114,9 @@ module _ (w : World) (addr : ℕ) (z : ZcoObject) (there : thing_at w addr ≡ S
     pub cut_fits : FitTogether (cut_world w addr z)
     cut_fits = fits_to (cut_world w addr z) (subst (λ (m : Things). Fits m NoSpare) things_are all_went.fits)
 
-    -- and its account is charged less by what it charges less
+    -- and its account is charged less by what it charges less, and by the sources that no other extent of it names
     pub cut_charges : MovesCharge w.things (cut_things w addr z) z.account nothing
-        (λ space. object_charge (of w.things) space z - object_charge (of w.things) space (stripped z))
+        (λ space. charge_less z (Some (stripped z)) space + sources_less w z.account out space)
     unfolding drops
     cut_charges =
         let frees : Space → ℕ = λ space. object_charge (of w.things) space z - object_charge (of w.things) space (stripped z) in
