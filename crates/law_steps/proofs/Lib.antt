@@ -25,6 +25,7 @@ pub mod DistinctLemmas
 pub mod DryLaws
 pub mod EditLemmas
 pub mod Effects
+pub mod EntrySums
 pub mod ExampleFits
 pub mod Examples
 pub mod ExtentLemmas
@@ -61,7 +62,9 @@ pub mod QueueOrder
 pub mod RawShapes
 pub mod RowShapes
 pub mod Shapes
+pub mod SourceCharges
 pub mod SourceLaws
+pub mod SourceMoves
 pub mod SourceRows
 pub mod SourceShapes
 pub mod SourceViews
