@@ -15,6 +15,7 @@ use Rattle.sdr_base.specs.Roots.{root_words, roots_by, account_words}
 use Rattle.sdr_base.proofs.FreshBlocksLemmas.{fresh_block, fresh_keeps_heap, fresh_root, fresh_roots}
 use Rattle.sdr_base.specs.declared.account.Acct.{Acct}
 use Rattle.sdr_base.specs.declared.account.Acct.TheVariants as accts
+use Rattle.sdr_base.specs.declared.control.TheConstants.{HEAP_VERSION}
 use Rattle.sdr_base.specs.declared.kind.Space.{Space}
 use Rattle.sdr_model.specs.Accounts.{fresh_maxima}
 use Rattle.sdr_model.specs.Amounts.{amounts_by}
@@ -44,9 +45,9 @@ no_entries heap =
 -- nothing is occupied
 nothing_occupied : (heap : ℕ) (acct : Acct) (space : Space) → occupancy (fresh_world heap) acct space ≡ 0
 nothing_occupied heap accts.Inbound space =
-    ap (λ (es : List (ℕ × Thing)). sum_by (λ e. thing_charge (fresh_world heap) accts.Inbound space e.1) es + 0) no_things
+    ap (λ (es : List (ℕ × Thing)). sum_by (λ e. thing_charge (fresh_world heap) accts.Inbound space e.0 e.1) es + 0) no_things
 nothing_occupied heap accts.Outbound space =
-    ap (λ (es : List (ℕ × Thing)). sum_by (λ e. thing_charge (fresh_world heap) accts.Outbound space e.1) es + 0) no_things
+    ap (λ (es : List (ℕ × Thing)). sum_by (λ e. thing_charge (fresh_world heap) accts.Outbound space e.0 e.1) es + 0) no_things
 
 -- an account's words, by what is occupied
 abbrev account_with : ℕ → (Space → ℕ) → List ℕ
@@ -57,7 +58,7 @@ same_words : (lines : ℕ) → roots_by (fresh_roots lines) ≡ roots_of (fresh_
 same_words lines =
     ap
     (λ (occupied : Acct → Space → ℕ). roots_by
-    (root_words 0 0 0 (account_with (32 * lines) (occupied accts.Inbound))
+    (root_words HEAP_VERSION 0 0 (account_with (32 * lines) (occupied accts.Inbound))
     (account_with (32 * lines) (occupied accts.Outbound)) 1))
     (λ i acct space. sym (nothing_occupied (32 * lines) acct space) i)
 

@@ -18,6 +18,7 @@ use Rattle.sdr_base.specs.Tickets.{ticket_addr, ticket_entries}
 use Rattle.sdr_base.specs.ZcoObjects.{object_entries}
 use Rattle.sdr_base.specs.declared.account.Acct.{Acct}
 use Rattle.sdr_base.specs.declared.account.Acct.TheVariants as accts
+use Rattle.sdr_base.specs.declared.control.TheConstants.{HEAP_VERSION}
 use Rattle.sdr_base.specs.declared.moves.Move.{Move}
 use Rattle.sdr_model.specs.Accounts.{account_of, tickets_of}
 use Rattle.sdr_model.specs.Charges.{occupancies}
@@ -65,12 +66,12 @@ account_roots w acct =
     account_words (occupancies w acct) (account_of w.accounts acct).maxima
     (first_of ticket_addr 0 tickets) (last_of ticket_addr 0 tickets)
 
--- the control words of a world: those of the catalogue, version 0, those of both accounts, and the number of the next ticket
+-- the control words of a world: those of the catalogue, the version, those of both accounts, and the number of the next ticket
 abbrev pub roots_of : World → ℕ → ℕ
 roots_of w =
     let names = map name_row w.names in
     roots_by
-    (root_words 0 (first_of name_addr 0 names) (last_of name_addr 0 names)
+    (root_words HEAP_VERSION (first_of name_addr 0 names) (last_of name_addr 0 names)
     (account_roots w accts.Inbound) (account_roots w accts.Outbound) w.accounts.next)
 
 -- The bytes of a heap region stand for the world, with these pools: they keep a heap, the blocks in use and the control

@@ -1,6 +1,7 @@
 -- An object and a source of a world beside each other, before and after the object gets an extent of the source.
-use Rattle.std.proofs.Common.{◌≡◌, ◌≢◌, ◌∙◌, ◌<◌, ◌^◌, ◌++◌, ℕ, Some, None, refl, sym, ap, subst}
+use Rattle.std.proofs.Common.{◌≡◌, ◌≢◌, ◌∙◌, ◌+◌, ◌*◌, ◌<◌, ◌^◌, ◌==◌, ◌++◌, ℕ, [], ◌∷◌, Bool, true, false, Option, Some, None, length, refl, sym, ap, subst, arith, length-append}
 use Rattle.std.specs.FinMap as finite
+use Rattle.std.specs.Prelude.{if◌then◌else◌}
 use Rattle.step_things.proofs.ListLemmas.{IsSmall}
 use Rattle.step_things.specs.Answering.{IsReady}
 use Rattle.sdr_stands.specs.Rows.{object_row}
@@ -14,16 +15,19 @@ use Rattle.sdr_base.specs.ZcoObjects.{object_entries}
 use Rattle.sdr_base.specs.declared.account.Acct.{Acct}
 use Rattle.sdr_base.specs.declared.account.Acct.TheVariants as accts
 use Rattle.sdr_base.specs.declared.kind.Kind.TheVariants as kinds
+use Rattle.sdr_base.specs.declared.kind.Space.{Space}
+use Rattle.sdr_base.specs.declared.kind.Space.TheVariants as spaces
 use Rattle.law_steps.proofs.ChargeMoves.{MovesCharge, object_moves}
-use Rattle.law_steps.proofs.ObjectRows.{extent_charge_more}
+use Rattle.law_steps.proofs.SourceCharges.{bytes_in}
+use Rattle.law_steps.proofs.SourceMoves.{nothing, sources_use}
 use Rattle.law_steps.proofs.SourceViews.{apart_at, here_at, of}
-use Rattle.law_steps.proofs.ZcoOutcomes.{nothing}
 use Rattle.sdr_model.specs.Accounts.{tickets_of}
-use Rattle.sdr_model.specs.Charges.{bytes_charge}
+use Rattle.sdr_model.specs.Amounts.{in_space}
+use Rattle.sdr_model.specs.Charges.{bytes_charge, extent_bytes, use_charge}
 use Rattle.sdr_model.specs.ObjectSteps as object
 use Rattle.sdr_model.specs.Things.{Things}
 use Rattle.sdr_model.specs.World.{World, thing_at}
-use Rattle.sdr_model.specs.Zco.{as_source, space_of}
+use Rattle.sdr_model.specs.Zco.{as_source, count_of, space_of}
 use Rattle.sdr_model.specs.declared.things.Thing.{Thing}
 use Rattle.sdr_model.specs.declared.things.Thing.TheVariants as things
 use Rattle.sdr_model.specs.declared.zco.Extent.{Extent}
@@ -31,6 +35,7 @@ use Rattle.sdr_model.specs.declared.zco.ZcoObject.{ZcoObject}
 use Rattle.sdr_model.specs.declared.zco.ZcoSource.{ZcoSource}
 use Rattle.step_zco.proofs.AlikeLemmas.{StandAlike, section_alike}
 use Rattle.step_zco.proofs.AppendLemmas.{counted_once, longer_row, lost_again, others_counted, same_source_on, two_first, written_alike}
+use Rattle.step_zco.proofs.HeapAmounts.{in_heap-add}
 use Rattle.step_zco.proofs.ObjectLemmas.{object_beside, object_is_at, short_source}
 use Rattle.zco_obj.specs.Beside.{IsWithSource, KeepsWithSource}
 use Rattle.zco_obj.specs.Extents.{extent_of, with_extent}
@@ -39,6 +44,31 @@ use Rattle.zco_ref.specs.Counting.{attached}
 use Rattle.zco_ref.specs.Kept.{count_in, counted_entries}
 use Rattle.step_zco.proofs.SourceLemmas.{counted_in, source_is_at, source_stands}
 use Rattle.step_zco.proofs.UsesLemmas.{counts_small}
+
+-- an object gets an extent more: its account is charged for that, and for the source where it named that by none
+pub use_moves : (m : Things) (addr : ℕ) (z : ZcoObject) (e : Extent) (source : ZcoSource) →
+    finite.get m addr ≡ Some (things.Object z) → finite.get m e.source ≡ Some (things.Source source) →
+    MovesCharge m (finite.insert m addr (things.Object (object.with_extent z e))) z.account
+    (use_charge (of m) z.account e.source source) nothing
+use_moves m addr z e source there named =
+    object_moves m addr z.account (Some z) (Some (object.with_extent z e)) (use_charge (of m) z.account e.source source) nothing
+    there refl refl (sources_use m z.account z e) (λ space.
+    let only = count_of (of m) e.source z.account == 0 in
+    let all : extent_bytes * length (z.extents ++ e ∷ []) ≡ extent_bytes * length z.extents + extent_bytes =
+    omega (arith, length-append z.extents (e ∷ [])) in
+    omega (
+      arith,
+      ap (λ (n : ℕ). in_space spaces.Heap n space) all,
+      in_heap-add (extent_bytes * length z.extents) extent_bytes space,
+      ap (λ (o : Option ZcoSource). if only then bytes_in space o else 0) (ap as_source named),
+      parts only space,
+    ))
+  where
+    parts : (only : Bool) (space : Space) →
+        (if only then bytes_charge (space_of source.subject) source.length space else in_space spaces.Heap extent_bytes space)
+        ≡ (if only then bytes_in space (Some source) else 0) + in_space spaces.Heap extent_bytes space
+    parts true space = refl
+    parts false space = omega arith
 
 -- an object and a source of a world
 pub record IsPair (w : World) (addr named : ℕ) : Type 0 where
@@ -111,10 +141,7 @@ module _ (w : World) (addr named : ℕ) (p : IsPair w addr named) where
 
     -- the account of the object is charged for the extent, and for the source where it named that by none
     pub pair_charge : MovesCharge w.things pair_things p.object.account (use_charge w p.object.account named p.source) nothing
-    pair_charge =
-        object_moves w.things addr p.object.account (Some p.object) (Some pair_object)
-        (bytes_charge (space_of p.source.subject) bytes) nothing p.there refl refl
-        (λ space. extent_charge_more (of w.things) p.object pair_extent p.source (ap as_source p.named_there) space)
+    pair_charge = use_moves w.things addr p.object pair_extent p.source p.there p.named_there
 
 -- in a heap that stands for a world in which calls are served
 module _ (heap : Heap) (w : World) (s : HeapStandsFor heap w) (served : IsReady w) (small : IsSmall heap) (addr named : ℕ) where

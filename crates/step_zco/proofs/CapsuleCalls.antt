@@ -23,7 +23,7 @@ use Rattle.sdr_base.specs.declared.stop.Stop.TheVariants as stops
 use Rattle.law_steps.proofs.ChargeMoves.{MovesCharge, object_moves}
 use Rattle.law_steps.proofs.ObjectRows.{header_charge, trailer_charge}
 use Rattle.law_steps.proofs.SourceViews.{of}
-use Rattle.law_steps.proofs.ZcoOutcomes.{nothing}
+use Rattle.law_steps.proofs.SourceMoves.{nothing, sources_stay}
 use Rattle.sdr_machine.proofs.WorkLemmas.{on_false, on_some, on_true}
 use Rattle.sdr_model.specs.Accounts.{is_same_account, tickets_of}
 use Rattle.sdr_model.specs.Amounts.{amounts_by, in_space}
@@ -186,6 +186,7 @@ module _ (old new : Heap) (w : World) (unmoved : old.moves ≡ []) (s : HeapStan
       let charges : MovesCharge w.things (things_with z block) z.account charge nothing =
       object_moves w.things addr z.account (Some z) (Some (more z (capsule block))) charge nothing at.there refl
       (adds.account z (capsule block))
+      (sources_stay w.things z.account (Some z) (Some (more z (capsule block))) (λ q. ap (naming q) (adds.extents z (capsule block))))
       (λ space. let more = adds.charge z (capsule block) space in omega (arith, more)) in
       let is : new.moves ≡ moves =
       ap (λ (h : Heap). h.moves) pays.others ∙ ap (λ (ms : List Move). ms ++ moves) unmoved in

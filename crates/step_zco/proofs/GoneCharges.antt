@@ -33,6 +33,7 @@ use Rattle.step_zco.proofs.GoneMaps.{AreDistinct, apart_or_gone}
 use Rattle.step_zco.proofs.GoneMoves.{naming_rows}
 use Rattle.step_zco.proofs.GoneTies.{unnamed}
 use Rattle.step_zco.proofs.GoneUses.{AreUsed, IsFound, UsedSource, addresses, named_of, not_found}
+use Rattle.step_zco.proofs.HeapAmounts.{in_heap-add, in_heap-none}
 use Rattle.step_zco.proofs.SourceLemmas.{counts_told}
 use Rattle.zco_obj.specs.Amounts.{heap_amounts, object_amounts}
 use Rattle.zco_obj.specs.Destroying.{charges_of, parts_amounts}
@@ -141,20 +142,9 @@ module _ (w : World) (acct : Acct) (all : List Extent) where
       in_space spaces.Heap (extent_bytes * length-map all extent_row i) space + sources_told space us are i)
 
 -- headers or trailers charge by their rows what they do by the world
-nothing_in : (space : Space) → in_space spaces.Heap 0 space ≡ 0
-nothing_in spaces.File = refl
-nothing_in spaces.Bulk = refl
-nothing_in spaces.Heap = refl
-
-pub in_heap-add : (m n : ℕ) (space : Space) →
-    in_space spaces.Heap (m + n) space ≡ in_space spaces.Heap m space + in_space spaces.Heap n space
-in_heap-add m n spaces.File = refl
-in_heap-add m n spaces.Bulk = refl
-in_heap-add m n spaces.Heap = refl
-
 capsules_told : (space : Space) (cs : List Capsule) →
     in_space spaces.Heap (capsules_charge (map capsule_row cs)) space ≡ sum_by (capsule_charge space) cs
-capsules_told space [] = nothing_in space
+capsules_told space [] = in_heap-none space
 capsules_told space (c ∷ cs) =
     let own = capsule_bytes (length c.text) in
     let rest = capsules_charge (map capsule_row cs) in

@@ -8,9 +8,10 @@ use Rattle.law_steps.proofs.GoneLaws.{AllGone}
 use Rattle.law_steps.proofs.ObjectFields as fields
 use Rattle.law_steps.proofs.OutcomeFits.{charged_by, drops_gone}
 use Rattle.law_steps.proofs.OutcomeLemmas.{gone_accounts, object_owes, owes_release}
-use Rattle.law_steps.proofs.SourceViews.{Fits, NoSpare, fits_from, fits_to, of}
-use Rattle.law_steps.proofs.ZcoOutcomes.{AccountChange, Drops, Queued, nothing}
-use Rattle.law_steps.specs.Charged.{charge_less}
+use Rattle.law_steps.proofs.SourceViews.{Fits, NoSpare, fits_from, fits_to}
+use Rattle.law_steps.proofs.SourceMoves.{nothing, sources_gone}
+use Rattle.law_steps.proofs.ZcoOutcomes.{AccountChange, Drops, Queued}
+use Rattle.law_steps.specs.Charged.{charge_less, sources_less}
 use Rattle.law_steps.specs.Fresh.{AreFresh}
 use Rattle.sdr_model.specs.Blocks.{addresses_of, blocks_of}
 use Rattle.sdr_model.specs.Charges.{object_charge}
@@ -85,9 +86,10 @@ module _ (w : World) (addr : ℕ) (z : ZcoObject) (there : thing_at w addr ≡ S
         (λ space. object_charge space z + sources_less w z.account z.extents space)
     unfolding drops
     lost_charge =
-        let one : MovesCharge w.things (lose w.things addr) z.account nothing (λ space. object_charge (of w.things) space z) =
-        object_moves w.things addr z.account (Some z) None nothing (λ space. object_charge (of w.things) space z) there refl tt
-        (λ space. omega arith) in
+        let frees : Space → ℕ = λ space. object_charge space z + sources_less w z.account z.extents space in
+        let one : MovesCharge w.things (lose w.things addr) z.account nothing frees =
+        object_moves w.things addr z.account (Some z) None nothing frees there refl tt
+        (sources_gone w.things z.account (Some z) None z.extents (λ q. omega arith)) (λ space. omega arith) in
         let same : SameCharge (lose w.things addr) (left_things w addr z.extents None) =
         λ acct space. ap (λ (m : Things). things_charge m acct space) (sym things_are) ∙ all_went.charges acct space in
         before_same one same

@@ -1,4 +1,5 @@
 pub mod FewLemmas
+pub mod HeapAmounts
 pub mod AlikeLemmas
 pub mod ObjectLemmas
 mod ReadingCalls

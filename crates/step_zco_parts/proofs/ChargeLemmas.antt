@@ -11,7 +11,7 @@ use Rattle.law_steps.proofs.BondLaws.{Tracks, all_bonded, with_all}
 use Rattle.law_steps.proofs.ChargeMoves.{MovesCharge, after_same, bonded_charge, object_moves}
 use Rattle.law_steps.proofs.OutcomeFits.{bonded_parts}
 use Rattle.law_steps.proofs.SourceViews.{NoSpare, fits_from, fits_more, of}
-use Rattle.law_steps.proofs.ZcoOutcomes.{nothing}
+use Rattle.law_steps.proofs.SourceMoves.{nothing}
 use Rattle.law_steps.specs.Fresh.{AreFresh}
 use Rattle.sdr_model.proofs.SumLemmas.{sum_by-map}
 use Rattle.sdr_model.specs.Amounts.{amounts_by}

@@ -11,7 +11,7 @@ use Rattle.law_steps.proofs.DistinctLemmas.{weight}
 use Rattle.law_steps.proofs.ExtentLemmas.{placed_charge}
 use Rattle.law_steps.proofs.HashShapes.{neither}
 use Rattle.law_steps.proofs.SourceViews.{of}
-use Rattle.law_steps.proofs.ZcoOutcomes.{nothing}
+use Rattle.law_steps.proofs.SourceMoves.{nothing}
 use Rattle.sdr_model.proofs.SumLemmas.{sum_by-map}
 use Rattle.sdr_model.specs.Amounts.{amounts_by, in_space}
 use Rattle.sdr_model.specs.Charges.{bytes_charge, extent_charge, object_bytes, object_charge, space_in}

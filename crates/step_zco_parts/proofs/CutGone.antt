@@ -19,10 +19,11 @@ use Rattle.sdr_model.specs.World.{World, thing_at}
 use Rattle.sdr_model.specs.declared.things.Thing.TheVariants as things
 use Rattle.sdr_model.specs.declared.zco.Extent.{Extent}
 use Rattle.sdr_model.specs.declared.zco.ZcoObject.{ZcoObject}
-use Rattle.step_zco.proofs.GoneCharges.{in_heap-add, sources_told}
+use Rattle.step_zco.proofs.GoneCharges.{sources_told}
 use Rattle.step_zco.proofs.GoneMoves.{blocks_same, naming_rows}
 use Rattle.step_zco.proofs.GoneTies.{unnamed}
 use Rattle.step_zco.proofs.GoneUses.{UsedSource, itself, named_later, named_of}
+use Rattle.step_zco.proofs.HeapAmounts.{in_heap-add}
 use Rattle.zco_strip.specs.Stripping.{gone_outside, stripped_amounts}
 use Rattle.step_zco_parts.proofs.CutRows.{outside_row}
 use Rattle.step_zco_parts.proofs.CutSources.{all, both, first, found_first, mine, out, second, without_named}

@@ -18,7 +18,7 @@ use Rattle.sdr_base.specs.declared.refusal.Refusal.{Refusal}
 use Rattle.sdr_base.specs.declared.refusal.Refusal.TheVariants as refusals
 use Rattle.sdr_base.specs.declared.stop.Stop.TheVariants as stops
 use Rattle.law_steps.proofs.ChargeMoves.{MovesCharge}
-use Rattle.law_steps.proofs.ZcoOutcomes.{nothing}
+use Rattle.law_steps.proofs.SourceMoves.{nothing}
 use Rattle.law_steps.specs.Charged.{charge_less, sources_less}
 use Rattle.law_steps.specs.Fresh.{AreFresh}
 use Rattle.sdr_machine.proofs.WorkLemmas.{on_some}

@@ -10,9 +10,10 @@ use Rattle.law_steps.proofs.GoneLaws.{AllGone}
 use Rattle.law_steps.proofs.ObjectFields as fields
 use Rattle.law_steps.proofs.OutcomeFits.{charged_by, drops_gone}
 use Rattle.law_steps.proofs.OutcomeLemmas.{gone_accounts, object_owes, owes_release}
-use Rattle.law_steps.proofs.SourceViews.{Fits, NoSpare, fits_from, fits_to, of}
-use Rattle.law_steps.proofs.ZcoOutcomes.{AccountChange, Drops, Queued, nothing}
-use Rattle.law_steps.specs.Charged.{charge_less}
+use Rattle.law_steps.proofs.SourceViews.{Fits, NoSpare, fits_from, fits_to}
+use Rattle.law_steps.proofs.SourceMoves.{nothing, sources_gone}
+use Rattle.law_steps.proofs.ZcoOutcomes.{AccountChange, Drops, Queued}
+use Rattle.law_steps.specs.Charged.{charge_less, sources_less}
 use Rattle.law_steps.specs.Fresh.{AreFresh}
 use Rattle.sdr_model.specs.Blocks.{addresses_of, blocks_of}
 use Rattle.sdr_model.specs.Charges.{object_charge}
@@ -119,10 +120,11 @@ module _ (w : World) (addr : ℕ) (z : ZcoObject) (there : thing_at w addr ≡ S
         (λ space. charge_less z (Some (stripped z)) space + sources_less w z.account out space)
     unfolding drops
     cut_charges =
-        let frees : Space → ℕ = λ space. object_charge (of w.things) space z - object_charge (of w.things) space (stripped z) in
+        let frees : Space → ℕ = λ space. charge_less z (Some (stripped z)) space + sources_less w z.account out space in
         let one : MovesCharge w.things (with_at w.things addr (Some (things.Object (stripped z)))) z.account nothing frees =
         object_moves w.things addr z.account (Some z) (Some (stripped z)) nothing frees there refl refl
-        (λ space. omega (arith, cut_charge (of w.things) space z.part.offset (part_end z) z.extents)) in
+        (sources_gone w.things z.account (Some z) (Some (stripped z)) out (λ q. cut_names q z.part.offset (part_end z) z.extents))
+        (λ space. omega (arith, cut_charge space z.part.offset (part_end z) z.extents)) in
         let same : SameCharge (with_at w.things addr (Some (things.Object (stripped z)))) (cut_things w addr z) =
         λ acct space. ap (λ (m : Things). things_charge m acct space) (sym things_are) ∙ all_went.charges acct space in
         before_same one same
