@@ -1,5 +1,5 @@
 -- What things charge an account, where what is at one address changes.
-use Rattle.std.proofs.Common.{◌≡◌, ℕ, ◌+◌, ◌==◌, List, [], ◌∷◌, Option, Some, None, refl, sym, ap, ◌∙◌, arith, if◌then◌else◌, eqb-true}
+use Rattle.std.proofs.Common.{◌≡◌, ℕ, ◌+◌, ◌≤◌, ◌==◌, true, List, [], ◌∷◌, Option, Some, None, refl, sym, ap, ◌∙◌, arith, if◌then◌else◌, eqb-true}
 use Rattle.std.specs.FinMap.{entries, get}
 use Rattle.std.specs.List.{sum_by}
 use Rattle.std.specs.Option.{option_map}
@@ -12,15 +12,17 @@ use Rattle.law_steps.proofs.EntrySums.{sum_by-both, sum_by-none}
 use Rattle.law_steps.proofs.SourceCharges.{counts, named_charge, named_part, named_same}
 use Rattle.law_steps.proofs.SourceViews.{AllLie, Fits, of, source_there, sum_by-with_at}
 use Rattle.law_steps.proofs.DistinctLemmas.{on_test, weight}
+use Rattle.law_steps.proofs.ThingLemmas.{object_is}
 use Rattle.sdr_model.proofs.SumLemmas.{counted_at}
 use Rattle.sdr_model.specs.Accounts.{is_same_account}
 use Rattle.sdr_model.specs.Charges.{object_charge, thing_charge}
 use Rattle.sdr_model.specs.SourceSteps.{flagged}
 use Rattle.sdr_model.specs.Things.{with_at, Things}
-use Rattle.sdr_model.specs.Zco.{as_object, as_source, naming, source_at, uses_in, uses_of}
+use Rattle.sdr_model.specs.Zco.{as_object, as_source, naming, object_at, source_at, uses_in, uses_of}
 use Rattle.sdr_model.specs.declared.things.Thing.{Thing}
 use Rattle.sdr_model.specs.declared.things.Thing.TheVariants as things
 use Rattle.sdr_model.specs.declared.zco.Extent.{Extent}
+use Rattle.sdr_model.specs.declared.zco.ZcoObject.{ZcoObject}
 use Rattle.sdr_model.specs.declared.zco.ZcoSource.{ZcoSource}
 
 -- what things charge an account of a space
@@ -128,6 +130,21 @@ module _ (m : Things) (addr : ℕ) (o : Option Thing) (acct : Acct) where
         named_same m space (counts m acct) (counts (with_at m addr o) acct) (λ q. ap (λ n. n == 0) (stays q)),
       )
 
+pub same_account : (acct : Acct) → is_same_account acct acct ≡ true
+same_account accts.Inbound = refl
+same_account accts.Outbound = refl
+
+-- the extents of an object that is there are among those of its account
+pub count_there : (m : Things) (addr : ℕ) (z : ZcoObject) → object_at (of m) addr ≡ Some z → (q : ℕ)
+    → naming q z.extents ≤ counts m z.account q
+count_there m addr z is q =
+    omega (
+      arith,
+      count_moves m addr None z.account q,
+      ap (uses_in_at q z.account) (object_is (get m addr) z is),
+      ap (λ b. if b then naming q z.extents else 0) (same_account z.account),
+    )
+
 -- an account names a source no more often than both
 pub count_few : (m : Things) (acct : Acct) (q : ℕ) → uses_of (of m) q ≡ 0 → counts m acct q ≡ 0
 count_few m accts.Inbound q none = omega (arith, none)
@@ -157,6 +174,17 @@ count_none P m fits acct addr none = sum_by-none _ m (λ q t is. each q t is)
         (λ own. ap (λ b. if b then naming addr z.extents else 0) own ∙ apart z.extents (fits.inside q z (ap as_object is)))
         (λ other. ap (λ b. if b then naming addr z.extents else 0) other)
     each q t is = refl
+
+-- no extent names a source that has just come
+pub count_new : (P : ℕ → Type 0) (m : Things) → Fits m P → (acct : Acct) (addr : ℕ) (s : ZcoSource) → get m addr ≡ None
+    → counts (with_at m addr (Some (things.Source s))) acct addr ≡ 0
+count_new P m fits acct addr s none =
+    omega (
+      arith,
+      count_moves m addr (Some (things.Source s)) acct addr,
+      count_none P m fits acct addr (ap as_source none),
+      ap (uses_in_at addr acct) none,
+    )
 
 -- what is neither source nor object charges nothing, and names nothing
 no_uses : (acct : Acct) (q : ℕ) (t : Option Thing) → IsNoZco t → uses_in_at q acct t ≡ 0

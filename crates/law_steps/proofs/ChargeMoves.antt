@@ -1,28 +1,21 @@
 -- What things charge one account moves, and another's stays.
-use Rattle.std.proofs.Common.{◌≡◌, ℕ, suc, ◌+◌, ◌*◌, ◌==◌, List, [], ◌∷◌, true, false, Option, Some, None, length, refl, sym, ap, ◌∙◌, arith, if◌then◌else◌, div-mul-le_self}
+use Rattle.std.proofs.Common.{◌≡◌, ℕ, ◌+◌, ◌==◌, true, false, Option, Some, None, refl, ap, ◌∙◌, arith, if◌then◌else◌}
 use Rattle.std.specs.FinMap as finite
-use Rattle.std.specs.List.{sum_by}
 use Rattle.std.specs.Option.{option_map}
 use Rattle.std.specs.Prelude.{IfSome}
-use Rattle.std.proofs.lemmas.List.Sums.{sum_by-cons}
 use Rattle.sdr_base.specs.declared.account.Acct.{Acct}
 use Rattle.sdr_base.specs.declared.account.Acct.TheVariants as accts
 use Rattle.sdr_base.specs.declared.kind.Space.{Space}
-use Rattle.sdr_base.specs.declared.kind.Space.TheVariants as spaces
-use Rattle.law_steps.proofs.ChargeLemmas.{charge_moves, count_moves, named_part_at, object_part_at, things_charge, uses_in_at}
+use Rattle.law_steps.proofs.ChargeLemmas.{charge_moves, count_moves, named_part_at, object_part_at, same_account, things_charge, uses_in_at}
 use Rattle.law_steps.proofs.SourceCharges.{counts, named_same}
 use Rattle.law_steps.proofs.SourceMoves.{SourcesMove, naming_in, nothing}
 use Rattle.law_steps.specs.Charged.{charge_in}
 use Rattle.sdr_model.specs.Accounts.{is_same_account}
-use Rattle.sdr_model.specs.Amounts.{in_space}
-use Rattle.sdr_model.specs.BondSteps.{bond_charge, bond_rise, bonded_extents}
-use Rattle.sdr_model.specs.Charges.{bytes_charge, capsule_charge, extent_bytes, object_charge}
+use Rattle.sdr_model.specs.Charges.{object_charge}
 use Rattle.sdr_model.specs.Things.{with_at, Things}
 use Rattle.sdr_model.specs.Zco.{naming}
 use Rattle.sdr_model.specs.declared.things.Thing.{Thing}
 use Rattle.sdr_model.specs.declared.things.Thing.TheVariants as things
-use Rattle.sdr_model.specs.declared.zco.Capsule.{Capsule}
-use Rattle.sdr_model.specs.declared.zco.Extent.{Extent}
 use Rattle.sdr_model.specs.declared.zco.ZcoObject.{ZcoObject}
 
 -- what things charge is the same, whichever the account
@@ -42,10 +35,6 @@ same_moves acct same = record {
   other = λ b apart space. same b space;
 }
 
-itself : (acct : Acct) → is_same_account acct acct ≡ true
-itself accts.Inbound = refl
-itself accts.Outbound = refl
-
 -- the object at an address, if there is one
 abbrev thing_of : Option ZcoObject → Option Thing
 thing_of z = option_map (λ z. things.Object z) z
@@ -55,13 +44,13 @@ own_charge : (acct : Acct) (space : Space) (z : Option ZcoObject) → IfSome z (
     → object_part_at acct space (thing_of z) ≡ charge_in space z
 own_charge acct space None h = refl
 own_charge acct space (Some z) h =
-    ap (λ b. if b then object_charge space z else 0) (ap (is_same_account acct) h ∙ itself acct)
+    ap (λ b. if b then object_charge space z else 0) (ap (is_same_account acct) h ∙ same_account acct)
 
 own_uses : (q : ℕ) (acct : Acct) (z : Option ZcoObject) → IfSome z (λ z. z.account ≡ acct)
     → uses_in_at q acct (thing_of z) ≡ naming_in q z
 own_uses q acct None h = refl
 own_uses q acct (Some z) h =
-    ap (λ b. if b then naming q z.extents else 0) (ap (is_same_account acct) h ∙ itself acct)
+    ap (λ b. if b then naming q z.extents else 0) (ap (is_same_account acct) h ∙ same_account acct)
 
 other_charge : (acct b : Acct) (space : Space) (z : Option ZcoObject) → IfSome z (λ z. z.account ≡ acct)
     → is_same_account b acct ≡ false → object_part_at b space (thing_of z) ≡ 0
@@ -159,39 +148,3 @@ same_things_charge same acct space = ap (λ m. things_charge m acct space) same
 pub at_object : {m n p : Things} {acct : Acct} {adds frees : Space → ℕ} → p ≡ n → MovesCharge m n acct adds frees
     → MovesCharge m p acct adds frees
 at_object is moves = before_same moves (same_things_charge is)
-
--- headers and trailers charge as extents, and as the sources of these, what bonding charges beside them
-rise_is : (space : Space) (c : Capsule)
-    → bytes_charge spaces.Heap (length c.text) space ≡ capsule_charge space c + bond_rise space c
-rise_is spaces.File c = refl
-rise_is spaces.Bulk c = refl
-rise_is spaces.Heap c = omega (arith, div-mul-le_self (15 + length c.text) 8)
-
-extents_more : (space : Space) (n : ℕ)
-    → in_space spaces.Heap (extent_bytes * suc n) space
-    ≡ in_space spaces.Heap extent_bytes space + in_space spaces.Heap (extent_bytes * n) space
-extents_more spaces.File n = refl
-extents_more spaces.Bulk n = refl
-extents_more spaces.Heap n = omega arith
-
-pub bonded_charge : (space : Space) (at : ℕ → ℕ) (k : ℕ) (cs : List Capsule)
-    → in_space spaces.Heap (extent_bytes * length (bonded_extents at k cs)) space
-    + sum_by (λ e. in_space spaces.Heap e.length space) (bonded_extents at k cs)
-    ≡ sum_by (capsule_charge space) cs + bond_charge cs space
-bonded_charge space at k [] = none space
-  where
-    none : (space : Space) → in_space spaces.Heap 0 space + 0 ≡ 0
-    none spaces.File = refl
-    none spaces.Bulk = refl
-    none spaces.Heap = refl
-bonded_charge space at k (c ∷ cs) =
-    let e : Extent = record { block = at (k + 2); source = at (k + 1); offset = 0; length = length c.text } in
-    omega (
-      arith,
-      extents_more space (length (bonded_extents at (k + 3) cs)),
-      rise_is space c,
-      bonded_charge space at (k + 3) cs,
-      sum_by-cons (λ (e : Extent). in_space spaces.Heap e.length space) e (bonded_extents at (k + 3) cs),
-      sum_by-cons (capsule_charge space) c cs,
-      sum_by-cons (bond_rise space) c cs,
-    )

@@ -7,6 +7,7 @@ pub mod Alike
 pub mod AppendShapes
 pub mod BarredLemmas
 pub mod BlockLaws
+pub mod BondCharges
 pub mod BondLaws
 pub mod BondLemmas
 pub mod BondRoom

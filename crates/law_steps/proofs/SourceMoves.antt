@@ -1,5 +1,5 @@
 -- What sources charge an account moves, where an object of it is another, comes or goes.
-use Rattle.std.proofs.Common.{◌≡◌, ◌≢◌, ℕ, zero, suc, false, ◌+◌, ◌≤◌, ◌==◌, ◌++◌, List, [], ◌∷◌, Option, Some, None, refl, sym, ap, ◌∙◌, arith, if◌then◌else◌, eqb-true}
+use Rattle.std.proofs.Common.{◌≡◌, ◌≢◌, ℕ, zero, suc, Bool, true, false, ◌+◌, ◌≤◌, ◌==◌, ◌++◌, List, [], ◌∷◌, Option, Some, None, refl, sym, ap, ◌∙◌, arith, if◌then◌else◌, eqb-true}
 use Rattle.std.proofs.lemmas.Bool.Decides.{nat_tests}
 use Rattle.std.specs.Cmp.{nat_eq_equiv}
 use Rattle.std.specs.List.{sum_by}
@@ -12,11 +12,14 @@ use Rattle.law_steps.proofs.SourceCharges.{AreFirst, bytes_in, counts, named_aga
 use Rattle.law_steps.proofs.SourceViews.{of}
 use Rattle.law_steps.specs.Charged.{sources_less}
 use Rattle.sdr_model.specs.Amounts.{in_space}
+use Rattle.sdr_model.specs.Charges.{extent_bytes, use_charge}
 use Rattle.sdr_model.specs.ObjectSteps.{with_extent}
 use Rattle.sdr_model.specs.Things.{Things}
-use Rattle.sdr_model.specs.Zco.{naming, source_at}
+use Rattle.sdr_model.specs.Zco.{count_of, naming, source_at}
+use Rattle.sdr_model.specs.World.{World}
 use Rattle.sdr_model.specs.declared.zco.Extent.{Extent}
 use Rattle.sdr_model.specs.declared.zco.ZcoObject.{ZcoObject}
+use Rattle.sdr_model.specs.declared.zco.ZcoSource.{ZcoSource}
 
 -- what is charged or released of each space where nothing is
 abbrev pub nothing : Space → ℕ
@@ -35,6 +38,19 @@ AreCounts m acct old new c = (q : ℕ) → c q + naming_in q old ≡ counts m ac
 pub record SourcesMove (m : Things) (acct : Acct) (old new : Option ZcoObject) (more less : Space → ℕ) : Type 0 where
   pub moved : (c : ℕ → ℕ) → AreCounts m acct old new c → (space : Space)
       → named_charge c space m + less space ≡ named_charge (counts m acct) space m + more space
+
+-- an extent more of an account's objects charges for itself, and the source's bytes where none of them names it yet
+pub use_parts : (w : World) (acct : Acct) (addr : ℕ) (s : ZcoSource) → source_at w addr ≡ Some s → (space : Space)
+    → use_charge w acct addr s space
+    ≡ in_space spaces.Heap extent_bytes space + (if count_of w addr acct == 0 then bytes_in space (source_at w addr) else 0)
+use_parts w acct addr s is space =
+    ap (λ o. if count_of w addr acct == 0 then bytes_in space o + in_space spaces.Heap extent_bytes space
+    else in_space spaces.Heap extent_bytes space) (sym is)
+    ∙ parts (count_of w addr acct == 0) (bytes_in space (source_at w addr)) (in_space spaces.Heap extent_bytes space)
+  where
+    parts : (b : Bool) (n k : ℕ) → (if b then n + k else k) ≡ k + (if b then n else 0)
+    parts true n k = omega arith
+    parts false n k = omega arith
 
 module _ (m : Things) (acct : Acct) where
   -- the object names each source as often
