@@ -23,7 +23,7 @@ use Rattle.sdr_base.specs.declared.account.Acct.TheVariants as accts
 use Rattle.sdr_base.specs.declared.kind.Kind.TheVariants as kinds
 use Rattle.sdr_base.specs.declared.kind.Space.{Space}
 use Rattle.sdr_base.specs.declared.kind.Space.TheVariants as spaces
-use Rattle.law_steps.proofs.ChargeLemmas.{charge_source}
+use Rattle.law_steps.proofs.ChargeLemmas.{charge_source, count_new}
 use Rattle.law_steps.proofs.ChargeMoves.{MovesCharge, after_same}
 use Rattle.law_steps.proofs.OutcomeFits.{unnamed_from}
 use Rattle.law_steps.proofs.SourceViews.{NoSpare, apart_at, by_addr, fits_from, here_at}
@@ -56,7 +56,7 @@ use Rattle.zco_obj.specs.declared.extent.ExtentPiece.{ExtentPiece}
 use Rattle.zco_ref.specs.Counting.{attached}
 use Rattle.zco_ref.specs.Kept.{SomeFew, counted_entries}
 use Rattle.step_zco.proofs.SourceLemmas.{counted_in, named_is_at, source_few}
-use Rattle.step_zco.proofs.UsesLemmas.{none_counted, same_counts}
+use Rattle.step_zco.proofs.UsesLemmas.{same_counts}
 
 -- an object and a raw object of a world
 pub record IsWithRawAt (w : World) (addr raw : ℕ) : Type 0 where
@@ -164,9 +164,7 @@ module _ (w : World) (addr raw : ℕ) (p : IsWithRawAt w addr raw) where
           ∙ same_counts w source (Some (things.Source taking)) q acct (ap as_object free) refl
 
       new_unused : (acct : Acct) → count_of mid source acct ≡ 0
-      new_unused acct =
-          same_counts w source (Some (things.Source taking)) source acct (ap as_object free) refl
-          ∙ none_counted w source acct fits (ap as_source free)
+      new_unused acct = count_new NoSpare w.things (fits_from w fits) acct source taking free
 
       counted_new : counted_in mid source taking ≡ taking_over raw p.text
       counted_new = λ i. record {

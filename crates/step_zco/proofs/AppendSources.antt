@@ -1,7 +1,6 @@
 -- An object and a source of a world beside each other, before and after the object gets an extent of the source.
-use Rattle.std.proofs.Common.{◌≡◌, ◌≢◌, ◌∙◌, ◌+◌, ◌*◌, ◌<◌, ◌^◌, ◌==◌, ◌++◌, ℕ, [], ◌∷◌, Bool, true, false, Option, Some, None, length, refl, sym, ap, subst, arith, length-append}
+use Rattle.std.proofs.Common.{◌≡◌, ◌≢◌, ◌∙◌, ◌<◌, ◌^◌, ◌++◌, ℕ, Some, None, refl, sym, ap, subst, arith}
 use Rattle.std.specs.FinMap as finite
-use Rattle.std.specs.Prelude.{if◌then◌else◌}
 use Rattle.step_things.proofs.ListLemmas.{IsSmall}
 use Rattle.step_things.specs.Answering.{IsReady}
 use Rattle.sdr_stands.specs.Rows.{object_row}
@@ -15,19 +14,16 @@ use Rattle.sdr_base.specs.ZcoObjects.{object_entries}
 use Rattle.sdr_base.specs.declared.account.Acct.{Acct}
 use Rattle.sdr_base.specs.declared.account.Acct.TheVariants as accts
 use Rattle.sdr_base.specs.declared.kind.Kind.TheVariants as kinds
-use Rattle.sdr_base.specs.declared.kind.Space.{Space}
-use Rattle.sdr_base.specs.declared.kind.Space.TheVariants as spaces
 use Rattle.law_steps.proofs.ChargeMoves.{MovesCharge, object_moves}
-use Rattle.law_steps.proofs.SourceCharges.{bytes_in}
-use Rattle.law_steps.proofs.SourceMoves.{nothing, sources_use}
+use Rattle.law_steps.proofs.ObjectRows.{extent_charge_more}
+use Rattle.law_steps.proofs.SourceMoves.{nothing, sources_use, use_parts}
 use Rattle.law_steps.proofs.SourceViews.{apart_at, here_at, of}
 use Rattle.sdr_model.specs.Accounts.{tickets_of}
-use Rattle.sdr_model.specs.Amounts.{in_space}
-use Rattle.sdr_model.specs.Charges.{bytes_charge, extent_bytes, use_charge}
+use Rattle.sdr_model.specs.Charges.{use_charge}
 use Rattle.sdr_model.specs.ObjectSteps as object
 use Rattle.sdr_model.specs.Things.{Things}
 use Rattle.sdr_model.specs.World.{World, thing_at}
-use Rattle.sdr_model.specs.Zco.{as_source, count_of, space_of}
+use Rattle.sdr_model.specs.Zco.{as_source}
 use Rattle.sdr_model.specs.declared.things.Thing.{Thing}
 use Rattle.sdr_model.specs.declared.things.Thing.TheVariants as things
 use Rattle.sdr_model.specs.declared.zco.Extent.{Extent}
@@ -35,7 +31,6 @@ use Rattle.sdr_model.specs.declared.zco.ZcoObject.{ZcoObject}
 use Rattle.sdr_model.specs.declared.zco.ZcoSource.{ZcoSource}
 use Rattle.step_zco.proofs.AlikeLemmas.{StandAlike, section_alike}
 use Rattle.step_zco.proofs.AppendLemmas.{counted_once, longer_row, lost_again, others_counted, same_source_on, two_first, written_alike}
-use Rattle.step_zco.proofs.HeapAmounts.{in_heap-add}
 use Rattle.step_zco.proofs.ObjectLemmas.{object_beside, object_is_at, short_source}
 use Rattle.zco_obj.specs.Beside.{IsWithSource, KeepsWithSource}
 use Rattle.zco_obj.specs.Extents.{extent_of, with_extent}
@@ -52,23 +47,8 @@ pub use_moves : (m : Things) (addr : ℕ) (z : ZcoObject) (e : Extent) (source :
     (use_charge (of m) z.account e.source source) nothing
 use_moves m addr z e source there named =
     object_moves m addr z.account (Some z) (Some (object.with_extent z e)) (use_charge (of m) z.account e.source source) nothing
-    there refl refl (sources_use m z.account z e) (λ space.
-    let only = count_of (of m) e.source z.account == 0 in
-    let all : extent_bytes * length (z.extents ++ e ∷ []) ≡ extent_bytes * length z.extents + extent_bytes =
-    omega (arith, length-append z.extents (e ∷ [])) in
-    omega (
-      arith,
-      ap (λ (n : ℕ). in_space spaces.Heap n space) all,
-      in_heap-add (extent_bytes * length z.extents) extent_bytes space,
-      ap (λ (o : Option ZcoSource). if only then bytes_in space o else 0) (ap as_source named),
-      parts only space,
-    ))
-  where
-    parts : (only : Bool) (space : Space) →
-        (if only then bytes_charge (space_of source.subject) source.length space else in_space spaces.Heap extent_bytes space)
-        ≡ (if only then bytes_in space (Some source) else 0) + in_space spaces.Heap extent_bytes space
-    parts true space = refl
-    parts false space = omega arith
+    there refl refl (sources_use m z.account z e)
+    (λ space. omega (arith, extent_charge_more z e space, use_parts (of m) z.account e.source source (ap as_source named) space))
 
 -- an object and a source of a world
 pub record IsPair (w : World) (addr named : ℕ) : Type 0 where

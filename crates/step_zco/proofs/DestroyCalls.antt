@@ -20,14 +20,13 @@ use Rattle.sdr_base.specs.declared.refusal.Refusal.TheVariants as refusals
 use Rattle.sdr_base.specs.declared.stop.Stop.TheVariants as stops
 use Rattle.law_steps.proofs.ChargeMoves.{MovesCharge}
 use Rattle.law_steps.proofs.SourceMoves.{nothing}
-use Rattle.law_steps.specs.Charged.{sources_less}
+use Rattle.law_steps.proofs.ZcoOutcomes.{drop_release}
 use Rattle.law_steps.specs.Fresh.{AreFresh}
 use Rattle.sdr_machine.proofs.WorkLemmas.{on_some}
 use Rattle.sdr_machine.specs.Demand.{grants_between}
 use Rattle.sdr_model.specs.Accounts.{tickets_of}
 use Rattle.sdr_model.specs.Amounts.{amounts_by, minus}
 use Rattle.sdr_model.specs.Blocks.{addresses_of, blocks_of}
-use Rattle.sdr_model.specs.Charges.{object_charge}
 use Rattle.sdr_model.specs.Fields.{IsWord}
 use Rattle.sdr_model.specs.Gone.{gone_things, without_things}
 use Rattle.sdr_model.specs.ObjectSteps.{destroy_blocks}
@@ -102,7 +101,7 @@ module _ (old : Heap) (w : World) (unmoved : old.moves ≡ []) (s : HeapStandsFo
 
     -- it charged so much, with the sources that no other object of the account names
     abbrev frees : Space → ℕ
-    frees space = object_charge space z + sources_less w z.account z.extents space
+    frees = drop_release w z None z.extents
 
     amounts_same : charges_of (object_row z) rows ≡ amounts_by frees
     amounts_same =

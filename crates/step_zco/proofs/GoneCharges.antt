@@ -14,11 +14,12 @@ use Rattle.law_steps.proofs.EntrySums.{sum_by-none}
 use Rattle.law_steps.proofs.GoneLaws.{without}
 use Rattle.law_steps.proofs.GoneLemmas.{AreApart}
 use Rattle.law_steps.proofs.SourceViews.{apart_at}
+use Rattle.law_steps.proofs.ZcoOutcomes.{drop_release}
 use Rattle.law_steps.specs.Charged.{source_less, sources_less}
 use Rattle.sdr_model.proofs.AmountLemmas.{amount-by, amount-plus, same_amounts}
 use Rattle.sdr_model.proofs.SumLemmas.{counted_at, sum_by-removed}
 use Rattle.sdr_model.specs.Amounts.{amount, amounts_by, in_space}
-use Rattle.sdr_model.specs.Charges.{capsule_bytes, capsule_charge, extent_bytes, object_bytes, object_charge}
+use Rattle.sdr_model.specs.Charges.{capsule_bytes, capsule_charge, extent_bytes, object_bytes}
 use Rattle.sdr_model.specs.Gone.{names_source}
 use Rattle.sdr_model.specs.Things.{Things}
 use Rattle.sdr_model.specs.World.{World, thing_at}
@@ -156,15 +157,14 @@ capsules_told space (c ∷ cs) =
 -- an object that goes charges less by its row what it does by the world, with the sources that its extents name
 pub charge_same : (w : World) (z : ZcoObject) (us : List (UsedSource w z.extents)) → AreUsed w z.extents z.extents us →
     charges_of (object_row z) (map (named_of w z.extents) us)
-    ≡ amounts_by (λ space. object_charge space z + sources_less w z.account z.extents space)
+    ≡ amounts_by (drop_release w z None z.extents)
 charge_same w z us are =
     let row = object_row z in
     let ss = map (named_of w z.extents) us in
     let capsules = capsules_charge row.headers + capsules_charge row.trailers in
     let extents : Space → ℕ = λ space.
     in_space spaces.Heap (extent_bytes * length z.extents) space + sources_less w z.account z.extents space in
-    let frees : Space → ℕ = λ space. object_charge space z + sources_less w z.account z.extents space in
-    same_amounts (charges_of row ss) (amounts_by frees) (λ space.
+    same_amounts (charges_of row ss) (amounts_by (drop_release w z None z.extents)) (λ space.
     omega (
       arith,
       amount-plus (parts_amounts row ss) object_amounts space,
@@ -175,5 +175,5 @@ charge_same w z us are =
       in_heap-add (capsules_charge row.headers) (capsules_charge row.trailers) space,
       capsules_told space z.headers,
       capsules_told space z.trailers,
-      amount-by frees space,
+      amount-by (drop_release w z None z.extents) space,
     ))

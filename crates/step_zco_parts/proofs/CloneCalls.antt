@@ -28,6 +28,7 @@ use Rattle.sdr_base.specs.declared.refusal.Refusal.TheVariants as refusals
 use Rattle.sdr_base.specs.declared.stop.Stop.{Stop}
 use Rattle.sdr_base.specs.declared.stop.Stop.TheVariants as stops
 use Rattle.sdr_base.proofs.WorksLemmas.{works_more}
+use Rattle.law_steps.proofs.ExtentLemmas.{placed_names}
 use Rattle.law_steps.proofs.SourceViews.{here_at}
 use Rattle.law_steps.proofs.ThingLemmas.{object_is}
 use Rattle.sdr_machine.proofs.WorkLemmas.{on_false, on_some, on_true}
@@ -70,7 +71,7 @@ use Rattle.zco_part.specs.Cloning.{ClonesPart, CloneAllowed, CloneStops, HasRang
 use Rattle.zco_part.specs.Copying.{takes_extents}
 use Rattle.zco_part.specs.Pieces.{asked, extents_at, whole_row}
 use Rattle.zco_part.specs.Sources.{all_counted}
-use Rattle.step_zco_parts.proofs.CloneCharges.{clone_charge, clone_moves_charge, named_as_often, placed_names, uncut}
+use Rattle.step_zco_parts.proofs.CloneCharges.{clone_charge, clone_moves_charge, named_as_often, uncut}
 use Rattle.step_zco_parts.proofs.CloneTies.{cloned, cloned_first}
 use Rattle.step_zco_parts.proofs.PartFreshLemmas.{clone_distinct, took_clone}
 use Rattle.step_zco_parts.proofs.PartKeptLemmas.{kept_to_clone, rows}
@@ -218,7 +219,8 @@ module _ (old new : Heap) (w : World) (unmoved : old.moves ≡ []) (s : HeapStan
           both_alike w things_with acct (charged tickets number (amounts_by (charge_for z))) own (front ++ counted) rest
           (own_first w addr z at.there served.whole.fits z.extents None (leaves_none z) mine.sources mine.are) first pays.changes in
           paid_stands things_with acct number (charge_for z) moves s
-          (clone_moves_charge w clone acct (spots clone addrs es same) es none) pays changes
+          (clone_moves_charge w clone addr z (spots clone addrs es same) (z.part.offset + offset) (z.part.offset + offset + bytes) at.there none)
+          pays changes
 
     -- it was cloned
     pub clone_answered : (clone : ℕ) → ClonesPart addr number offset bytes old new clone → Answered w call new [] (replies.At clone)

@@ -8,7 +8,7 @@ use Rattle.sdr_base.specs.ZcoObjects.{ExtentRow}
 use Rattle.sdr_base.specs.declared.account.Acct.{Acct}
 use Rattle.sdr_base.specs.declared.kind.Space.{Space}
 use Rattle.sdr_base.specs.declared.kind.Space.TheVariants as spaces
-use Rattle.law_steps.specs.Charged.{charge_less, sources_less}
+use Rattle.law_steps.proofs.ZcoOutcomes.{drop_release}
 use Rattle.sdr_model.specs.Amounts.{amounts_by, in_space}
 use Rattle.sdr_model.specs.Charges.{extent_bytes}
 use Rattle.sdr_model.specs.Cuts.{cut, cut_all, left_out}
@@ -95,7 +95,7 @@ module _ (w : World) (addr : ℕ) (z : ZcoObject) (fits : FitTogether w) (there 
 
   -- and it charges less what its row does
   pub less_same : stripped_amounts (object_row z) ss
-      ≡ amounts_by (λ space. charge_less z (Some (stripped z)) space + sources_less w z.account (out w addr z fits there) space)
+      ≡ amounts_by (drop_release w z (Some (stripped z)) (out w addr z fits there))
   less_same =
       ap (extents_amounts z.account ss) (sym (outside_row z)) ∙ (λ i. amounts_by (λ space. each space i))
     where
@@ -105,7 +105,7 @@ module _ (w : World) (addr : ℕ) (z : ZcoObject) (fits : FitTogether w) (there 
       each : (space : Space) →
           in_space spaces.Heap (extent_bytes * length (map extent_row o)) space
           + sum_by (rows.source_less z.account (map extent_row o) space) ss
-          ≡ charge_less z (Some (stripped z)) space + sources_less w z.account o space
+          ≡ drop_release w z (Some (stripped z)) o space
       each space =
           let inside = cut_all z.part.offset (part_end z) z.extents in
           let parts : extent_bytes * length z.extents ≡ extent_bytes * length inside + extent_bytes * length o =

@@ -19,7 +19,7 @@ use Rattle.sdr_base.specs.declared.refusal.Refusal.TheVariants as refusals
 use Rattle.sdr_base.specs.declared.stop.Stop.TheVariants as stops
 use Rattle.law_steps.proofs.ChargeMoves.{MovesCharge}
 use Rattle.law_steps.proofs.SourceMoves.{nothing}
-use Rattle.law_steps.specs.Charged.{charge_less, sources_less}
+use Rattle.law_steps.proofs.ZcoOutcomes.{drop_release}
 use Rattle.law_steps.specs.Fresh.{AreFresh}
 use Rattle.sdr_machine.proofs.WorkLemmas.{on_some}
 use Rattle.sdr_machine.specs.Demand.{grants_between}
@@ -126,7 +126,7 @@ module _ (old : Heap) (w : World) (unmoved : old.moves ≡ []) (s : HeapStandsFo
 
     -- it charges so much less, with the sources that no other extent of the account names
     abbrev frees : Space → ℕ
-    frees space = charge_less z (Some (stripped z)) space + sources_less w z.account (outside_part z) space
+    frees = drop_release w z (Some (stripped z)) (outside_part z)
 
     amounts_same : stripped_amounts (object_row z) sources ≡ amounts_by frees
     amounts_same = less_same w addr z served.whole.fits at.there
