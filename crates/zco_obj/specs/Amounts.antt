@@ -1,14 +1,14 @@
 -- What an object and its parts charge an account.
-use Rattle.std.specs.Prelude.{ℕ, ◌+◌, List, length, sum_by}
-use Rattle.sdr_base.specs.ZcoObjects.{CapsuleRow, ExtentRow, ObjectRow}
+use Rattle.std.specs.Prelude.{ℕ, ◌==◌, Bool, List, length, if◌then◌else◌}
+use Rattle.sdr_base.specs.declared.account.Acct.{Acct}
 use Rattle.sdr_base.specs.declared.account.Amounts.{Amounts}
 use Rattle.sdr_base.specs.declared.kind.Space.{Space}
 use Rattle.sdr_base.specs.declared.kind.Space.TheVariants as spaces
 use Rattle.sdr_base.specs.declared.medium.Medium.{Medium}
 use Rattle.sdr_base.specs.declared.medium.Medium.TheVariants as media
 use Rattle.sdr_model.specs.Amounts.{amounts_by, in_space}
-use Rattle.sdr_model.specs.Charges.{bytes_charge, capsule_bytes, object_bytes}
-use Rattle.zco_ref.specs.Kept.{CountedSource}
+use Rattle.sdr_model.specs.Charges.{bytes_charge, capsule_bytes, extent_bytes, object_bytes}
+use Rattle.zco_ref.specs.Kept.{CountedSource, count_in}
 
 -- so many bytes of heap space
 abbrev pub heap_amounts : ℕ → Amounts
@@ -32,11 +32,19 @@ medium_space medium = spaces.Heap
 abbrev pub source_space : CountedSource → Space
 source_space source = medium_space source.row.medium
 
--- what an extent of so many bytes charges, which are in this space
+-- what the first extent charges of an account that names a source of so many bytes, which are in this space
 abbrev pub extent_amounts : Space → ℕ → Amounts
 extent_amounts of bytes = amounts_by (bytes_charge of bytes)
 
--- what an object charges of a space, where itself, an extent, and a header or trailer charge so much
-abbrev pub charge_of : ℕ → (ExtentRow → ℕ) → (CapsuleRow → ℕ) → ObjectRow → ℕ
-charge_of own extent capsule row =
-    own + sum_by extent row.extents + sum_by capsule row.headers + sum_by capsule row.trailers
+-- what an extent charges, which is the only one of the account that names a source, or isn't: itself alone where it isn't
+abbrev pub naming_amounts : Bool → CountedSource → Amounts
+naming_amounts only source =
+    if only then extent_amounts (source_space source) source.row.length else heap_amounts extent_bytes
+
+-- what an extent of the account more charges that names a source
+abbrev pub use_amounts : Acct → CountedSource → Amounts
+use_amounts acct source = naming_amounts (count_in acct source == 0) source
+
+-- what an extent of the account less gives back that named a source
+abbrev pub last_amounts : Acct → CountedSource → Amounts
+last_amounts acct source = naming_amounts (count_in acct source == 1) source

@@ -11,7 +11,7 @@ use Rattle.sdr_base.specs.declared.refusal.Refusal.TheVariants as refusals
 use Rattle.sdr_base.specs.declared.stop.Stop.{Stop}
 use Rattle.sdr_base.specs.declared.stop.Stop.TheVariants.{Refused}
 use Rattle.sdr_model.specs.Things.{extent_need, source_need}
-use Rattle.zco_obj.specs.Amounts.{extent_amounts, source_space}
+use Rattle.zco_obj.specs.Amounts.{extent_amounts, use_amounts}
 use Rattle.zco_obj.specs.Appending.{HasPiece, MayName, OfRaw, OfSource}
 use Rattle.zco_obj.specs.Charging.{LacksBlock, LacksRoom, ObjectAllows, ObjectRefuses}
 use Rattle.zco_obj.specs.declared.extent.ExtentPiece.{ExtentPiece}
@@ -28,12 +28,12 @@ RangeRefused piece have stop = ⊥
 -- an extent may name this piece of a source, and the object's account allows its charge
 pub record SourceAllowed (object number : ℕ) (piece : ExtentPiece) (heap : Heap) (source : CountedSource) : Type 0 where
   pub may : MayName piece source
-  pub allows : ObjectAllows object number (extent_amounts (source_space source) piece.bytes) heap
+  pub allows : ObjectAllows object number (λ acct. use_amounts acct source) heap
 
 -- an extent may name it, and the object's account has this cause to refuse
 pub record SourceRefused (object number : ℕ) (piece : ExtentPiece) (heap : Heap) (refusal : Refusal) (source : CountedSource) : Type 0 where
   pub may : MayName piece source
-  pub refuses : ObjectRefuses object number (extent_amounts (source_space source) piece.bytes) heap refusal
+  pub refuses : ObjectRefuses object number (λ acct. use_amounts acct source) heap refusal
 
 -- the source isn't flagged, and the piece is refused for its range
 abbrev pub OutsideSource : ExtentPiece → Refusal → CountedSource → Type 0
@@ -59,12 +59,12 @@ SourceStops object number piece old new stop = OnlyFault stop
 -- a raw object of these bytes has the piece, and the object's account allows the charge
 pub record RawAllowed (object number : ℕ) (piece : ExtentPiece) (heap : Heap) (bytes : List ℕ) : Type 0 where
   pub has : HasPiece piece bytes
-  pub allows : ObjectAllows object number (extent_amounts spaces.Heap piece.bytes) heap
+  pub allows : ObjectAllows object number (λ acct. extent_amounts spaces.Heap (length bytes)) heap
 
 -- it has the piece, and the object's account has this cause to refuse
 pub record RawRefused (object number : ℕ) (piece : ExtentPiece) (heap : Heap) (refusal : Refusal) (bytes : List ℕ) : Type 0 where
   pub has : HasPiece piece bytes
-  pub refuses : ObjectRefuses object number (extent_amounts spaces.Heap piece.bytes) heap refusal
+  pub refuses : ObjectRefuses object number (λ acct. extent_amounts spaces.Heap (length bytes)) heap refusal
 
 -- want of the second of two blocks is noted, and no move was made before but that the first was taken
 pub record LacksSecond (first second missing : ℕ) (old new : Heap) : Type 0 where

@@ -12,7 +12,7 @@ use Rattle.sdr_base.specs.declared.medium.Medium.TheVariants as media
 use Rattle.sdr_base.specs.declared.moves.Move.TheVariants.{Took}
 use Rattle.sdr_model.specs.Things.{extent_need, source_need}
 use Rattle.sdr_model.specs.declared.accounts.Ticket.{Ticket}
-use Rattle.zco_obj.specs.Amounts.{extent_amounts, source_space}
+use Rattle.zco_obj.specs.Amounts.{extent_amounts, use_amounts}
 use Rattle.zco_obj.specs.Beside.{KeepsPair, KeepsWithRaw, KeepsWithSource}
 use Rattle.zco_obj.specs.Charging.{IsFree, Pays}
 use Rattle.zco_obj.specs.Extents.{extent_of, with_extent}
@@ -48,14 +48,14 @@ pub record MayName (piece : ExtentPiece) (source : CountedSource) : Type 0 where
   pub within : IsWithin piece source.row.length
 
 -- whichever object and source are kept, the object has an extent of this piece more, which is last, the source counts it, and
--- the object's account is charged for it
+-- the object's account is charged for it: for the source too, where no extent of the account named that
 pub record AppendsSource (object number : ℕ) (piece : ExtentPiece) (old new : Heap) : Type 0 where
   pub may : OfSource (MayName piece) object piece.of old
   pub addr : ℕ
   pub new_block : IsFree old.blocks addr
   pub pays : (row : ObjectRow) (tickets : List Ticket) (source : CountedSource) →
       KeepsWithSource old object row tickets piece.of source →
-      Pays row.account number (extent_amounts (source_space source) piece.bytes) tickets (Took extent_need addr ∷ [])
+      Pays row.account number (use_amounts row.account source) tickets (Took extent_need addr ∷ [])
       (object_entries object row ++ counted_entries piece.of source)
       (object_entries object (with_extent row (extent_of addr piece)) ++ counted_entries piece.of (attached row.account source)) old new
 
@@ -78,7 +78,7 @@ abbrev pub taking_over : ℕ → List ℕ → CountedSource
 taking_over raw bytes = unused (plain_row media.Heap raw (length bytes))
 
 -- whichever object and raw object are kept, a new source has taken that over, the object has an extent of this piece of it
--- more, which is last, the source counts it, and the object's account is charged for it
+-- more, which is last, the source counts it, and the object's account is charged for it and for the whole raw object
 pub record AppendsRaw (object number : ℕ) (piece : ExtentPiece) (old new : Heap) : Type 0 where
   pub may : OfRaw (HasPiece piece) object piece.of old
   pub source : ℕ
@@ -86,7 +86,7 @@ pub record AppendsRaw (object number : ℕ) (piece : ExtentPiece) (old new : Hea
   pub new_source : IsFree old.blocks source
   pub new_block : IsFree old.blocks addr
   pub pays : (row : ObjectRow) (tickets : List Ticket) (bytes : List ℕ) → KeepsWithRaw old object row tickets piece.of 0 bytes →
-      Pays row.account number (extent_amounts spaces.Heap piece.bytes) tickets
+      Pays row.account number (extent_amounts spaces.Heap (length bytes)) tickets
       (Took (source_need 0) source ∷ Took extent_need addr ∷ [])
       (object_entries object row ++ raw_entries piece.of 0 bytes)
       (object_entries object (with_extent row (extent_of addr (taken_piece source piece)))

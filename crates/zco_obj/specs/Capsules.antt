@@ -34,19 +34,19 @@ TextRefused count stop = ⊥
 pub record ChargesCapsule (object number : ℕ) (text : List ℕ) (old new : Heap) : Type 0 where
   pub kind : IsKind (old.blocks object) kinds.Object
   pub fits : IsCapsuleLength (length text)
-  pub charged : ChargesObject object number (capsule_amounts text) old new
+  pub charged : ChargesObject object number (λ acct. capsule_amounts text) old new
 
 -- an object stands there, this may be a header or trailer, and the account of whichever object is kept allows its charge
 pub record CapsuleAllowed (object number : ℕ) (text : List ℕ) (heap : Heap) : Type 0 where
   pub kind : IsKind (heap.blocks object) kinds.Object
   pub fits : IsCapsuleLength (length text)
-  pub allows : ObjectAllows object number (capsule_amounts text) heap
+  pub allows : ObjectAllows object number (λ acct. capsule_amounts text) heap
 
 -- the same, and the account has this cause to refuse
 pub record CapsuleRefused (object number : ℕ) (text : List ℕ) (heap : Heap) (refusal : Refusal) : Type 0 where
   pub kind : IsKind (heap.blocks object) kinds.Object
   pub fits : IsCapsuleLength (length text)
-  pub refuses : ObjectRefuses object number (capsule_amounts text) heap refusal
+  pub refuses : ObjectRefuses object number (λ acct. capsule_amounts text) heap refusal
 
 -- why no header or trailer comes: for the object, for the text, or since its account refuses, in this order, and all is as
 -- before; or there is no block for it, or no log room; or a fault

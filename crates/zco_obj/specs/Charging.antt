@@ -45,24 +45,24 @@ pub record Pays (acct : Acct) (number : ℕ) (amounts : Amounts) (tickets : List
   pub others : besides new
       ≡ besides (with_moves (with_occupied old acct (occupied_then old acct number amounts tickets)) moves)
 
--- the account of whichever object is kept is charged
-pub record ChargesObject (object number : ℕ) (amounts : Amounts) (old new : Heap) : Type 0 where
+-- the account of whichever object is kept is charged what is to be charged to that account
+pub record ChargesObject (object number : ℕ) (amounts : Acct → Amounts) (old new : Heap) : Type 0 where
   pub charges : (row : ObjectRow) (tickets : List Ticket) → KeepsWithQueue old object row tickets →
-      ChargesAccount row.account number amounts old new
+      ChargesAccount row.account number (amounts row.account) old new
 
--- the account of whichever object is kept allows a charge
-pub record ObjectAllows (object number : ℕ) (amounts : Amounts) (heap : Heap) : Type 0 where
+-- the account of whichever object is kept allows what is to be charged to it
+pub record ObjectAllows (object number : ℕ) (amounts : Acct → Amounts) (heap : Heap) : Type 0 where
   pub allows : (row : ObjectRow) (tickets : List Ticket) → KeepsWithQueue heap object row tickets →
-      refusal_in heap row.account number amounts tickets ≡ None
+      refusal_in heap row.account number (amounts row.account) tickets ≡ None
 
 -- the account of whichever object is kept has this cause to refuse
-pub record ObjectRefuses (object number : ℕ) (amounts : Amounts) (heap : Heap) (refusal : Refusal) : Type 0 where
+pub record ObjectRefuses (object number : ℕ) (amounts : Acct → Amounts) (heap : Heap) (refusal : Refusal) : Type 0 where
   pub refuses : (row : ObjectRow) (tickets : List Ticket) → KeepsWithQueue heap object row tickets →
-      refusal_in heap row.account number amounts tickets ≡ Some refusal
+      refusal_in heap row.account number (amounts row.account) tickets ≡ Some refusal
 
 -- why an object's account isn't charged: it refuses, and all is as before; or there is no log room, and no move was made; or
 -- a fault
-abbrev pub ObjectChargeStops : ℕ → ℕ → Amounts → Heap → Heap → Stop → Type 0
+abbrev pub ObjectChargeStops : ℕ → ℕ → (Acct → Amounts) → Heap → Heap → Stop → Type 0
 ObjectChargeStops object number amounts old new (Refused (refusals.LogFull lines room)) =
     ObjectAllows object number amounts old × IsUnmoved old new
 ObjectChargeStops object number amounts old new (Refused refusal) =

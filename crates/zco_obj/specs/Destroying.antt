@@ -4,20 +4,18 @@ use Rattle.sdr_base.specs.Blocks.{Blocks, IsKind}
 use Rattle.sdr_base.specs.Entries.{Changes, Entries, BlocksAre}
 use Rattle.sdr_base.specs.Making.{GaveSome, Made, besides, gave, with_moves}
 use Rattle.sdr_base.specs.Objects.{Heap, Misses, OnlyFault}
-use Rattle.sdr_base.specs.ZcoObjects.{CapsuleRow, ObjectRow, capsule_addr, object_block, object_entries}
+use Rattle.sdr_base.specs.ZcoObjects.{ObjectRow, capsule_addr, object_block, object_entries}
 use Rattle.sdr_base.specs.declared.account.Amounts.{Amounts}
 use Rattle.sdr_base.specs.declared.kind.Kind.TheVariants as kinds
-use Rattle.sdr_base.specs.declared.kind.Space.{Space}
-use Rattle.sdr_base.specs.declared.kind.Space.TheVariants as spaces
 use Rattle.sdr_base.specs.declared.refusal.Refusal.TheVariants as refusals
 use Rattle.sdr_base.specs.declared.stop.Stop.{Stop}
 use Rattle.sdr_base.specs.declared.stop.Stop.TheVariants.{Refused}
-use Rattle.sdr_model.specs.Amounts.{amounts_by, in_space, minus}
-use Rattle.sdr_model.specs.Charges.{capsule_bytes, object_bytes}
+use Rattle.sdr_model.specs.Amounts.{minus, plus}
 use Rattle.zco_acct.specs.Words.{occupied_in, with_occupied}
-use Rattle.zco_obj.specs.Amounts.{charge_of}
+use Rattle.zco_obj.specs.Amounts.{heap_amounts, object_amounts}
 use Rattle.zco_obj.specs.Uses.{AreNamed, uses_lines}
-use Rattle.zco_obj.specs.Gone.{NamedSource, extent_row_charge, gone_blocks, sources_entries, sources_left}
+use Rattle.zco_obj.specs.Giving.{capsules_charge}
+use Rattle.zco_obj.specs.Gone.{NamedSource, extents_amounts, gone_blocks, sources_entries, sources_left}
 use Rattle.zco_obj.specs.Kept.{ObjectFits}
 
 -- these blocks keep an object, and the sources that its extents name beside it
@@ -48,27 +46,21 @@ pub record SomeWithSources (heap : Heap) (object : ℕ) : Type 0 where
 abbrev pub IsWithSources : Heap → ℕ → Type 0
 IsWithSources heap object = IsKind (heap.blocks object) kinds.Object → SomeWithSources heap object
 
--- what a header or trailer charges of a space
-abbrev pub capsule_row_charge : Space → CapsuleRow → ℕ
-capsule_row_charge space c = in_space spaces.Heap (capsule_bytes (length c.text)) space
-
--- what the parts of an object charge, where it charges so much of each space for itself
-abbrev pub charges_with : (Space → ℕ) → ObjectRow → List NamedSource → Amounts
-charges_with own row sources = amounts_by (λ space. charge_of (own space) (extent_row_charge sources space) (capsule_row_charge space) row)
-
--- what the parts of an object charge
+-- what the parts of an object charge no more once they are gone
 abbrev pub parts_amounts : ObjectRow → List NamedSource → Amounts
-parts_amounts row sources = charges_with (λ space. 0) row sources
+parts_amounts row sources =
+    plus (extents_amounts row.account sources row.extents)
+    (heap_amounts (capsules_charge row.headers + capsules_charge row.trailers))
 
--- what an object charges, with its parts
+-- what an object charges no more once it is gone, with its parts
 abbrev pub charges_of : ObjectRow → List NamedSource → Amounts
-charges_of row sources = charges_with (in_space spaces.Heap object_bytes) row sources
+charges_of row sources = plus (parts_amounts row sources) object_amounts
 
 -- so many lines are touched at most where the parts of an object go
 abbrev pub parts_lines : ObjectRow → List NamedSource → ℕ
 parts_lines row sources = 24 * length row.headers + uses_lines row.extents sources + 24 * length row.trailers
 
--- the parts of an object were given back, with what goes with its extents; this is what they charged, and its own block and
+-- the parts of an object were given back, with what goes with its extents; this is what is charged less, and its own block and
 -- the others stand
 pub record PartsGone (object : ℕ) (row : ObjectRow) (sources : List NamedSource) (rest : Entries) (old new : Heap) (charged : Amounts)
     : Type 0 where
@@ -93,7 +85,7 @@ PartStops object old new (Refused (refusals.LogFull lines room)) = GivesSomePart
 PartStops object old new stop = OnlyFault stop
 
 -- an object is gone with its parts, its sources count its extents no more, and those that go with their last extent are gone;
--- what it charged was given back, and all else stays
+-- what is charged less was given back, and all else stays
 pub record ObjectGone (object : ℕ) (row : ObjectRow) (sources : List NamedSource) (old new : Heap) : Type 0 where
   pub changes : Changes old.blocks new.blocks (object_entries object row ++ sources_entries sources)
       (sources_left row.account row.extents sources)

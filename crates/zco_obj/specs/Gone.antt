@@ -1,13 +1,13 @@
--- The sources that an object's extents name, and what goes with the extents.
-use Rattle.std.specs.Prelude.{ℕ, ◌-◌, ◌==◌, ◌&&◌, Bool, List, [], ◌∷◌, ◌++◌, nat_lt, sum_by, flat_map, find, Option, None, Some, if◌then◌else◌}
+-- The sources that an object's extents name, and what goes with the extents, or is charged no more.
+use Rattle.std.specs.Prelude.{ℕ, ◌+◌, ◌-◌, ◌*◌, ◌==◌, ◌&&◌, Bool, List, [], ◌∷◌, ◌++◌, length, nat_lt, sum_by, flat_map, find, Option, None, Some, if◌then◌else◌}
 use Rattle.sdr_base.specs.Entries.{Entries}
 use Rattle.sdr_base.specs.ZcoObjects.{ExtentRow}
 use Rattle.sdr_base.specs.declared.account.Acct.{Acct}
 use Rattle.sdr_base.specs.declared.account.Amounts.{Amounts}
 use Rattle.sdr_base.specs.declared.kind.Space.{Space}
 use Rattle.sdr_base.specs.declared.kind.Space.TheVariants as spaces
-use Rattle.sdr_model.specs.Amounts.{amounts_by}
-use Rattle.sdr_model.specs.Charges.{bytes_charge}
+use Rattle.sdr_model.specs.Amounts.{amounts_by, in_space}
+use Rattle.sdr_model.specs.Charges.{extent_bytes}
 use Rattle.zco_obj.specs.Amounts.{source_space}
 use Rattle.zco_ref.specs.Counting.{with_count}
 use Rattle.zco_ref.specs.Going.{gone_with, is_passing, blocks_left}
@@ -67,15 +67,16 @@ abbrev pub gone_blocks : List NamedSource → List ExtentRow → List ExtentRow 
 gone_blocks sources all [] = []
 gone_blocks sources all (e ∷ es) = going_before all es (source_at e.source sources) ++ e.addr ∷ gone_blocks sources all es
 
--- the space that the bytes of a source are in; heap space where there is no such source
-abbrev pub space_in : Option NamedSource → Space
-space_in None = spaces.Heap
-space_in (Some s) = source_space s.source
+-- what a source charges an account no more of a space once these extents of it are gone: its bytes, where these are all of the
+-- account's that name it
+abbrev pub source_less : Acct → List ExtentRow → Space → NamedSource → ℕ
+source_less acct extents space s =
+    if nat_lt 0 (naming s.addr extents) && count_in acct s.source == naming s.addr extents
+    then in_space (source_space s.source) s.source.row.length space else 0
 
--- what an extent charges of a space
-abbrev pub extent_row_charge : List NamedSource → Space → ExtentRow → ℕ
-extent_row_charge sources space e = bytes_charge (space_in (source_at e.source sources)) e.length space
-
--- what these extents charge
-abbrev pub extents_amounts : List NamedSource → List ExtentRow → Amounts
-extents_amounts sources extents = amounts_by (λ space. sum_by (extent_row_charge sources space) extents)
+-- what these extents of an account charge no more once they are gone: themselves, and the sources that no other extent of it
+-- names
+abbrev pub extents_amounts : Acct → List NamedSource → List ExtentRow → Amounts
+extents_amounts acct sources extents =
+    amounts_by (λ space.
+    in_space spaces.Heap (extent_bytes * length extents) space + sum_by (source_less acct extents space) sources)

@@ -13,7 +13,7 @@ use Rattle.sdr_base.specs.declared.refusal.Refusal.TheVariants as refusals
 use Rattle.sdr_base.specs.declared.stop.Stop.{Stop}
 use Rattle.sdr_base.specs.declared.stop.Stop.TheVariants.{Refused}
 use Rattle.sdr_model.specs.Limits.{longest_source}
-use Rattle.zco_obj.specs.Amounts.{extent_amounts, source_space}
+use Rattle.zco_obj.specs.Amounts.{last_amounts}
 use Rattle.zco_obj.specs.Gone.{NamedSource, extents_amounts, gone_blocks, naming, source_at, sources_entries, sources_left}
 use Rattle.zco_obj.specs.Kept.{ExtentFits}
 use Rattle.zco_obj.specs.declared.destroying.GivenExtent.{GivenExtent}
@@ -49,13 +49,13 @@ abbrev pub left_next : Acct → ℕ → CountedSource → List ℕ → Entries
 left_next acct addr source bytes =
     if goes_next source then blocks_left source.row.medium source.row.subject bytes else tied_entries addr (detached acct source) bytes
 
--- the extent was given back, and before it what goes with it; this is what it charged, and the next one
+-- the extent was given back, and before it what goes with it; this is what is charged less, and the next one
 pub record UseGone (acct : Acct) (extent next : ℕ) (e : ExtentRow) (source : CountedSource) (bytes : List ℕ) (old new : Heap)
     (given : GivenExtent) : Type 0 where
   pub changes : Changes old.blocks new.blocks ((extent, extent_block 0 next e) ∷ tied_entries e.source source bytes)
       (left_next acct e.source source bytes)
   pub made : Made (gave (gone_next e.source source ++ extent ∷ [])) old new
-  pub charge : given.charged ≡ extent_amounts (source_space source) e.length
+  pub charge : given.charged ≡ last_amounts acct source
   pub is_next : given.next ≡ next
 
 -- so it is with whichever stands there
@@ -110,12 +110,12 @@ pub record SomeUses (acct : Acct) (heap : Heap) (first : ℕ) : Type 0 where
 abbrev pub uses_lines : List ExtentRow → List NamedSource → ℕ
 uses_lines extents sources = 24 * length (gone_blocks sources extents extents) + 4 * length extents
 
--- these extents were given back, each after what goes with it; this is what they charged, and the other blocks stand
+-- these extents were given back, each after what goes with it; this is what is charged less, and the other blocks stand
 pub record ExtentsGone (acct : Acct) (extents : List ExtentRow) (sources : List NamedSource) (rest : Entries) (old new : Heap)
     (charged : Amounts) : Type 0 where
   pub stands : BlocksAre new.blocks (sources_left acct extents sources ++ rest)
   pub made : Made (gave (gone_blocks sources extents extents)) old new
-  pub charge : charged ≡ extents_amounts sources extents
+  pub charge : charged ≡ extents_amounts acct sources extents
 
 -- so it is with whichever are a chain there
 pub record GivesExtents (acct : Acct) (first : ℕ) (old new : Heap) (charged : Amounts) : Type 0 where

@@ -13,15 +13,17 @@ ghost use Rattle.zco_obj.specs.Appending.{NamesSource};
 ghost use Rattle.zco_obj.specs.AppendStops.{RangeRefused, RawPieceStops, SourceStops};
 ghost use Rattle.zco_obj.specs.Beside.{IsWithRaw, IsWithSource, SomePair, SomeWithRaw, SomeWithSource};
 
-use crate::charging::{charge_object, extent_amounts};
+use crate::charging::{charge_object, extent_amounts, naming_amounts};
 use crate::extent::{ExtentPiece, add_extent};
 use crate::object::account;
 use crate::seeing::see_source;
 use sdr_base::{Addr, Kind, Objects, Refusal, Space, Stop, expect_kind};
-use zco_ref::{attach, expect_unnamed, heap_source};
+use zco_acct::charge;
+use zco_ref::{attach, count_in, expect_unnamed, heap_source};
 
-/// Puts a part of a source behind an object's extents, and charges the object's account for it. Of a
-/// raw object, which no source may name, a source of its own is made first, which takes it over.
+/// Puts a part of a source behind an object's extents, and charges the object's account for it: for the
+/// whole source too, where no extent of the account named that. Of a raw object, which no source may
+/// name, a source of its own is made first, which takes it over.
 /// The object's part grows where it reached the end of what was there. What is left of the grant of
 /// the ticket of this number covers what it can; 0 is no ticket.
 #[tactic(auto, using(sdr_base::proofs::LeavingLemmas::leaving))]
@@ -60,7 +62,8 @@ pub fn append_extent<O: Objects>(
     }
 }
 
-// Puts a part of a source behind an object's extents, and charges the object's account for it.
+// Puts a part of a source behind an object's extents, and charges the object's account for it: for the
+// whole source too, where no extent of the account named that.
 #[tactic(auto, using(sdr_base::proofs::LeavingLemmas::leaving))]
 fn append_source<O: Objects>(
     o: &mut O,
@@ -83,12 +86,14 @@ fn append_source<O: Objects>(
         return Err(Stop::Refused(Refusal::NotFound));
     }
     check_range(piece, seen.bytes)?;
-    charge_object(o, object, ticket, &extent_amounts(seen.space, piece.bytes))?;
+    let acct = account(o, object)?;
+    let count = count_in(o, piece.of, acct)?;
+    charge(o, acct, ticket, &naming_amounts(seen, count == 0))?;
     name_source(o, object, piece)
 }
 
-// Puts a part of a raw object behind an object's extents, whose account is charged for it. A source
-// takes the raw object over before.
+// Puts a part of a raw object behind an object's extents, whose account is charged for it and for the
+// whole raw object. A source takes the raw object over before.
 #[tactic(auto, using(sdr_base::proofs::LeavingLemmas::leaving))]
 fn append_raw<O: Objects>(
     o: &mut O,
@@ -110,7 +115,7 @@ fn append_raw<O: Objects>(
 {
     let have = expect_unnamed(o, piece.of)?;
     check_range(piece, have)?;
-    charge_object(o, object, ticket, &extent_amounts(Space::Heap, piece.bytes))?;
+    charge_object(o, object, ticket, &extent_amounts(Space::Heap, have))?;
     let source = heap_source(o, piece.of)?;
     name_source(
         o,

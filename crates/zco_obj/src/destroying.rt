@@ -18,15 +18,15 @@ ghost use Rattle.zco_obj.specs.Gone.{NamedSource};
 ghost use Rattle.zco_obj.specs.Reading.{Tells};
 ghost use Rattle.zco_obj.specs.Walks.{CapsulesAt};
 
-use crate::charging::{capsule_bytes, extent_amounts, heap_amounts};
+use crate::charging::{capsule_bytes, heap_amounts, naming_amounts};
 use crate::object::{OBJECT_BYTES, account, first_parts};
 use crate::seeing::{TOO_MANY_PARTS, see_capsule, see_extent, see_source};
 use sdr_base::{Acct, Addr, Amounts, Kind, Objects, Stop, check_failed, expect_kind};
 use sdr_model::amounts::{NOTHING, plus};
 use zco_acct::release;
-use zco_ref::detach;
+use zco_ref::{count_in, detach};
 
-// What an extent that was given back charged, and the address of the next one, 0 for none.
+// What is charged less for an extent that was given back, and the address of the next one, 0 for none.
 #[derive(Clone, Copy)]
 struct GivenExtent {
     charged: Amounts,
@@ -34,8 +34,9 @@ struct GivenExtent {
 }
 
 /// Gives an object back: its headers, its extents, its trailers, and then its own block; and to its
-/// account what they charged. A source that has taken over a raw object, or is flagged, goes with
-/// the last extent that names it, before that, and before it the raw object that it has taken over.
+/// account what they charged, and what the sources did that no other extent of it names. A source that
+/// has taken over a raw object, or is flagged, goes with the last extent that names it, before that,
+/// and before it the raw object that it has taken over.
 /// It is linear in the parts, and doesn't serve the account's queue.
 #[tactic(auto, using(sdr_base::proofs::LeavingLemmas::leaving))]
 pub fn destroy<O: Objects>(o: &mut O, object: Addr) -> Result<(), Stop>
@@ -57,7 +58,7 @@ pub fn destroy<O: Objects>(o: &mut O, object: Addr) -> Result<(), Stop>
     release(o, acct, &plus(&parts, &heap_amounts(OBJECT_BYTES)))
 }
 
-// Gives the parts of an object back, and answers what they charged.
+// Gives the parts of an object back, and answers what is charged less.
 #[tactic(auto, using(sdr_base::proofs::LeavingLemmas::wanting))]
 fn give_parts<O: Objects>(o: &mut O, object: Addr, acct: Acct) -> Result<Amounts, Stop>
     requires kept { KeepsSome (O.keeps o.old) }
@@ -106,8 +107,9 @@ fn give_capsules<O: Objects>(o: &mut O, first: Addr) -> Result<u64, Stop>
     Ok(charged)
 }
 
-/// Gives the extents of a chain back, each after what goes with it, and answers what they charged.
-/// At most their blocks and those of their sources go. It is linear in the extents.
+/// Gives the extents of a chain back, each after what goes with it, and answers what is charged less:
+/// what they charged, and the sources that no other extent of the account names. At most their blocks
+/// and those of their sources go. It is linear in the extents.
 #[tactic(auto, using(sdr_base::proofs::LeavingLemmas::wanting))]
 pub fn give_extents<O: Objects>(o: &mut O, acct: Acct, first: Addr) -> Result<Amounts, Stop>
     requires kept { KeepsSome (O.keeps o.old) }
@@ -149,10 +151,11 @@ fn give_extent<O: Objects>(o: &mut O, acct: Acct, extent: Addr) -> Result<GivenE
 {
     let seen = see_extent(o, extent)?;
     let source = see_source(o, seen.source)?;
+    let count = count_in(o, seen.source, acct)?;
     detach(o, seen.source, acct)?;
     o.give(extent)?;
     Ok(GivenExtent {
-        charged: extent_amounts(source.space, seen.length),
+        charged: naming_amounts(source, count == 1),
         next: seen.next,
     })
 }

@@ -8,7 +8,9 @@
 //!    chain.
 //! 4. An extent names a part of a source, which counts it among those of the object's account. It
 //!    comes behind the others. Of a raw object a source is made first, which takes it over.
-//! 5. An object goes after its parts, which go in the order of its chains. A source that goes with
+//! 5. The first extent of an account that names a source charges the whole source, and the last one of
+//!    them gives that back: each extent charges its own block beside.
+//! 6. An object goes after its parts, which go in the order of its chains. A source that goes with
 //!    its last extent goes before that, and before it the raw object that it has taken over.
 //!
 //! Proved: objects are made, filled, measured and destroyed as their rows say (`made`, `added`, `appended`,
@@ -35,7 +37,7 @@ mod summing;
 pub use adding::{append_trailer, prepend_header};
 pub use appending::append_extent;
 pub use capsule::TEXT_FROM;
-pub use charging::{capsule_bytes, charge_object, extent_amounts, heap_amounts};
+pub use charging::{EXTENT_BYTES, capsule_bytes, charge_object, extent_amounts, heap_amounts};
 pub use destroying::{destroy, give_extents};
 pub use discarding::{discard_first_header, discard_last_trailer};
 pub use extent::{ExtentPiece, link_extent};

@@ -19,11 +19,12 @@ use Rattle.zco_obj.specs.Beside.{KeepsBeside}
 use Rattle.zco_obj.specs.Charging.{IsFree, Pays, refusal_in}
 use Rattle.zco_obj.specs.Gone.{NamedSource, sources_entries}
 use Rattle.zco_obj.specs.Kept.{KeepsObject}
+use Rattle.zco_obj.specs.Walks.{ExtentsAt}
 use Rattle.zco_part.specs.Charging.{clone_amounts}
 use Rattle.zco_part.specs.Copying.{parts, takes_extents}
 use Rattle.zco_part.specs.Delimiting.{OfObject}
 use Rattle.zco_part.specs.Pieces.{asked, extents_at, whole_row}
-use Rattle.zco_part.specs.Sources.{AreCountable, ExtentsBeside, all_counted}
+use Rattle.zco_part.specs.Sources.{AreCountable, all_counted}
 use Rattle.zco_part.specs.declared.cloning.Asked.{Asked}
 
 -- the heap keeps an object with its queue, and beside them the sources that its extents name, each of which may count more
@@ -44,10 +45,10 @@ abbrev pub IsToClone : Heap → ℕ → ℕ → ℕ → Type 0
 IsToClone heap object offset bytes = IsKind (heap.blocks object) kinds.Object → SomeToClone heap object offset bytes
 
 -- an object stands there, and P holds of whichever is kept with its queue and its sources
-pub record OfCloned (P : ObjectRow → List Ticket → List NamedSource → Type 0) (object : ℕ) (heap : Heap) : Type 0 where
+pub record OfCloned (P : ObjectRow → List Ticket → Type 0) (object : ℕ) (heap : Heap) : Type 0 where
   pub kind : IsKind (heap.blocks object) kinds.Object
   pub holds : (row : ObjectRow) (tickets : List Ticket) (sources : List NamedSource) →
-      KeepsToClone heap object row tickets sources → P row tickets sources
+      KeepsToClone heap object row tickets sources → P row tickets
 
 -- so many bytes are one at least, and lie within the part, from a place in it on
 pub record HasRange (offset bytes : ℕ) (row : ObjectRow) : Type 0 where
@@ -72,36 +73,36 @@ pub record SeesAsked (blocks : Blocks) (object offset bytes : ℕ) (seen : Asked
 
 -- the account is charged for an object of what is asked for, whichever chain is there
 pub record ChargesClone (acct : Acct) (number : ℕ) (seen : Asked) (old new : Heap) : Type 0 where
-  pub charges : (extents : List ExtentRow) (sources : List NamedSource) → ExtentsBeside old.blocks seen.first extents sources →
-      ChargesAccount acct number (clone_amounts sources (parts seen.span extents)) old new
+  pub charges : (extents : List ExtentRow) → ExtentsAt old.blocks seen.first extents →
+      ChargesAccount acct number (clone_amounts (parts seen.span extents)) old new
 
 -- or why it isn't
 pub record StopsClone (acct : Acct) (number : ℕ) (seen : Asked) (old new : Heap) (stop : Stop) : Type 0 where
-  pub stops : (extents : List ExtentRow) (sources : List NamedSource) → ExtentsBeside old.blocks seen.first extents sources →
-      ChargeStops acct number (clone_amounts sources (parts seen.span extents)) old new stop
+  pub stops : (extents : List ExtentRow) → ExtentsAt old.blocks seen.first extents →
+      ChargeStops acct number (clone_amounts (parts seen.span extents)) old new stop
 
 -- the part has the range, and the object's account allows an object of it
-abbrev pub CloneAllowed : ℕ → ℕ → ℕ → Heap → ObjectRow → List Ticket → List NamedSource → Type 0
-CloneAllowed number offset bytes heap row tickets sources =
+abbrev pub CloneAllowed : ℕ → ℕ → ℕ → Heap → ObjectRow → List Ticket → Type 0
+CloneAllowed number offset bytes heap row tickets =
     HasRange offset bytes row
-    × (refusal_in heap row.account number (clone_amounts sources (asked offset bytes row)) tickets ≡ None)
+    × (refusal_in heap row.account number (clone_amounts (asked offset bytes row)) tickets ≡ None)
 
 -- the part has the range, and the account has this cause to refuse an object of it
-abbrev pub CloneRefused : ℕ → ℕ → ℕ → Refusal → Heap → ObjectRow → List Ticket → List NamedSource → Type 0
-CloneRefused number offset bytes refusal heap row tickets sources =
+abbrev pub CloneRefused : ℕ → ℕ → ℕ → Refusal → Heap → ObjectRow → List Ticket → Type 0
+CloneRefused number offset bytes refusal heap row tickets =
     HasRange offset bytes row
-    × (refusal_in heap row.account number (clone_amounts sources (asked offset bytes row)) tickets ≡ Some refusal)
+    × (refusal_in heap row.account number (clone_amounts (asked offset bytes row)) tickets ≡ Some refusal)
 
 -- the moves of a clone whose own block has an address, and whose extents' blocks have these
 abbrev pub takes_clone : ℕ → List ℕ → List Move
 takes_clone clone addrs = Took object_need clone ∷ takes_extents addrs
 
 -- of an object there is a clone now: an object of the same account, whose extents are the pieces asked for, each in a block of
--- its own, and whose part is its whole; the account was charged for it, and its sources count its extents
+-- its own, and whose part is its whole; the account was charged for its blocks, and its sources count its extents
 pub record IsCloned (object number offset bytes clone : ℕ) (addrs : List ℕ) (old new : Heap) (row : ObjectRow) (tickets : List Ticket)
     (sources : List NamedSource) : Type 0 where
   pub each : length addrs ≡ length (asked offset bytes row)
-  pub pays : Pays row.account number (clone_amounts sources (asked offset bytes row)) tickets (takes_clone clone addrs)
+  pub pays : Pays row.account number (clone_amounts (asked offset bytes row)) tickets (takes_clone clone addrs)
       (object_entries object row ++ sources_entries sources)
       (object_entries clone (whole_row row.account (extents_at addrs (asked offset bytes row)))
       ++ (object_entries object row ++ sources_entries (all_counted row.account (asked offset bytes row) sources))) old new
@@ -129,14 +130,14 @@ next_need (clone ∷ addrs) = extent_need
 pub record LacksNext (object offset bytes missing : ℕ) (old new : Heap) : Type 0 where
   pub addrs : List ℕ
   pub is : missing ≡ next_need addrs
-  pub few : OfCloned (λ row tickets sources. length addrs < 1 + length (asked offset bytes row)) object old
+  pub few : OfCloned (λ row tickets. length addrs < 1 + length (asked offset bytes row)) object old
   pub moves : new.moves ≡ old.moves ++ (takes_first addrs ++ Short missing ∷ [])
   pub spare : new.spare ≡ old.spare - (length addrs + 1)
 
 -- some first blocks of a clone at most were taken, and no other move was made
 pub record TookFirst (object offset bytes : ℕ) (old new : Heap) : Type 0 where
   pub addrs : List ℕ
-  pub few : OfCloned (λ row tickets sources. length addrs ≤ 1 + length (asked offset bytes row)) object old
+  pub few : OfCloned (λ row tickets. length addrs ≤ 1 + length (asked offset bytes row)) object old
   pub moves : new.moves ≡ old.moves ++ takes_first addrs
   pub spare : new.spare ≡ old.spare - length addrs
 

@@ -38,18 +38,3 @@ pub record MayCount (s : NamedSource) : Type 0 where
 pub record AreCountable (extents : List ExtentRow) (sources : List NamedSource) : Type 0 where
   pub there : All (λ e. IsThere (source_at e.source sources)) extents
   pub counted : All MayCount sources
-
--- extents are a chain there, and their sources stand beside
-pub record ExtentsBeside (blocks : Blocks) (first : ℕ) (extents : List ExtentRow) (sources : List NamedSource) : Type 0 where
-  pub rest : Entries
-  pub stands : BlocksAre blocks (sources_entries sources ++ (extent_entries extents ++ rest))
-  pub at_first : first ≡ first_of extent_addr 0 extents
-  pub fits : All ExtentFits extents
-  pub few : length extents < 2 ^ 22
-  pub may : AreCountable extents sources
-
--- some are
-pub record SomeExtentsBeside (blocks : Blocks) (first : ℕ) : Type 0 where
-  pub extents : List ExtentRow
-  pub sources : List NamedSource
-  pub is : ExtentsBeside blocks first extents sources

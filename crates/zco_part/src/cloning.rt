@@ -10,20 +10,19 @@ ghost use Rattle.sdr_base.specs.declared.kind.Kind.TheVariants as kinds;
 ghost use Rattle.sdr_model.specs.declared.accounts.Ticket.{Ticket};
 ghost use Rattle.zco_acct.specs.Kept.{SomeQueue};
 ghost use Rattle.zco_obj.specs.Gone.{NamedSource};
+ghost use Rattle.zco_obj.specs.Walks.{SomeExtents};
 ghost use Rattle.zco_part.specs.Cloning.{ChargesClone, ClonesPart, CloneStops, HasRange, IsBad};
 ghost use Rattle.zco_part.specs.Cloning.{IsToClone, KeepsToClone, SeesAsked, SomeToClone, StopsClone};
 ghost use Rattle.zco_part.specs.Delimiting.{OfObject};
 ghost use Rattle.zco_part.specs.Pieces.{asked};
-ghost use Rattle.zco_part.specs.Sources.{SomeExtentsBeside};
 
-use crate::charging::chain_charge;
+use crate::charging::count_pieces;
 use crate::copying::copy_chain;
 use crate::span::Span;
 use sdr_base::layout::object as words;
 use sdr_base::{Acct, Addr, Kind, Objects, Refusal, Stop, expect_kind, word};
-use sdr_model::amounts::plus;
 use zco_acct::charge;
-use zco_obj::{OBJECT_BYTES, account, heap_amounts, make_object};
+use zco_obj::{EXTENT_BYTES, OBJECT_BYTES, account, heap_amounts, make_object};
 
 // Where the extents of an object begin, 0 for none, and the places of their bytes that are asked for.
 #[derive(Clone, Copy)]
@@ -34,8 +33,9 @@ struct Asked {
 
 /// Makes an object of so many bytes of an object's part, from a place in it on, in the same account:
 /// its extents name the same sources, which count them, and its part is its whole. The account is
-/// charged for it. What is left of the grant of the ticket of this number covers what it can; 0 is no
-/// ticket. It is linear in the extents, and copies none of their bytes.
+/// charged for its blocks: it is charged for the sources already. What is left of the grant of the
+/// ticket of this number covers what it can; 0 is no ticket. It is linear in the extents, and copies
+/// none of their bytes.
 ///
 /// It is refused `BadAddress` or `WrongKind` where the object isn't there, `BadRange` for no byte or
 /// more than its part has from the place on, `BadTicket`, `NotAwarded`, `Queue` or `NoSpace` by the
@@ -133,23 +133,23 @@ fn see_asked<O: Objects>(o: &mut O, object: Addr, offset: u64, bytes: u64) -> Re
     })
 }
 
-// Charges an account for an object of what is asked for.
+// Charges an account for the blocks of an object of what is asked for.
 #[tactic(auto, using(sdr_base::proofs::LeavingLemmas::leaving))]
 fn charge_clone<O: Objects>(o: &mut O, acct: Acct, ticket: u64, asked: Asked) -> Result<(), Stop>
     requires kept { KeepsSome (O.keeps o.old) }
     requires queue { SomeQueue (O.heap o.old) acct }
-    requires chain { SomeExtentsBeside (O.heap o.old).blocks asked.first }
+    requires chain { SomeExtents (O.heap o.old).blocks asked.first }
     ensures charged { OnOk result
         (ChargesClone acct ticket asked (O.heap o.old) (O.heap o.new)) }
     ensures refused { IfErr result (StopsClone acct ticket asked (O.heap o.old) (O.heap o.new)) }
     ensures untouched { IfErr result (LeavesTouched (O.transaction o.old) (O.transaction o.new)) }
     ensures works { Spends O.HasHeap 5 o.old o.new result }
 {
-    let extents = chain_charge(o, asked.first, asked.span)?;
+    let extents = count_pieces(o, asked.first, asked.span)?;
     charge(
         o,
         acct,
         ticket,
-        &plus(&extents, &heap_amounts(OBJECT_BYTES)),
+        &heap_amounts(OBJECT_BYTES + EXTENT_BYTES * extents),
     )
 }

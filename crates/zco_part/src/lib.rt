@@ -5,7 +5,7 @@
 //!    sources, cut at the ends of the range, and its part is its whole. No byte is copied: each
 //!    source counts its extents more.
 //! 3. All that may be refused is tested, and the account is charged, before a block is taken. So the
-//!    chain of extents is walked twice: for what it charges, and then for what it names.
+//!    chain of extents is walked twice: for how many are named, and then for what is.
 //! 4. The clone's own block comes first, and then its extents' in order, each behind the others.
 //!
 //! Proved: `delimit` sets the two words of an object's part (`delimited`). `clone_part` makes an object whose

@@ -8,14 +8,12 @@ use Rattle.sdr_base.specs.Objects.{Heap, Misses, OnlyFault}
 use Rattle.sdr_base.specs.ZcoObjects.{ObjectRow, extent_addr, extent_entries, object_entries}
 use Rattle.sdr_base.specs.declared.account.Amounts.{Amounts}
 use Rattle.sdr_base.specs.declared.kind.Kind.TheVariants as kinds
-use Rattle.sdr_base.specs.declared.kind.Space.{Space}
 use Rattle.sdr_base.specs.declared.refusal.Refusal.TheVariants as refusals
 use Rattle.sdr_base.specs.declared.stop.Stop.{Stop}
 use Rattle.sdr_base.specs.declared.stop.Stop.TheVariants.{Refused}
-use Rattle.sdr_model.specs.Amounts.{amount, minus}
+use Rattle.sdr_model.specs.Amounts.{minus}
 use Rattle.zco_acct.specs.Words.{occupied_in, with_occupied}
-use Rattle.zco_strip.specs.Chain.{charged_of}
-use Rattle.zco_strip.specs.Cuts.{HaveBytes, inside, outside, part_end, stripped}
+use Rattle.zco_strip.specs.Cuts.{HaveBytes, outside, part_end, stripped}
 use Rattle.zco_strip.specs.declared.chain.Parted.{Parted}
 use Rattle.zco_strip.specs.declared.stripping.Span.{Span}
 use Rattle.zco_obj.specs.Destroying.{KeepsSources}
@@ -53,24 +51,21 @@ pub record IsSpan (row : ObjectRow) (span : Span) : Type 0 where
 pub record TellsSpan (blocks : Blocks) (object : ℕ) (span : Span) : Type 0 where
   pub told : (row : ObjectRow) → KeepsObject blocks object row → IsSpan row span
 
--- an object is cut to its part, and the extents outside are a chain of their own; so much less the extents charge than they did
-pub record ObjectCut (object : ℕ) (row : ObjectRow) (sources : List NamedSource) (old new : Heap) (parted : Parted) : Type 0 where
+-- an object is cut to its part, and the extents outside are a chain of their own
+pub record ObjectCut (object : ℕ) (row : ObjectRow) (old new : Heap) (parted : Parted) : Type 0 where
   pub changes : Changes old.blocks new.blocks (object_entries object row)
       (object_entries object (stripped row) ++ extent_entries (outside row))
   pub at_out : parted.out ≡ first_of extent_addr 0 (outside row)
-  pub charge : (space : Space) → amount parted.freed space
-      + (charged_of sources (inside row) space + charged_of sources (outside row) space)
-      ≡ charged_of sources row.extents space
 
 -- so it is with whichever object is kept; and all else stays
 pub record CutsObject (object : ℕ) (old new : Heap) (parted : Parted) : Type 0 where
   pub cuts : (row : ObjectRow) (sources : List NamedSource) → KeepsToStrip old.blocks object row sources →
-      ObjectCut object row sources old new parted
+      ObjectCut object row old new parted
   pub same : besides new ≡ besides old
 
--- what an object charges less once it is cut to its part: what its extents charge, but for those in the part
+-- what an object charges less once it is cut to its part: what the extents outside do once they are gone
 abbrev pub stripped_amounts : ObjectRow → List NamedSource → Amounts
-stripped_amounts row sources = minus (extents_amounts sources row.extents) (extents_amounts sources (inside row))
+stripped_amounts row sources = extents_amounts row.account sources (outside row)
 
 -- so many lines are touched at most where an object is cut to its part
 abbrev pub strip_lines : ObjectRow → List NamedSource → ℕ

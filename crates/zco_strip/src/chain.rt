@@ -1,25 +1,21 @@
 // A chain of extents that is cut to a part, and those outside it, linked into a chain of their own.
-ghost use Rattle.std.specs.Prelude.{◌≡◌, ◌==◌, ◌<◌, ◌≤◌, ◌^◌, IfErr, IfOk, if◌then◌else◌};
+ghost use Rattle.std.specs.Prelude.{◌≡◌, ◌==◌, ◌<◌, ◌≤◌, IfErr, IfOk, if◌then◌else◌};
 ghost use Rattle.sdr_base.specs.Moves.{KeepsSome};
 ghost use Rattle.sdr_base.specs.Objects.{OnlyUnmoved};
 ghost use Rattle.sdr_base.specs.Works.{Spends};
 ghost use Rattle.zco_strip.specs.Chain.{PartsChain, SomeChain};
-ghost use Rattle.zco_obj.specs.Giving.{AreAtMost};
 
 use crate::finding::find_place;
 use crate::linking::link_after;
 use crate::parting::{cut_end, cut_to};
-use sdr_base::{Addr, Amounts, Objects, Stop, check_failed};
-use sdr_model::amounts::{NOTHING, plus};
+use sdr_base::{Addr, Objects, Stop, check_failed};
 
-// The first and the last extent in a part, and the first one of the chain outside it, 0 for none;
-// and what is charged less for those that were cut.
+// The first and the last extent in a part, and the first one of the chain outside it, 0 for none.
 #[derive(Clone, Copy)]
 pub struct Parted {
     pub first: Addr,
     pub last: Addr,
     pub out: Addr,
-    pub freed: Amounts,
 }
 
 // Cuts a chain of extents to its bytes from one place on and before another, and links those
@@ -29,7 +25,6 @@ pub fn part_chain<O: Objects>(o: &mut O, first: Addr, from: u64, to: u64) -> Res
     requires ordered { from ≤ to }
     requires chain { SomeChain (O.heap o.old).blocks first to }
     ensures parted { IfOk result (PartsChain first from to (O.heap o.old) (O.heap o.new)) }
-    ensures most { IfOk result (λ parted. AreAtMost (2 ^ 41) parted.freed) }
     ensures refused { IfErr result (OnlyUnmoved (O.heap o.old) (O.heap o.new)) }
     ensures works { Spends O.HasHeap 12 o.old o.new result }
 {
@@ -39,7 +34,6 @@ pub fn part_chain<O: Objects>(o: &mut O, first: Addr, from: u64, to: u64) -> Res
             first: 0,
             last: 0,
             out: first,
-            freed: NOTHING,
         });
     }
     part_bytes(o, first, from, to)
@@ -51,14 +45,13 @@ fn part_bytes<O: Objects>(o: &mut O, first: Addr, from: u64, to: u64) -> Result<
     requires some { from < to }
     requires chain { SomeChain (O.heap o.old).blocks first to }
     ensures parted { IfOk result (PartsChain first from to (O.heap o.old) (O.heap o.new)) }
-    ensures most { IfOk result (λ parted. AreAtMost (2 ^ 41) parted.freed) }
     ensures refused { IfErr result (OnlyUnmoved (O.heap o.old) (O.heap o.new)) }
     ensures works { Spends O.HasHeap 12 o.old o.new result }
 {
     let begin = find_place(o, first, from)?;
     let until = begin.inside + (to - from);
     let place = find_place(o, begin.extent, until)?;
-    let freed = cut_to(o, begin.extent, begin.inside, until)?;
+    cut_to(o, begin.extent, begin.inside, until)?;
     let end = cut_end(o, place)?;
     link_after(o, end.last, 0)?;
     link_after(o, begin.last, end.next)?;
@@ -66,7 +59,6 @@ fn part_bytes<O: Objects>(o: &mut O, first: Addr, from: u64, to: u64) -> Result<
         first: begin.extent,
         last: end.last,
         out: first_outside(first, begin.last, end.next),
-        freed: plus(&freed, &end.freed),
     })
 }
 

@@ -1,5 +1,5 @@
 // An object that is cut to its part.
-ghost use Rattle.std.specs.Prelude.{◌≡◌, ◌≤◌, ◌^◌, List, IfErr, IfOk, OnOk};
+ghost use Rattle.std.specs.Prelude.{◌≡◌, ◌≤◌, List, IfErr, IfOk, OnOk};
 ghost use Rattle.sdr_base.specs.Blocks.{IsKind};
 ghost use Rattle.sdr_base.specs.Moves.{KeepsSome};
 ghost use Rattle.sdr_base.specs.Objects.{OnlyFault, OnlyUnmoved};
@@ -9,7 +9,6 @@ ghost use Rattle.sdr_base.specs.ZcoObjects.{ObjectRow};
 ghost use Rattle.sdr_base.specs.declared.kind.Kind.TheVariants as kinds;
 ghost use Rattle.zco_strip.specs.Stripping.{CutsObject, IsToStrip, KeepsToStrip, SomeToStrip};
 ghost use Rattle.zco_strip.specs.Stripping.{StripsObject, StripStops, TellsSpan, strip_lines};
-ghost use Rattle.zco_obj.specs.Giving.{AreAtMost};
 ghost use Rattle.zco_obj.specs.Gone.{NamedSource};
 ghost use Rattle.zco_obj.specs.Kept.{SomeObject};
 
@@ -17,7 +16,6 @@ use crate::chain::{Parted, part_chain};
 use crate::linking::set_ends;
 use sdr_base::layout::object as words;
 use sdr_base::{Addr, Kind, Objects, Stop, expect_kind, word};
-use sdr_model::amounts::plus;
 use zco_acct::release;
 use zco_obj::{account, give_extents};
 
@@ -31,8 +29,9 @@ struct Span {
 
 /// Cuts the extents of an object to its part, which then begins with the first of them. Those of
 /// which no byte lies in it are given back, each after what goes with it, as where an object is
-/// destroyed; and to its account what is charged less. It is linear in the extents, and doesn't
-/// serve the account's queue.
+/// destroyed; and to its account what they charged, and what the sources did that no other extent of it
+/// names. An extent that is cut charges what it did. It is linear in the extents, and doesn't serve the
+/// account's queue.
 ///
 /// It is refused `BadAddress` or `WrongKind` where the object isn't there, and `LogFull`, behind which
 /// the transaction has to be cancelled.
@@ -53,7 +52,7 @@ pub fn strip<O: Objects>(o: &mut O, object: Addr) -> Result<(), Stop>
     let acct = account(o, object)?;
     let parted = cut_object(o, object)?;
     let charged = give_extents(o, acct, parted.out)?;
-    release(o, acct, &plus(&parted.freed, &charged))
+    release(o, acct, &charged)
 }
 
 // Cuts the extents of an object to its part, and links those outside into a chain of their own.
@@ -61,7 +60,6 @@ fn cut_object<O: Objects>(o: &mut O, object: Addr) -> Result<Parted, Stop>
     requires kept { KeepsSome (O.keeps o.old) }
     requires object { SomeToStrip (O.heap o.old) object }
     ensures cut { IfOk result (CutsObject object (O.heap o.old) (O.heap o.new)) }
-    ensures most { IfOk result (λ parted. AreAtMost (2 ^ 41) parted.freed) }
     ensures refused { IfErr result (OnlyUnmoved (O.heap o.old) (O.heap o.new)) }
     ensures works { Spends O.HasHeap 18 o.old o.new result }
 {
