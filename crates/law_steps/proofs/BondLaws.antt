@@ -9,7 +9,6 @@ use Rattle.sdr_base.specs.declared.moves.Move.{Move}
 use Rattle.sdr_base.specs.declared.moves.Move.TheVariants.{Took, Gave}
 use Rattle.sdr_base.specs.declared.account.Acct.{Acct}
 use Rattle.sdr_base.specs.declared.kind.Space.{Space}
-use Rattle.sdr_base.specs.declared.kind.Space.TheVariants as spaces
 use Rattle.law_steps.proofs.ChargeLemmas.{charge_plain, charge_source, count_moves, count_none, things_charge, uses_in_at}
 use Rattle.law_steps.proofs.DistinctLemmas.{absent, count_by-cons, on_test, others, others_counted, weight, weight_of}
 use Rattle.law_steps.proofs.SourceCharges.{AreFirst, bytes_in, counts}
@@ -22,7 +21,7 @@ use Rattle.sdr_model.specs.SourceSteps.{new_source}
 use Rattle.sdr_model.specs.Things.{with_at, Things}
 use Rattle.sdr_model.specs.Valid.{HasBytes, HasSubject, LiesInside}
 use Rattle.sdr_model.specs.World.{World, as_raw}
-use Rattle.sdr_model.specs.Zco.{as_source, is_of_raw, naming, source_at}
+use Rattle.sdr_model.specs.Zco.{as_source, is_of_raw, naming}
 use Rattle.sdr_model.specs.declared.things.Thing.{Thing}
 use Rattle.sdr_model.specs.declared.things.Thing.TheVariants as things
 use Rattle.sdr_model.specs.declared.zco.Capsule.{Capsule}

@@ -1,10 +1,9 @@
 -- What things charge one account moves, and another's stays.
-use Rattle.std.proofs.Common.{◌≡◌, ℕ, ◌+◌, ◌==◌, true, false, Option, Some, None, refl, ap, ◌∙◌, arith, if◌then◌else◌}
+use Rattle.std.proofs.Common.{◌≡◌, ℕ, ◌+◌, ◌==◌, false, Option, Some, None, refl, ap, ◌∙◌, arith, if◌then◌else◌}
 use Rattle.std.specs.FinMap as finite
 use Rattle.std.specs.Option.{option_map}
 use Rattle.std.specs.Prelude.{IfSome}
 use Rattle.sdr_base.specs.declared.account.Acct.{Acct}
-use Rattle.sdr_base.specs.declared.account.Acct.TheVariants as accts
 use Rattle.sdr_base.specs.declared.kind.Space.{Space}
 use Rattle.law_steps.proofs.ChargeLemmas.{charge_moves, count_moves, named_part_at, object_part_at, same_account, things_charge, uses_in_at}
 use Rattle.law_steps.proofs.SourceCharges.{counts, named_same}

@@ -82,7 +82,7 @@ module _ (w : World) where
       All-from_recursion lies (placed at k es) (placed_lie at k es (recursion_from_All lies es all))
 
 -- what extents charge for themselves: more where there are more, and together what they charge apart
-pub extents_fewer : (space : Space) (k n : ℕ) → k ≤ n
+extents_fewer : (space : Space) (k n : ℕ) → k ≤ n
     → in_space spaces.Heap (extent_bytes * k) space ≤ in_space spaces.Heap (extent_bytes * n) space
 extents_fewer spaces.File k n le = omega arith
 extents_fewer spaces.Bulk k n le = omega arith

@@ -53,6 +53,7 @@ pub mod ObjectLemmas
 pub mod ObjectRows
 pub mod ObjectShapes
 pub mod OccupancyLaws
+pub mod OnceExamples
 pub mod OutcomeFits
 pub mod OutcomeLemmas
 pub mod PartRows
