@@ -2,7 +2,7 @@
 use Rattle.std.specs.Prelude.{◌≡◌, ◌<◌, ◌==◌, ◌+◌, ◌*◌, ◌/◌, ◌%◌, ◌&&◌, ◌||◌, ℕ, Bool, true, false, cond, nat_le, nat_lt, List, length}
 use Rattle.sdr_base.specs.FreshHeap.{first_block}
 use Rattle.sdr_base.specs.Stored.{number_at}
-use Rattle.sdr_base.specs.declared.control.TheConstants.{BULK_MAXIMUM, CONTROL_WORDS, FILE_MAXIMUM, HEAP_MAXIMUM, HIGH, INBOUND, LOW, NEXT_TICKET, OUTBOUND, SIZE, START, VERSION}
+use Rattle.sdr_base.specs.declared.control.TheConstants.{BULK_MAXIMUM, CONTROL_WORDS, FILE_MAXIMUM, HEAP_MAXIMUM, HEAP_VERSION, HIGH, INBOUND, LOW, NEXT_TICKET, OUTBOUND, SIZE, START, VERSION}
 use Rattle.sdr_base.specs.declared.line.TheConstants.{LINE, WORD}
 use Rattle.sdr_model.specs.Accounts.{most_amount}
 
@@ -24,21 +24,23 @@ abbrev pub is_maximum_of : ℕ → ℕ → Bool
 is_maximum_of first word =
     word == first + FILE_MAXIMUM || word == first + BULK_MAXIMUM || word == first + HEAP_MAXIMUM
 
--- whether the control word is always 0: the version, and those behind the next ticket's number
+-- whether the control word is always 0: those behind the next ticket's number
 abbrev pub is_spare : ℕ → Bool
-is_spare word = word == VERSION || nat_lt NEXT_TICKET word
+is_spare word = nat_lt NEXT_TICKET word
 
 -- Whether a control word may have this value: the size of the region, the place of the first block, the ends of the unassigned
--- space, maxima, the number of the next ticket, and zeros. What begins a chain may have any: the chains are checked later.
+-- space, the heap's version, maxima, the number of the next ticket, and zeros. What begins a chain may have any: the chains are
+-- checked later.
 abbrev pub may_be : List ℕ → ℕ → ℕ → Bool
 may_be bytes word value =
     cond (word == SIZE) (value == length bytes)
     (cond (word == START) (value == first_block (length bytes / LINE))
     (cond (word == LOW) (is_low bytes value)
     (cond (word == HIGH) (is_edge bytes value)
+    (cond (word == VERSION) (value == HEAP_VERSION)
     (cond (is_maximum_of INBOUND word || is_maximum_of OUTBOUND word) (nat_le value most_amount)
     (cond (word == NEXT_TICKET) (nat_le 1 value && nat_le value most_amount)
-    (cond (is_spare word) (value == 0) true))))))
+    (cond (is_spare word) (value == 0) true)))))))
 
 -- each control word has a value that it may have
 abbrev pub ControlIsRight : List ℕ → Type 0

@@ -11,8 +11,8 @@ ghost use Rattle.audit_blocks.specs.Walked.{AreEdges};
 use crate::error::{Check, Damage};
 use crate::number::number_at;
 use sdr_base::control::{
-    BULK_MAXIMUM, CONTROL_WORDS, FILE_MAXIMUM, HEAP_MAXIMUM, HIGH, INBOUND, LOW, NEXT_TICKET,
-    OUTBOUND, SIZE, START, VERSION,
+    BULK_MAXIMUM, CONTROL_WORDS, FILE_MAXIMUM, HEAP_MAXIMUM, HEAP_VERSION, HIGH, INBOUND, LOW,
+    NEXT_TICKET, OUTBOUND, SIZE, START, VERSION,
 };
 use sdr_base::{LINE, START_BITS, WORD};
 use sdr_model::MOST_AMOUNT;
@@ -67,11 +67,13 @@ fn may_be(heap: &[u8], word: u64, value: u64) -> bool
         is_edge && first_block(size / LINE) <= value && value <= high
     } else if word == HIGH {
         is_edge
+    } else if word == VERSION {
+        value == HEAP_VERSION
     } else if is_maximum_of(INBOUND, word) || is_maximum_of(OUTBOUND, word) {
         value <= MOST_AMOUNT
     } else if word == NEXT_TICKET {
         1 <= value && value <= MOST_AMOUNT
-    } else if word == VERSION || word > NEXT_TICKET {
+    } else if word > NEXT_TICKET {
         value == 0
     } else {
         true
@@ -79,8 +81,8 @@ fn may_be(heap: &[u8], word: u64, value: u64) -> bool
 }
 
 /// Checks the control words of a heap region in memory, and tells where blocks may stand. What is wrong is the lowest word that is: the
-/// size of the region, the place of the first block, the ends of the unassigned space, a maximum, the number of the next ticket, or a
-/// word that is always 0. It takes no memory.
+/// size of the region, the place of the first block, the ends of the unassigned space, the heap's version, a maximum, the number of
+/// the next ticket, or a word that is always 0. It takes no memory.
 pub fn check_control(heap: &[u8]) -> Result<Edges, Damage>
     requires region { IsRegionSize (length heap.now) }
     ensures edges { IfOk result (AreEdges heap.now) }

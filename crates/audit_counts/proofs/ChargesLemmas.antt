@@ -1,20 +1,26 @@
 -- Sums of charges.
-use Rattle.std.proofs.Common.{◌≡◌, ◌≤◌, ◌<◌, ◌+◌, ◌*◌, ◌-◌, ◌^◌, ℕ, Bool, List, cond, get_or, length, sum_by, take, arith, ap, sym, ◌∙◌}
-use Rattle.std.specs.Prelude.{None}
+use Rattle.std.proofs.Common.{◌≡◌, ◌≤◌, ◌<◌, ◌+◌, ◌*◌, ◌-◌, ◌/◌, ◌^◌, ℕ, Bool, List, cond, get_or, length, sum_by, take, arith, ap, sym, ◌∙◌}
+use Rattle.std.specs.Prelude.{Option, None}
 use Rattle.std.proofs.lemmas.List.FromFn.{sum_by-map-range_with_len_more}
 use Rattle.std.proofs.lemmas.List.Sums.{sum_by_more}
+use Rattle.sdr_base.specs.Blocks.{Block}
 use Rattle.sdr_base.specs.Cells.{IsRegionSize}
 use Rattle.sdr_base.specs.KeptHeap.{block_in}
 use Rattle.sdr_base.specs.declared.account.Acct.{Acct}
+use Rattle.sdr_base.specs.declared.kind.Kind.TheVariants as kinds
 use Rattle.sdr_base.specs.declared.kind.Space.{Space}
 use Rattle.sdr_base.specs.declared.kind.Space.TheVariants as spaces
 use Rattle.audit_owners.specs.Places.{places}
-use Rattle.audit_counts.specs.Occupied.{capsule_charge_at, charge_at, charges_by, extent_charge_at, left_at, medium_space, object_charge_at}
+use Rattle.audit_counts.specs.Occupied.{capsule_charge_at, charge_at, charges_by, left_at, object_charge_at, source_charge_at}
 use Rattle.sdr_model.specs.Amounts.{in_space}
-use Rattle.audit_owners.proofs.BlockLemmas.{few_bytes}
+use Rattle.audit_owners.proofs.BlockLemmas.{few_bytes, few_words}
+use Rattle.audit_owners.proofs.MembersLemmas.{length-followed}
 use Rattle.audit_owners.proofs.PlacesLemmas.{sum_over}
 use Rattle.audit_owners.specs.Scan.{HasNoBlocks}
-use Rattle.audit_owners.specs.View.{View, length_of, view_in, word_of}
+use Rattle.audit_owners.specs.View.{View, is_kind, length_of, view_in, word_of}
+use Rattle.audit_owners.specs.Chains.{first_link}
+use Rattle.audit_owners.specs.Members.{members}
+use Rattle.audit_owners.specs.declared.owner.Owner.{Owner}
 use Rattle.audit_counts.proofs.CountsLemmas.{no_object}
 
 -- the same amounts have the same sums
@@ -22,21 +28,7 @@ pub charges_same : (f g : Space → ℕ) → ((space : Space) → f space ≡ g 
 charges_same f g same = ap charges_by (λ i space. same space i)
 
 module _ (heap : View) (of : Space → ℕ) (xs : List ℕ) (i d : ℕ) (less : i < length xs) where
-  -- the charge of one more extent
-  pub extent_more : (from bytes : ℕ) (space : Space) → from ≡ word_of (heap.blocks (get_or xs i d)) 0 → space ≡ medium_space (heap.blocks from) →
-      bytes ≡ word_of (heap.blocks (get_or xs i d)) 2 → (other : Space) →
-      (of other + sum_by (extent_charge_at heap other) (take i xs)) + in_space space bytes other + in_space spaces.Heap 32 other
-      ≡ of other + sum_by (extent_charge_at heap other) (take (i + 1) xs)
-  extent_more from bytes space from_is space_is bytes_is other =
-      let more = sum_by_more (extent_charge_at heap other) xs i d less in
-      let b = heap.blocks (get_or xs i d) in
-      let charge : in_space space bytes other ≡ in_space (medium_space (heap.blocks (word_of b 0))) (word_of b 2)
-      other =
-      ap (λ (s : Space). in_space s bytes other) (space_is ∙ ap (λ (n : ℕ). medium_space (heap.blocks n)) from_is)
-      ∙ ap (λ (n : ℕ). in_space (medium_space (heap.blocks (word_of b 0))) n other) bytes_is in
-      omega (arith, more, charge)
-
-  -- and of one more header or trailer
+  -- the charge of one more header or trailer
   pub capsule_more : (bytes : ℕ) → ((other : Space) → in_space spaces.Heap bytes other ≡ capsule_charge_at heap other (get_or xs i d)) → (other : Space) →
       (of other + sum_by (capsule_charge_at heap other) (take i xs)) + in_space spaces.Heap bytes other
       ≡ of other + sum_by (capsule_charge_at heap other) (take (i + 1) xs)
@@ -75,10 +67,19 @@ charges_over bytes words account from to onward none =
   where
     unused : (space : Space) (addr : ℕ) → block_in bytes addr ≡ None → charge_at (view_in bytes) words account space addr ≡ 0
     unused space addr here =
-        ap (λ (t : Bool). cond t (object_charge_at (view_in bytes) words space addr) 0) (no_object (view_in bytes) account addr here)
+        ap (λ (t : Bool). cond t (object_charge_at (view_in bytes) words space addr) (cond (is_kind kinds.Source (block_in bytes addr)) (source_charge_at (view_in bytes) account space addr) 0))
+        (no_object (view_in bytes) account addr here)
+        ∙ ap (λ (b : Option Block). cond (is_kind kinds.Source b) (source_charge_at (view_in bytes) account space addr) 0) here
 
 -- the words for its text fit a number
 pub few_text : (x : List ℕ) (addr bytes text : ℕ) → IsRegionSize (length x) → bytes ≡ length_of (block_in x addr) → text ≡ bytes - 8 → 15 + text < 2 ^ 61
 few_text x addr bytes text region is text_is =
     let few = few_bytes x addr region in
     omega (arith, few, is, text_is)
+
+-- and a chain has few blocks
+pub few_members : (x : List ℕ) (owner : Owner) → IsRegionSize (length x) → length (members (view_in x) (length x / 8) owner) < 2 ^ 30
+few_members x owner region =
+    let most = length-followed (view_in x) owner (length x / 8) (first_link (view_in x) owner) in
+    let few = few_words x region in
+    omega (arith, most, few)

@@ -29,11 +29,11 @@ granted_row addr number left = record {
   granted = true;
 }
 
--- A source of an item at 8, which two outbound extents name; an outbound object at 64, with them, a header of 3 bytes and a trailer
+-- A source of 50 bytes of an item at 8, which two outbound extents name; an outbound object at 64, with them, a header of 3 bytes and a trailer
 -- of 9; and an outbound ticket at 400, of whose grant 40 bytes of heap space are left.
 abbrev pub bundle_entries : Entries
 bundle_entries =
-    (8, source_block 0 2 (record { medium = media.Bulk; flagged = false; subject = 5; length = 30; path = [] }))
+    (8, source_block 0 2 (record { medium = media.Bulk; flagged = false; subject = 5; length = 50; path = [] }))
     ∷ (400, ticket_block accts.Outbound 0 0 (granted_row 400 1 40))
     ∷ object_entries 64 (record {
       account = accts.Outbound;

@@ -23,7 +23,7 @@ use std::alloc::Global;
 /// 3. A source of a raw object has its length; an extent lies inside its source, and an object's part inside its extents; an extent has
 ///    a byte; a source that is flagged or has taken over a raw object has an extent; and one that has taken one over isn't flagged.
 /// 4. The control words of the inbound and of the outbound account tell what is occupied of file, bulk and heap space: what objects
-///    charge, and what is left of tickets.
+///    charge, what each source charges that they name, once, and what is left of tickets.
 ///
 /// The place is the address of the list, hash, name, source, extent or object, or a control word's.
 ///

@@ -7,7 +7,8 @@
 //! 2. Each source tells for both accounts how many extents of that account's objects name it (`wrong_source`).
 //! 3. Sources, extents and objects keep the rules of one another (`wrong_rule`).
 //! 4. The control words of both accounts tell what is occupied: what objects charge, for themselves, their extents, headers and
-//!    trailers, and what is left of tickets (`wrong_occupancy`). Steps 1 to 4 are `wrong_count`.
+//!    trailers; the whole length of each source that they name, by the counts of step 2; and what is left of tickets
+//!    (`wrong_occupancy`). Steps 1 to 4 are `wrong_count`.
 //! 5. The queues of tickets keep their law, the inbound one first (`wrong_queue`).
 //!
 //! The blocks of a chain are those to which its links lead; where the owners are right, these are the chain's, and each step is linear

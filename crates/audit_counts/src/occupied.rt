@@ -6,17 +6,18 @@ ghost use Rattle.sdr_base.specs.declared.control.TheConstants.{OUTBOUND};
 ghost use Rattle.sdr_base.specs.declared.kind.Space.{Space};
 ghost use Rattle.sdr_base.specs.declared.line.TheConstants.{WORD};
 ghost use Rattle.audit_counts.specs.Counted.{wrong_occupancy, wrong_occupancy_in};
-ghost use Rattle.audit_counts.specs.Occupied.{capsule_charge_at, charges_by, extent_charge_at, charge_at, left_at, occupancy_in, medium_space};
+ghost use Rattle.audit_counts.specs.Counts.{count_field};
+ghost use Rattle.audit_counts.specs.Occupied.{capsule_charge_at, charge_at, charges_by, left_at, medium_space, object_charge_at, occupancy_in, source_charge_at};
 ghost use Rattle.sdr_model.specs.Amounts.{in_space};
 ghost use Rattle.audit_owners.specs.Owners.{account_word};
 ghost use Rattle.audit_owners.specs.View.{view_in};
 
 use crate::charges::Charges;
 use crate::counts::is_object_of;
-use audit_owners::{Owner, length_of, members, next_block, root, word};
+use audit_owners::{Owner, is_kind, length_of, members, next_block, root, word};
 use sdr_base::control::{BULK_OCCUPANCY, FILE_OCCUPANCY, HEAP_OCCUPANCY, INBOUND, OUTBOUND};
-use sdr_base::layout::{capsule, extent, source, ticket};
-use sdr_base::{Acct, Addr, NoMemory, Space, WORD};
+use sdr_base::layout::{capsule, source, ticket};
+use sdr_base::{Acct, Addr, Kind, NoMemory, Space, WORD};
 use std::alloc::Global;
 
 // What an object fills, and an extent.
@@ -36,20 +37,27 @@ fn space_of(heap: &[u8], addr: Addr) -> Space
     }
 }
 
-// These charges and those of extents.
-fn with_extents(heap: &[u8], charges: Charges, extents: &[Addr]) -> Charges
+// The word of a source with the count of an account.
+fn count_field(account: Acct) -> u64
+    ensures { result ≡ count_field account }
+{
+    match account {
+        Acct::Inbound => source::INBOUND,
+        Acct::Outbound => source::OUTBOUND,
+    }
+}
+
+// Adds what the source at `addr` charges an account, by the count that it tells.
+fn with_source(heap: &[u8], charges: Charges, account: Acct, addr: Addr) -> Charges
     requires region { IsRegionSize (length heap.now) }
     ensures { (of : Space → ℕ) → charges ≡ charges_by of →
         result ≡ charges_by (λ space.
-        of space + sum_by (extent_charge_at (view_in heap.now) space) extents.now) }
+        of space + source_charge_at (view_in heap.now) account space addr) }
 {
-    let mut charges = charges;
-    for addr in extents {
-        let space = space_of(heap, word(heap, *addr, extent::SOURCE));
-        let bytes = word(heap, *addr, extent::LENGTH);
-        charges = charges.with(space, bytes).with(Space::Heap, EXTENT);
+    if word(heap, addr, count_field(account)) == 0 {
+        return charges;
     }
-    charges
+    charges.with(space_of(heap, addr), word(heap, addr, source::LENGTH))
 }
 
 // The bytes of the words that the header or trailer at an address fills.
@@ -75,8 +83,29 @@ fn with_capsules(heap: &[u8], charges: Charges, capsules: &[Addr]) -> Charges
     charges
 }
 
-// Adds the charges of the object at `addr`, if it is one of this account.
+// Adds what the object at `addr` charges: for itself, its extents, its headers and its trailers.
 fn with_object(
+    alloc: Global,
+    heap: &[u8],
+    charges: Charges,
+    addr: Addr,
+) -> Result<Charges, NoMemory>
+    requires region { IsRegionSize (length heap.now) }
+    ensures { (of : Space → ℕ) → charges ≡ charges_by of →
+        IfOk result (λ sum. sum ≡ charges_by (λ space.
+        of space + object_charge_at (view_in heap.now) (length heap.now / WORD) space addr)) }
+{
+    let extents = members(alloc, heap, Owner::Extents(addr))?;
+    let headers = members(alloc, heap, Owner::Headers(addr))?;
+    let trailers = members(alloc, heap, Owner::Trailers(addr))?;
+    let charges = charges.with(Space::Heap, OBJECT);
+    let charges = charges.with(Space::Heap, EXTENT * extents.len() as u64);
+    let charges = with_capsules(heap, charges, &headers);
+    Ok(with_capsules(heap, charges, &trailers))
+}
+
+// Adds what the block at `addr` charges an account, if it is an object of this account, or a source.
+fn with_block(
     alloc: Global,
     heap: &[u8],
     charges: Charges,
@@ -88,16 +117,13 @@ fn with_object(
         IfOk result (λ sum. sum ≡ charges_by (λ space.
         of space + charge_at (view_in heap.now) (length heap.now / WORD) account space addr)) }
 {
-    if !is_object_of(heap, account, addr) {
-        return Ok(charges);
+    if is_object_of(heap, account, addr) {
+        with_object(alloc, heap, charges, addr)
+    } else if is_kind(heap, addr, Kind::Source) {
+        Ok(with_source(heap, charges, account, addr))
+    } else {
+        Ok(charges)
     }
-    let extents = members(alloc, heap, Owner::Extents(addr))?;
-    let headers = members(alloc, heap, Owner::Headers(addr))?;
-    let trailers = members(alloc, heap, Owner::Trailers(addr))?;
-    let charges = charges.with(Space::Heap, OBJECT);
-    let charges = with_extents(heap, charges, &extents);
-    let charges = with_capsules(heap, charges, &headers);
-    Ok(with_capsules(heap, charges, &trailers))
 }
 
 // These charges and what is left of tickets.
@@ -126,7 +152,7 @@ fn occupied(alloc: Global, heap: &[u8], account: Acct) -> Result<Charges, NoMemo
     let mut charges = Charges::none();
     let mut from = 0;
     while let Some(number) = next_block(heap, from) {
-        charges = with_object(alloc, heap, charges, account, WORD * number)?;
+        charges = with_block(alloc, heap, charges, account, WORD * number)?;
         from = number + 1;
     }
     let tickets = members(alloc, heap, Owner::Queue(account))?;
@@ -164,8 +190,8 @@ fn wrong_in(alloc: Global, heap: &[u8], account: Acct) -> Result<Option<u64>, No
     Ok(None)
 }
 
-/// The place of the first control word that doesn't tell what is occupied of a space in an account: what its objects charge, and what
-/// is left of its tickets. `None` where there is none.
+/// The place of the first control word that doesn't tell what is occupied of a space in an account: what its objects charge, what the
+/// sources charge that they name, by the counts that these tell, and what is left of its tickets. `None` where there is none.
 pub fn wrong_occupancy(alloc: Global, heap: &[u8]) -> Result<Option<u64>, NoMemory>
     requires region { IsRegionSize (length heap.now) }
     ensures { IfOk result (λ place. place ≡ wrong_occupancy (view_in heap.now)

@@ -5,6 +5,7 @@ use Rattle.std.specs.Option.{option_map_or}
 use Rattle.std.proofs.lemmas.Bool.{and_from, cases_Bool}
 use Rattle.std.proofs.lemmas.List.Elements.{All-map}
 use Rattle.sdr_base.specs.Blocks.{Block}
+use Rattle.sdr_base.specs.declared.account.Acct.TheVariants as accts
 use Rattle.sdr_base.specs.declared.kind.Kind.{Kind}
 use Rattle.sdr_base.specs.declared.kind.Kind.TheVariants as kinds
 use Rattle.audit_counts.specs.Counted.{IsCounted}
@@ -24,7 +25,7 @@ use Rattle.audit_world.proofs.LinkLemmas.{extent_chain}
 use Rattle.audit_world.proofs.OccupiedLemmas.{all_so, goes_members, length-behind, source_at_is, source_there}
 use Rattle.audit_world.proofs.OwnLemmas.{IsAudited, own_of}
 use Rattle.audit_world.proofs.SourceLemmas.{source_of, source_word, subject_by}
-use Rattle.audit_world.proofs.TiesLemmas.{inbound_same, outbound_same, raw_same, source_named, thing_cases, thing_is, unless}
+use Rattle.audit_world.proofs.TiesLemmas.{raw_same, source_named, stored_same, thing_cases, thing_is, unless}
 use Rattle.audit_world.proofs.ValidLemmas.{owned_medium}
 use Rattle.audit_world.proofs.Fitting.{AreFitting}
 use Rattle.audit_world.specs.Told.{extent_told, source_told, thing_by, thing_of_kind, thing_told, world_told}
@@ -125,8 +126,8 @@ module _ (heap : View) (words : ℕ) (a : IsAudited heap words) where
 
     used_so : (addr : ℕ) → is_kind kinds.Source (heap.blocks addr) ≡ true → HasExtentIfPassing (world_told heap words) addr (source_told (heap.blocks addr))
     used_so addr is passing =
-        let inbound = inbound_same heap words a c addr is in
-        let outbound = outbound_same heap words a c addr is in
+        let inbound = stored_same heap words a c.counts accts.Inbound addr is in
+        let outbound = stored_same heap words a c.counts accts.Outbound addr is in
         let why : (word_of (heap.blocks addr) 0 ≡ 3) ⊎ (word_of (heap.blocks addr) 1 ≡ 1) = reason (cases_Bool owned) passing in
         let used = (f.sources addr is).used why in
         omega (arith, inbound, outbound, used)

@@ -47,7 +47,7 @@ use Rattle.audit_world.proofs.HashLemmas.{buckets_same, hash_stands, own_hash, w
 use Rattle.audit_world.proofs.LinkLemmas.{all_told, list_stands, object_stands}
 use Rattle.audit_world.proofs.OwnLemmas.{IsAudited, nonzero, own_of, raw_own, readable, table_own, text_own}
 use Rattle.audit_world.proofs.SourceLemmas.{source_own}
-use Rattle.audit_world.proofs.TiesLemmas.{inbound_same, named_same, outbound_same, thing_cases}
+use Rattle.audit_world.proofs.TiesLemmas.{named_same, stored_same, thing_cases}
 use Rattle.audit_world.proofs.Fitting.{AreFitting}
 use Rattle.audit_world.specs.Told.{capsule_told, element_told, extent_told, hash_told, name_told, object_told, source_told, thing_of_kind, thing_told, world_told}
 
@@ -179,7 +179,7 @@ module _ (heap : View) (words : ℕ) (a : IsAudited heap words) where
         by_kind kinds.Source is =
             one_stands addr _
             (source_own heap words a addr is
-            ∙ (λ i. Some (source_block (sym (inbound_same heap words a counted addr is) i) (sym (outbound_same heap words a counted addr is) i)
+            ∙ (λ i. Some (source_block (sym (stored_same heap words a counted.counts accts.Inbound addr is) i) (sym (stored_same heap words a counted.counts accts.Outbound addr is) i)
             (source_row (source_told (heap.blocks addr))))))
         by_kind kinds.Object is = object_stands heap words a addr is
         by_kind kinds.Extent is = tt

@@ -14,7 +14,7 @@ use Rattle.sdr_base.specs.Roots.{root_words, roots_by}
 use Rattle.sdr_base.specs.Stored.{number_at}
 use Rattle.sdr_base.specs.Tickets.{ticket_addr}
 use Rattle.sdr_base.specs.declared.account.Acct.TheVariants as accts
-use Rattle.sdr_base.specs.declared.control.TheConstants.{VERSION}
+use Rattle.sdr_base.specs.declared.control.TheConstants.{HEAP_VERSION, VERSION}
 use Rattle.sdr_base.specs.declared.kind.Space.TheVariants as spaces
 use Rattle.audit_counts.specs.Counted.{IsCounted}
 use Rattle.sdr_model.specs.Accounts.{tickets_of}
@@ -38,11 +38,11 @@ module _ (bytes : List ℕ) where
   other_is word off = cond-false (nat_le 89 word && nat_lt word 128) (number_at (8 * word) bytes) 0 off
 
   module _ (right : ControlIsRight bytes) (a : IsAudited (view_in bytes) (length bytes / 8)) (c : IsCounted (view_in bytes) (length bytes / 8)) where
-    -- a control word that is to be 0
-    zero_at : (word : ℕ) → nat_le 89 word ≡ true → nat_lt word 128 ≡ true → ((v : ℕ) → may_be bytes word v ≡ (v == 0)) → word < 128 → root_in bytes word ≡ 0
-    zero_at word low high null below =
+    -- a control word that may have one value alone
+    only_at : (word value : ℕ) → nat_le 89 word ≡ true → nat_lt word 128 ≡ true → ((v : ℕ) → may_be bytes word v ≡ (v == value)) → word < 128 → root_in bytes word ≡ value
+    only_at word value low high only below =
         root_is word ((λ i. low i && high i))
-        ∙ eqb-true (number_at (8 * word) bytes) 0 (sym (null (number_at (8 * word) bytes)) ∙ right word below)
+        ∙ eqb-true (number_at (8 * word) bytes) value (sym (only (number_at (8 * word) bytes)) ∙ right word below)
 
     last_name : root_in bytes 90 ≡ last_of name_addr 0 (map name_row (world_of bytes).names)
     last_name =
@@ -61,7 +61,7 @@ module _ (bytes : List ℕ) where
 
     abbrev words_told : List ℕ
     words_told =
-        root_words 0 (first_of name_addr 0 (map name_row (world_of bytes).names)) (last_of name_addr 0 (map name_row (world_of bytes).names))
+        root_words HEAP_VERSION (first_of name_addr 0 (map name_row (world_of bytes).names)) (last_of name_addr 0 (map name_row (world_of bytes).names))
         (account_roots (world_of bytes) accts.Inbound) (account_roots (world_of bytes) accts.Outbound) (world_of bytes).accounts.next
 
     -- the control words of the world, in order
@@ -69,7 +69,7 @@ module _ (bytes : List ℕ) where
     listed = λ i.
         (names_rows (view_in bytes) (length bytes / 8) a).first i
         ∷ last_name i
-        ∷ zero_at VERSION refl refl (λ v. refl) (omega arith) i
+        ∷ only_at VERSION HEAP_VERSION refl refl (λ v. refl) (omega arith) i
         ∷ occupancy_told (view_in bytes) (length bytes / 8) a c accts.Inbound spaces.File i
         ∷ occupancy_told (view_in bytes) (length bytes / 8) a c accts.Inbound spaces.Bulk i
         ∷ occupancy_told (view_in bytes) (length bytes / 8) a c accts.Inbound spaces.Heap i
@@ -83,7 +83,7 @@ module _ (bytes : List ℕ) where
         ∷ (tickets_rows (view_in bytes) (length bytes / 8) a accts.Outbound).first i
         ∷ last_outbound i
         ∷ root_in bytes 108
-        ∷ zero_at 109 refl refl (λ v. refl) (omega arith) i ∷ zero_at 110 refl refl (λ v. refl) (omega arith) i ∷ zero_at 111 refl refl (λ v. refl) (omega arith) i ∷ zero_at 112 refl refl (λ v. refl) (omega arith) i ∷ zero_at 113 refl refl (λ v. refl) (omega arith) i ∷ zero_at 114 refl refl (λ v. refl) (omega arith) i ∷ zero_at 115 refl refl (λ v. refl) (omega arith) i ∷ zero_at 116 refl refl (λ v. refl) (omega arith) i ∷ zero_at 117 refl refl (λ v. refl) (omega arith) i ∷ zero_at 118 refl refl (λ v. refl) (omega arith) i ∷ zero_at 119 refl refl (λ v. refl) (omega arith) i ∷ zero_at 120 refl refl (λ v. refl) (omega arith) i ∷ zero_at 121 refl refl (λ v. refl) (omega arith) i ∷ zero_at 122 refl refl (λ v. refl) (omega arith) i ∷ zero_at 123 refl refl (λ v. refl) (omega arith) i ∷ zero_at 124 refl refl (λ v. refl) (omega arith) i ∷ zero_at 125 refl refl (λ v. refl) (omega arith) i ∷ zero_at 126 refl refl (λ v. refl) (omega arith) i ∷ zero_at 127 refl refl (λ v. refl) (omega arith) i ∷ []
+        ∷ only_at 109 0 refl refl (λ v. refl) (omega arith) i ∷ only_at 110 0 refl refl (λ v. refl) (omega arith) i ∷ only_at 111 0 refl refl (λ v. refl) (omega arith) i ∷ only_at 112 0 refl refl (λ v. refl) (omega arith) i ∷ only_at 113 0 refl refl (λ v. refl) (omega arith) i ∷ only_at 114 0 refl refl (λ v. refl) (omega arith) i ∷ only_at 115 0 refl refl (λ v. refl) (omega arith) i ∷ only_at 116 0 refl refl (λ v. refl) (omega arith) i ∷ only_at 117 0 refl refl (λ v. refl) (omega arith) i ∷ only_at 118 0 refl refl (λ v. refl) (omega arith) i ∷ only_at 119 0 refl refl (λ v. refl) (omega arith) i ∷ only_at 120 0 refl refl (λ v. refl) (omega arith) i ∷ only_at 121 0 refl refl (λ v. refl) (omega arith) i ∷ only_at 122 0 refl refl (λ v. refl) (omega arith) i ∷ only_at 123 0 refl refl (λ v. refl) (omega arith) i ∷ only_at 124 0 refl refl (λ v. refl) (omega arith) i ∷ only_at 125 0 refl refl (λ v. refl) (omega arith) i ∷ only_at 126 0 refl refl (λ v. refl) (omega arith) i ∷ only_at 127 0 refl refl (λ v. refl) (omega arith) i ∷ []
 
     root_same : (word : ℕ) → root_in bytes word ≡ roots_by words_told word
     unfolding roots_by

@@ -16,7 +16,6 @@ use Rattle.sdr_base.specs.declared.account.Acct.{Acct}
 use Rattle.sdr_base.specs.declared.account.Acct.TheVariants as accts
 use Rattle.sdr_base.specs.declared.kind.Kind.{Kind}
 use Rattle.sdr_base.specs.declared.kind.Kind.TheVariants as kinds
-use Rattle.audit_counts.specs.Counted.{IsCounted}
 use Rattle.audit_counts.specs.Counts as counts
 use Rattle.audit_owners.specs.Members.{members}
 use Rattle.sdr_model.proofs.SumLemmas.{sum_by-map}
@@ -246,17 +245,21 @@ module _ (heap : View) (words : ℕ) (a : IsAudited heap words) where
               (ap (thing_told heap words) (sym p.at) ∙ told) yes in
               let d : false ≡ true = sym none ∙ any in cc
 
-  -- a source's counts in the world are those that its block tells
-  module _ (counted : IsCounted heap words) where
-    told_counts : (addr : ℕ) → is_kind kinds.Source (heap.blocks addr) ≡ true → (counts.tells_count heap words accts.Inbound addr && counts.tells_count heap words accts.Outbound addr) ≡ true
-    told_counts addr is = unless (is_kind kinds.Source (heap.blocks addr)) _ (counted.counts addr) is
+  -- how many extents of an account's objects name a source in the world is what its block tells, where each source tells its counts
+  module _ (counted : (addr : ℕ) → counts.keeps_counts heap words addr ≡ true) where
+    told_counts : (addr : ℕ) → is_kind kinds.Source (heap.blocks addr) ≡ true →
+        (counts.tells_count heap words accts.Inbound addr ≡ true) × (counts.tells_count heap words accts.Outbound addr ≡ true)
+    told_counts addr is =
+        and_parts (counts.tells_count heap words accts.Inbound addr) (counts.tells_count heap words accts.Outbound addr)
+        (unless (is_kind kinds.Source (heap.blocks addr)) _ (counted addr) is)
 
-    pub inbound_same : (addr : ℕ) → is_kind kinds.Source (heap.blocks addr) ≡ true → count_of (world_told heap words) addr accts.Inbound ≡ word_of (heap.blocks addr) 2
-    inbound_same addr is =
-        count_same addr accts.Inbound
-        ∙ sym (eqb-true (word_of (heap.blocks addr) 2) (counts.named_count heap words accts.Inbound addr) (and_parts (counts.tells_count heap words accts.Inbound addr) _ (told_counts addr is)).0)
+    told_same : (account : Acct) (addr : ℕ) → counts.tells_count heap words account addr ≡ true →
+        count_of (world_told heap words) addr account ≡ word_of (heap.blocks addr) (counts.count_field account)
+    told_same account addr tells =
+        count_same addr account
+        ∙ sym (eqb-true (word_of (heap.blocks addr) (counts.count_field account)) (counts.named_count heap words account addr) tells)
 
-    pub outbound_same : (addr : ℕ) → is_kind kinds.Source (heap.blocks addr) ≡ true → count_of (world_told heap words) addr accts.Outbound ≡ word_of (heap.blocks addr) 3
-    outbound_same addr is =
-        count_same addr accts.Outbound
-        ∙ sym (eqb-true (word_of (heap.blocks addr) 3) (counts.named_count heap words accts.Outbound addr) (and_parts (counts.tells_count heap words accts.Inbound addr) _ (told_counts addr is)).1)
+    pub stored_same : (account : Acct) (addr : ℕ) → is_kind kinds.Source (heap.blocks addr) ≡ true →
+        count_of (world_told heap words) addr account ≡ word_of (heap.blocks addr) (counts.count_field account)
+    stored_same accts.Inbound addr is = told_same accts.Inbound addr (told_counts addr is).0
+    stored_same accts.Outbound addr is = told_same accts.Outbound addr (told_counts addr is).1

@@ -14,7 +14,7 @@ use Rattle.sdr_base.specs.Catalogue.{name_addr}
 use Rattle.sdr_base.specs.Linked.{first_of, last_of}
 use Rattle.sdr_base.specs.Roots.{root_words, roots_by}
 use Rattle.sdr_base.specs.Stored.{number_at}
-use Rattle.sdr_base.specs.declared.control.TheConstants.{INBOUND, OUTBOUND, VERSION}
+use Rattle.sdr_base.specs.declared.control.TheConstants.{HEAP_VERSION, INBOUND, OUTBOUND, VERSION}
 use Rattle.sdr_model.specs.Accounts.{most_amount}
 use Rattle.sdr_model.specs.Amounts.{amounts_by, are_within}
 use Rattle.sdr_base.specs.declared.account.Acct.TheVariants as accts
@@ -36,7 +36,7 @@ one_of false b P is one other = other is
 -- the control words of a world from the catalogue's on
 abbrev words_of : World → List ℕ
 words_of w =
-    root_words 0 (first_of name_addr 0 (map name_row w.names)) (last_of name_addr 0 (map name_row w.names)) (account_roots w accts.Inbound)
+    root_words HEAP_VERSION (first_of name_addr 0 (map name_row w.names)) (last_of name_addr 0 (map name_row w.names)) (account_roots w accts.Inbound)
     (account_roots w accts.Outbound) w.accounts.next
 
 -- large blocks end at whole words, so they begin at one
@@ -121,20 +121,23 @@ module _ (bytes : List ℕ) (w : World) (P : Pools) (s : StandsForWhole bytes w 
       let most = s.whole.queues.next in
       and_from _ _ (le-leb 1 (control_word bytes word) (omega (arith, r, least))) (le-leb (control_word bytes word) most_amount (omega (arith, r, most)))
 
+  -- the heap's version
+  version : (word : ℕ) → (word == VERSION) ≡ true → (control_word bytes word == HEAP_VERSION) ≡ true
+  unfolding roots_by
+  version word is = eq-eqb _ _ (ap (control_word bytes) (eqb-true word VERSION is) ∙ root VERSION (omega arith) (omega arith))
+
   -- a spare word is 0
   spare : (word : ℕ) → word < 128 → is_spare word ≡ true → (control_word bytes word == 0) ≡ true
   unfolding roots_by
   spare word below is =
-      one_of (word == VERSION) (nat_lt 108 word) ((control_word bytes word == 0) ≡ true) is
-      (λ e. eq-eqb _ _ (ap (control_word bytes) (eqb-true word VERSION e) ∙ root VERSION (omega arith) (omega arith)))
-      (λ e. let least = ltb-true 108 word e in
+      let least = ltb-true 108 word is in
       let k : word - 89 ≡
       suc (suc (suc (suc (suc (suc (suc (suc (suc (suc (suc (suc (suc (suc (suc (suc (suc (suc (suc (suc (word - 109)))))))))))))))))))) = omega (arith, least) in
       let over : nat_lt word 89 ≡ false = le-ltb word 89 (omega (arith, least)) in
       eq-eqb _ _
       (root word (omega (arith, least)) below
       ∙ (λ i. cond (over i) 0 (get_or (words_of w) (k i) 0))
-      ∙ get_or-replicate 19 (word - 109) 0 0 (omega (arith, least, below))))
+      ∙ get_or-replicate 19 (word - 109) 0 0 (omega (arith, least, below)))
 
   -- each control word has a value that it may have
   pub control_right : ControlIsRight bytes
@@ -146,9 +149,10 @@ module _ (bytes : List ℕ) (w : World) (P : Pools) (s : StandsForWhole bytes w 
       (λ e. subst (λ (n : ℕ). is_low bytes n ≡ true) (sym (ap (control_word bytes) (eqb-true word 2 e) ∙ keeps.small.low)) low_right)
       (λ no. either (word == 3) (is_edge bytes (control_word bytes word)) _
       (λ e. subst (λ (n : ℕ). is_edge bytes n ≡ true) (sym (ap (control_word bytes) (eqb-true word 3 e) ∙ keeps.small.high)) (edge P.high whole.high bounds.end))
+      (λ no. either (word == VERSION) (control_word bytes word == HEAP_VERSION) _ (λ e. version word e)
       (λ no. either (is_maximum_of INBOUND word || is_maximum_of OUTBOUND word) (nat_le (control_word bytes word) most_amount) _ (λ e. maximum word e)
       (λ no. either (word == 108) (nat_le 1 (control_word bytes word) && nat_le (control_word bytes word) most_amount) _ (λ e. next word e)
-      (λ no. either (is_spare word) (control_word bytes word == 0) true (λ e. spare word below e) (λ e. refl)))))))
+      (λ no. either (is_spare word) (control_word bytes word == 0) true (λ e. spare word below e) (λ e. refl))))))))
     where
       keeps : KeepsHeap bytes P
       keeps = s.stands.heap

@@ -17,6 +17,7 @@ use Rattle.sdr_model.specs.World.{World}
 use Rattle.audit_owners.specs.Owned.{AreBytes}
 use Rattle.audit_owners.specs.View.{View, view_in}
 use Rattle.audit_world.proofs.OccupiedLemmas.{occupancy_same}
+use Rattle.sdr_audit.proofs.CountLemmas.{counts_kept}
 use Rattle.sdr_audit.proofs.ToldLemmas.{heap_audited, world_is}
 
 module _ (bytes : List ℕ) (w : World) (P : Pools) (s : StandsForWhole bytes w P) where
@@ -46,4 +47,4 @@ module _ (bytes : List ℕ) (w : World) (P : Pools) (s : StandsForWhole bytes w 
   occupancies_told are account space =
       eq-eqb (heap.roots (occupancy_word account space)) (heaps.occupancy_in heap words account space)
       (word_is account space ∙ ap (λ (v : World). occupancy v account space) (sym (world_is bytes w P s are))
-      ∙ occupancy_same heap words (heap_audited bytes w P s are) account space)
+      ∙ occupancy_same heap words (heap_audited bytes w P s are) (counts_kept bytes w P s are) account space)

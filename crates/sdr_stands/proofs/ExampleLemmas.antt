@@ -1,5 +1,5 @@
 -- The blocks and control words of a small world, computed.
-use Rattle.std.proofs.Common.{◌≡◌, ℕ, ◌+◌, List, ◌++◌, Option, ap, ◌∙◌, find}
+use Rattle.std.proofs.Common.{◌≡◌, ℕ, ◌+◌, List, ◌++◌, ap, ◌∙◌, find}
 use Rattle.std.specs.FinMap as finite
 use Rattle.std.specs.List.{flat_map, sum_by}
 use Rattle.std.specs.Option.{option_map}
@@ -12,10 +12,8 @@ use Rattle.sdr_base.specs.declared.account.Acct.{Acct}
 use Rattle.sdr_base.specs.declared.account.Acct.TheVariants as accts
 use Rattle.sdr_base.specs.declared.kind.Space.{Space}
 use Rattle.sdr_model.specs.Charges.{occupancy, thing_charge}
-use Rattle.sdr_model.specs.Zco.{as_source, names_raw, source_at, uses_in}
+use Rattle.sdr_model.specs.Zco.{names_raw, uses_in}
 use Rattle.sdr_model.specs.declared.things.Thing.{Thing}
-use Rattle.sdr_model.specs.declared.things.Thing.TheVariants as things
-use Rattle.sdr_model.specs.declared.zco.ZcoSource.{ZcoSource}
 use Rattle.sdr_stands.specs.Example.{bundle_entries, bundle_roots, bundle_things, bundle_world}
 use Rattle.sdr_stands.specs.Standing.{entries_of, other_entries, roots_of, thing_entries}
 use Rattle.sdr_stands.specs.Ties.{Ties, or_null}
@@ -40,29 +38,21 @@ pub bundle_blocks : entries_of bundle_world ≡ bundle_entries
 unfolding layout linked
 bundle_blocks = ap entries_by listed
 
--- the sources, as they are listed
-abbrev sources : ℕ → Option ZcoSource
-sources q = as_source (finite.find nat_cmp q bundle_things)
-
-same_sources : (q : ℕ) → source_at bundle_world q ≡ sources q
-same_sources q = ap as_source (finite.get-from_sorted nat_cmp bundle_things q tt)
-
--- what a thing charges, by where the sources are
-abbrev thing_charge_where : (ℕ → Option ZcoSource) → Acct → Space → Thing → ℕ
-thing_charge_where at acct space (things.Object z) = charge_where at acct space z
-thing_charge_where at acct space thing = 0
+-- how many extents of an account's objects among these name a source
+abbrev uses_among : List (ℕ × Thing) → Acct → ℕ → ℕ
+uses_among es acct source = sum_by (λ e. uses_in source acct e.1) es
 
 -- what is occupied, so
-abbrev occupied_by : (ℕ → Option ZcoSource) → Acct → Space → ℕ
-occupied_by at acct space = sum_by (λ e. thing_charge_where at acct space e.1) bundle_things + 0
+abbrev occupied_by : List (ℕ × Thing) → Acct → Space → ℕ
+occupied_by es acct space = sum_by (λ e. charge_where (uses_among es acct) acct space e.0 e.1) bundle_things + 0
 
-occupied : (acct : Acct) (space : Space) → occupancy bundle_world acct space ≡ occupied_by sources acct space
+occupied : (acct : Acct) (space : Space) → occupancy bundle_world acct space ≡ occupied_by bundle_things acct space
 occupied accts.Inbound space =
-    ap (λ (es : List (ℕ × Thing)). sum_by (λ e. thing_charge bundle_world accts.Inbound space e.1) es + 0) listed
-    ∙ ap (λ (at : ℕ → Option ZcoSource). occupied_by at accts.Inbound space) (λ i q. same_sources q i)
+    ap (λ (es : List (ℕ × Thing)). sum_by (λ e. thing_charge bundle_world accts.Inbound space e.0 e.1) es + 0) listed
+    ∙ ap (λ (es : List (ℕ × Thing)). occupied_by es accts.Inbound space) listed
 occupied accts.Outbound space =
-    ap (λ (es : List (ℕ × Thing)). sum_by (λ e. thing_charge bundle_world accts.Outbound space e.1) es + 0) listed
-    ∙ ap (λ (at : ℕ → Option ZcoSource). occupied_by at accts.Outbound space) (λ i q. same_sources q i)
+    ap (λ (es : List (ℕ × Thing)). sum_by (λ e. thing_charge bundle_world accts.Outbound space e.0 e.1) es + 0) listed
+    ∙ ap (λ (es : List (ℕ × Thing)). occupied_by es accts.Outbound space) listed
 
 -- so are its control words
 pub bundle_words : roots_of bundle_world ≡ roots_by bundle_roots

@@ -112,16 +112,16 @@ same_first raw m addr o same = by (finite.get m addr) o refl same
         ∙ ap (λ n. first (names_raw raw) (finite.entries n)) (with_at-again m addr (Some thing) is)
 
 -- a sum over things is the same where what comes counts what went
-sum_alike : (f : Thing → ℕ) (m : Things) (addr : ℕ) (o : Option Thing) →
-    counted_at (λ e. f e.1) addr (finite.get m addr) ≡ counted_at (λ e. f e.1) addr o →
-    sum_by (λ e. f e.1) (finite.entries (with_at m addr o)) ≡ sum_by (λ e. f e.1) (finite.entries m)
+sum_alike : (f : ℕ × Thing → ℕ) (m : Things) (addr : ℕ) (o : Option Thing) →
+    counted_at f addr (finite.get m addr) ≡ counted_at f addr o →
+    sum_by f (finite.entries (with_at m addr o)) ≡ sum_by f (finite.entries m)
 sum_alike f m addr None same =
-    let sums = sum_by-removed (λ (e : ℕ × Thing). f e.1) m addr in
-    let was : counted_at (λ e. f e.1) addr (finite.get m addr) ≡ 0 = same in
+    let sums = sum_by-removed f m addr in
+    let was : counted_at f addr (finite.get m addr) ≡ 0 = same in
     omega (arith, sums, was)
 sum_alike f m addr (Some thing) same =
-    let sums = sum_by-inserted (λ (e : ℕ × Thing). f e.1) m addr thing in
-    let was : counted_at (λ e. f e.1) addr (finite.get m addr) ≡ f thing = same in
+    let sums = sum_by-inserted f m addr thing in
+    let was : counted_at f addr (finite.get m addr) ≡ f (addr, thing) = same in
     omega (arith, sums, was)
 
 counted_uses : (source : ℕ) (acct : Acct) (k : ℕ) (o : Option Thing) →
@@ -138,7 +138,7 @@ pub same_ties : (w : World) (addr : ℕ) (o : Option Thing) → TieAlike (thing_
     ties_of (with_thing_at w addr o) ≡ ties_of w
 same_ties w addr o alike =
     let counts = λ (source : ℕ) (acct : Acct).
-    sum_alike (uses_in source acct) w.things addr o
+    sum_alike (λ e. uses_in source acct e.1) w.things addr o
     (counted_uses source acct addr (thing_at w addr) ∙ alike.sources source acct
     ∙ sym (counted_uses source acct addr o)) in
     λ i. record {
@@ -167,14 +167,14 @@ untied_alike was now u v = record {
 }
 
 -- what counts nothing of things that aren't tied counts nothing where one may be
-none_counted : (f : Thing → ℕ) (k : ℕ) (o : Option Thing) → ((thing : Thing) → IsUntied thing → f thing ≡ 0) →
-    NoneIsTied o → counted_at (λ e. f e.1) k o ≡ 0
+none_counted : (f : ℕ × Thing → ℕ) (k : ℕ) (o : Option Thing) → ((addr : ℕ) (thing : Thing) → IsUntied thing → f (addr, thing) ≡ 0) →
+    NoneIsTied o → counted_at f k o ≡ 0
 none_counted f k None zero u = refl
-none_counted f k (Some thing) zero u = zero thing u
+none_counted f k (Some thing) zero u = zero k thing u
 
 -- a sum over things that counts nothing of those
-pub same_sum : (f : Thing → ℕ) (m : Things) (addr : ℕ) (o : Option Thing) →
-    ((thing : Thing) → IsUntied thing → f thing ≡ 0) → NoneIsTied (finite.get m addr) → NoneIsTied o →
-    sum_by (λ e. f e.1) (finite.entries (with_at m addr o)) ≡ sum_by (λ e. f e.1) (finite.entries m)
+pub same_sum : (f : ℕ × Thing → ℕ) (m : Things) (addr : ℕ) (o : Option Thing) →
+    ((addr : ℕ) (thing : Thing) → IsUntied thing → f (addr, thing) ≡ 0) → NoneIsTied (finite.get m addr) → NoneIsTied o →
+    sum_by f (finite.entries (with_at m addr o)) ≡ sum_by f (finite.entries m)
 same_sum f m addr o zero was is =
     sum_alike f m addr o (none_counted f addr (finite.get m addr) zero was ∙ sym (none_counted f addr o zero is))

@@ -149,10 +149,10 @@ bundle_entries = (
     )
     ∷ []
 
--- its control words from 89 on: the name; what is occupied inbound and outbound, and the maxima; the next ticket
+-- its control words from 89 on: the name; the version; what is occupied inbound and outbound, and the maxima; the next ticket
 abbrev pub bundle_roots : List ℕ
 bundle_roots =
-    2152 ∷ 2152 ∷ 0 ∷ 0 ∷ 0 ∷ 0 ∷ 1099511627776 ∷ 1099511627776
+    2152 ∷ 2152 ∷ 2 ∷ 0 ∷ 0 ∷ 0 ∷ 1099511627776 ∷ 1099511627776
     ∷ 32768 ∷ 0 ∷ 0 ∷ 10 ∷ 0 ∷ 120 ∷ 1099511627776 ∷ 1099511627776
     ∷ 32768 ∷ 0 ∷ 0 ∷ 1 ∷ 0 ∷ 0 ∷ 0 ∷ 0
     ∷ 0 ∷ 0 ∷ 0 ∷ 0 ∷ 0 ∷ 0 ∷ 0 ∷ 0

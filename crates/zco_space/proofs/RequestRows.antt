@@ -4,6 +4,7 @@ use Rattle.sdr_base.specs.Objects.{Heap}
 use Rattle.sdr_base.specs.Roots.{account_words, root_words, roots_by}
 use Rattle.sdr_base.specs.declared.account.Acct.TheVariants as accts
 use Rattle.sdr_base.specs.declared.account.Amounts.{Amounts}
+use Rattle.sdr_base.specs.declared.control.TheConstants.{HEAP_VERSION}
 use Rattle.sdr_base.specs.declared.kind.Space.TheVariants as spaces
 use Rattle.sdr_base.specs.declared.refusal.Refusal.TheVariants as refusals
 use Rattle.sdr_model.specs.AccountSteps.{new_ticket}
@@ -20,7 +21,7 @@ abbrev heap_with : ℕ → ℕ → Heap
 heap_with most next = record {
   size = 2048;
   blocks = λ addr. None;
-  roots = roots_by (root_words 0 0 0 (account_words (each 0) (each most) 0 0) (account_words (each 0) (each most) 0 0) next);
+  roots = roots_by (root_words HEAP_VERSION 0 0 (account_words (each 0) (each most) 0 0) (account_words (each 0) (each most) 0 0) next);
   marks = λ addr. false;
   moves = [];
   spare = 9;

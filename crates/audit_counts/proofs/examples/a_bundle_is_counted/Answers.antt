@@ -32,3 +32,7 @@ returns-clause-heap c = refl
 pub returns-clause-other : goal.returns-clause-other
 unfolding at layout linked number_at
 returns-clause-other c = refl
+
+pub returns-clause-elsewhere : goal.returns-clause-elsewhere
+unfolding at layout linked number_at
+returns-clause-elsewhere c = refl
