@@ -58,50 +58,48 @@ cut_lengths from to (e ∷ es) = by ((cut from to e).length == 0) (cut_lengths (
     by false same = omega (arith, same)
 
 -- sources that no extent outside names charge no less
-unnamed_less : (w : World) (all out : List Extent) (acct : Acct) (space : Space) (us : List (UsedSource w all)) →
-    sum_by (rows.source_less acct (map extent_row out) space) (map (named_of w all) (without_named w all out us)) ≡ 0
-unnamed_less w all out acct space [] = refl
-unnamed_less w all out acct space (u ∷ us) =
-    by (names_source u.addr out) refl (unnamed_less w all out acct space us)
-  where
-    abbrev less : NamedSource → ℕ
-    less = rows.source_less acct (map extent_row out) space
+module _ (w : World) (all out : List Extent) (acct : Acct) (space : Space) where
+  abbrev less : NamedSource → ℕ
+  less = rows.source_less acct (map extent_row out) space
 
-    none : names_source u.addr out ≡ false → less (named_of w all u) ≡ 0
-    none is =
-        let s = named_of w all u in
-        ap (λ (n : ℕ). if (nat_lt 0 n && count_in acct s.source == n) then in_space (source_space s.source) s.source.row.length space
-        else 0)
-        (naming_rows u.addr out ∙ unnamed u.addr out is)
+  none_less : (u : UsedSource w all) → names_source u.addr out ≡ false → less (named_of w all u) ≡ 0
+  none_less u is =
+      let s = named_of w all u in
+      ap (λ (n : ℕ). if (nat_lt 0 n && count_in acct s.source == n) then in_space (source_space s.source) s.source.row.length space
+      else 0)
+      (naming_rows u.addr out ∙ unnamed u.addr out is)
 
-    by : (b : Bool) → names_source u.addr out ≡ b → sum_by less (map (named_of w all) (without_named w all out us)) ≡ 0 →
-        sum_by less (map (named_of w all) (if b then without_named w all out us else u ∷ without_named w all out us)) ≡ 0
-    by true is rest = rest
-    by false is rest =
-        omega (arith, rest, none is, sum_by-cons less (named_of w all u) (map (named_of w all) (without_named w all out us)))
+  unnamed_less : (us : List (UsedSource w all)) → sum_by less (map (named_of w all) (without_named w all out us)) ≡ 0
+  unnamed_less [] = refl
+  unnamed_less (u ∷ us) = by (names_source u.addr out) refl (unnamed_less us)
+    where
+      by : (b : Bool) → names_source u.addr out ≡ b → sum_by less (map (named_of w all) (without_named w all out us)) ≡ 0 →
+          sum_by less (map (named_of w all) (if b then without_named w all out us else u ∷ without_named w all out us)) ≡ 0
+      by true is rest = rest
+      by false is rest =
+          omega (arith, rest, none_less u is, sum_by-cons less (named_of w all u) (map (named_of w all) (without_named w all out us)))
 
 module _ (w : World) (addr : ℕ) (z : ZcoObject) (fits : FitTogether w) (there : thing_at w addr ≡ Some (things.Object z)) where
   abbrev ss : List NamedSource
   ss = both w addr z fits there
 
+  abbrev o : List Extent
+  o = out w addr z fits there
+
   -- the blocks that go are those of its row
-  pub gone_same : gone_blocks w (out w addr z fits there) (out w addr z fits there) ≡ gone_outside (object_row z) ss
+  pub gone_same : gone_blocks w o o ≡ gone_outside (object_row z) ss
   gone_same =
-      let o = out w addr z fits there in
       let m = mine w addr z fits there in
-      blocks_same w o m.sources m.are.found
+      blocks_same w o m.sources o m.are.found
       ∙ gone_alike (first w addr z fits there) ss (map extent_row o) o (found_first w addr z fits there)
       ∙ ap (λ (es : List ExtentRow). rows.gone_blocks ss es es) (outside_row z)
 
   -- and it charges less what its row does
   pub less_same : stripped_amounts (object_row z) ss
-      ≡ amounts_by (drop_release w z (Some (stripped z)) (out w addr z fits there))
+      ≡ amounts_by (drop_release w z (Some (stripped z)) o)
   less_same =
       ap (extents_amounts z.account ss) (sym (outside_row z)) ∙ (λ i. amounts_by (λ space. each space i))
     where
-      abbrev o : List Extent
-      o = out w addr z fits there
-
       each : (space : Space) →
           in_space spaces.Heap (extent_bytes * length (map extent_row o)) space
           + sum_by (rows.source_less z.account (map extent_row o) space) ss
