@@ -20,11 +20,11 @@ use Rattle.zco_obj.proofs.KeptLemmas.{object_word}
 -- why none comes: its account isn't charged
 pub uncharged_stops : (object number : ℕ) (text : List ℕ) (old new : Heap) (stop : Stop) → SomeWithQueue old object →
     IsKind (old.blocks object) kinds.Object → IsCapsuleLength (length text) →
-    ObjectChargeStops object number (capsule_amounts text) old new stop → CapsuleStops object number text old new stop
-uncharged_stops object number text old new (Refused (refusals.BadAddress bad)) q k f s = absurd (object_cause number (capsule_amounts text) q s.0)
-uncharged_stops object number text old new (Refused (refusals.WrongKind bad kind)) q k f s = absurd (object_cause number (capsule_amounts text) q s.0)
-uncharged_stops object number text old new (Refused (refusals.BadLength bad most)) q k f s = absurd (object_cause number (capsule_amounts text) q s.0)
-uncharged_stops object number text old new (Refused (refusals.NoBlock missing)) q k f s = absurd (object_cause number (capsule_amounts text) q s.0)
+    ObjectChargeStops object number (λ acct. capsule_amounts text) old new stop → CapsuleStops object number text old new stop
+uncharged_stops object number text old new (Refused (refusals.BadAddress bad)) q k f s = absurd (object_cause number (λ acct. capsule_amounts text) q s.0)
+uncharged_stops object number text old new (Refused (refusals.WrongKind bad kind)) q k f s = absurd (object_cause number (λ acct. capsule_amounts text) q s.0)
+uncharged_stops object number text old new (Refused (refusals.BadLength bad most)) q k f s = absurd (object_cause number (λ acct. capsule_amounts text) q s.0)
+uncharged_stops object number text old new (Refused (refusals.NoBlock missing)) q k f s = absurd (object_cause number (λ acct. capsule_amounts text) q s.0)
 uncharged_stops object number text old new (Refused (refusals.LogFull lines room)) q k f s = (record { kind = k; fits = f; allows = s.0 }, none_took (8 + length text) s.1)
 uncharged_stops object number text old new (Refused refusal) q k f s =
     (record { kind = k; fits = f; refuses = s.0 }, s.1)

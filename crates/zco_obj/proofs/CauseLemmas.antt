@@ -70,7 +70,7 @@ pub queue_cause : {heap : Heap} {acct : Acct} (number : ℕ) (amounts : Amounts)
 queue_cause {heap} {acct} number amounts {refusal} q r =
     is_cause heap acct number amounts q.tickets refusal (r.some q.tickets q.keeps)
 
-pub object_cause : {object : ℕ} (number : ℕ) (amounts : Amounts) {heap : Heap} {refusal : Refusal} → SomeWithQueue heap object →
+pub object_cause : {object : ℕ} (number : ℕ) (amounts : Acct → Amounts) {heap : Heap} {refusal : Refusal} → SomeWithQueue heap object →
     ObjectRefuses object number amounts heap refusal → IsCause refusal
 object_cause number amounts {heap} {refusal} q r =
-    is_cause heap q.row.account number amounts q.tickets refusal (r.refuses q.row q.tickets q.keeps)
+    is_cause heap q.row.account number (amounts q.row.account) q.tickets refusal (r.refuses q.row q.tickets q.keeps)

@@ -45,22 +45,22 @@ some_queue {heap} q t =
     subst (SomeQueue heap) (sym (t.tells q.row (object_of q.keeps))) (record { tickets = q.tickets; keeps = queue_of q.keeps })
 
 -- the account of an object was charged
-pub charges_object : {object number : ℕ} {acct : Acct} {amounts : Amounts} {old new : Heap} →
-    Tells old.blocks object (λ row. row.account) acct → ChargesAccount acct number amounts old new →
+pub charges_object : {object number : ℕ} {acct : Acct} (amounts : Acct → Amounts) {old new : Heap} →
+    Tells old.blocks object (λ row. row.account) acct → ChargesAccount acct number (amounts acct) old new →
     ChargesObject object number amounts old new
-charges_object {object} {number} {acct} {amounts} {old} {new} t c = record {
-  charges = λ row tickets k. subst (λ (a : Acct). ChargesAccount a number amounts old new) (t.tells row (object_of k)) c;
+charges_object {object} {number} {acct} amounts {old} {new} t c = record {
+  charges = λ row tickets k. subst (λ (a : Acct). ChargesAccount a number (amounts a) old new) (t.tells row (object_of k)) c;
 }
 
 -- or why not
-pub charge_stops : (object number : ℕ) (acct : Acct) (amounts : Amounts) (old new : Heap) (stop : Stop) →
-    Tells old.blocks object (λ row. row.account) acct → ChargeStops acct number amounts old new stop →
+pub charge_stops : (object number : ℕ) (acct : Acct) (amounts : Acct → Amounts) (old new : Heap) (stop : Stop) →
+    Tells old.blocks object (λ row. row.account) acct → ChargeStops acct number (amounts acct) old new stop →
     ObjectChargeStops object number amounts old new stop
 charge_stops object number acct amounts old new (Refused (refusals.LogFull lines room)) t s = (
   record {
     allows = λ row tickets k.
         let q = subst (λ (a : Acct). KeepsQueue old a tickets) (sym (t.tells row (object_of k))) (queue_of k) in
-        subst (λ (a : Acct). refusal_in old a number amounts tickets ≡ None) (t.tells row (object_of k)) (s.0.none tickets q);
+        subst (λ (a : Acct). refusal_in old a number (amounts a) tickets ≡ None) (t.tells row (object_of k)) (s.0.none tickets q);
   },
   s.1,
 )
@@ -68,7 +68,7 @@ charge_stops object number acct amounts old new (Refused refusal) t s = (
   record {
     refuses = λ row tickets k.
         let q = subst (λ (a : Acct). KeepsQueue old a tickets) (sym (t.tells row (object_of k))) (queue_of k) in
-        subst (λ (a : Acct). refusal_in old a number amounts tickets ≡ Some refusal) (t.tells row (object_of k)) (s.0.some tickets q);
+        subst (λ (a : Acct). refusal_in old a number (amounts a) tickets ≡ Some refusal) (t.tells row (object_of k)) (s.0.some tickets q);
   },
   s.1,
 )
@@ -149,7 +149,7 @@ module _ {acct : Acct} {number : ℕ} {amounts : Amounts} {old mid : Heap} (c : 
   }
 
 -- an object is kept once its account was charged
-pub still_kept : {object number : ℕ} {amounts : Amounts} {old mid : Heap} → ChargesObject object number amounts old mid →
+pub still_kept : {object number : ℕ} {amounts : Acct → Amounts} {old mid : Heap} → ChargesObject object number amounts old mid →
     {row : ObjectRow} {tickets : List Ticket} → KeepsWithQueue old object row tickets → KeepsObject mid.blocks object row
 still_kept {object} c {row} {tickets} k = record {
   rest = _;

@@ -17,13 +17,12 @@ use Rattle.sdr_base.proofs.GaveLemmas.{gave_spare, one_gave, some_of, some_then}
 use Rattle.sdr_base.proofs.HeapLemmas.{given_blocks, heap_blocks}
 use Rattle.sdr_base.proofs.StandingLemmas.{found, went}
 use Rattle.sdr_base.proofs.WritingLemmas.{reaches}
-use Rattle.sdr_model.specs.Amounts.{amount, in_space, minus, plus}
+use Rattle.sdr_model.specs.Amounts.{minus, plus}
 use Rattle.zco_acct.specs.Words.{occupied_in, with_occupied}
-use Rattle.zco_obj.specs.Amounts.{charge_of, heap_amounts}
-use Rattle.zco_obj.specs.Destroying.{DestroysObject, DestroyStops, GivesParts, KeepsSources, PartStops, SomeWithSources, capsule_row_charge, charges_of, gone_object, gone_parts, parts_amounts}
-use Rattle.zco_obj.specs.Gone.{NamedSource, extent_row_charge, sources_entries, sources_left}
+use Rattle.zco_obj.specs.Amounts.{heap_amounts}
+use Rattle.zco_obj.specs.Destroying.{DestroysObject, DestroyStops, GivesParts, KeepsSources, PartStops, SomeWithSources, charges_of, gone_object, gone_parts}
+use Rattle.zco_obj.specs.Gone.{NamedSource, sources_entries, sources_left}
 use Rattle.zco_obj.specs.Reading.{Tells}
-use Rattle.zco_obj.proofs.SpotLemmas.{amount_by, same_amounts}
 use Rattle.zco_obj.proofs.KeptLemmas.{object_words}
 use Rattle.zco_ref.proofs.GoneLemmas.{unmoved}
 
@@ -48,15 +47,6 @@ parts_stop object old new (Refused refusal) kind s = absurd s
 parts_stop object old new DiskFault kind s = s
 parts_stop object old new MediaFault kind s = s
 parts_stop object old new Failed kind s = s
-
--- what an object charges, with its parts
-charges_whole : (row : ObjectRow) (ss : List NamedSource) → plus (parts_amounts row ss) (heap_amounts 72) ≡ charges_of row ss
-charges_whole row ss =
-    same_amounts (λ space. amount (parts_amounts row ss) space + amount (heap_amounts 72) space)
-    (λ space. charge_of (in_space spaces.Heap 72 space) (extent_row_charge ss space) (capsule_row_charge space) row)
-    (λ space.
-    let p = amount_by (λ (z : Space). charge_of 0 (extent_row_charge ss z) (capsule_row_charge z) row) space in
-    let h = amount_by (in_space spaces.Heap 72) space in omega (arith, p, h))
 
 module _ {object : ℕ} {old mid : Heap} (parts : Amounts) (g : GivesParts object old mid parts) where
   -- its own block is there still, and there is room for the move
@@ -111,7 +101,7 @@ module _ {object : ℕ} {old mid : Heap} (parts : Amounts) (g : GivesParts objec
           let made = one_gave (gone_parts row ss) object (g.gives row ss k).made w in
           let same : occupied_in last acct ≡ occupied_in old acct = ap (λ (h : Heap). occupied_in h acct) made.all in
           let all : charged ≡ charges_of row ss =
-          c ∙ ap (λ a. plus a (heap_amounts 72)) (g.gives row ss k).charge ∙ charges_whole row ss in
+          c ∙ ap (λ a. plus a (heap_amounts 72)) (g.gives row ss k).charge in
           let moves = gave (gone_object object row ss) in
           record {
             changes = record {

@@ -1,9 +1,8 @@
 -- The extents of a chain are given back, each after what goes with it.
 use Rattle.std.proofs.Common.{◌≡◌, ◌≢◌, ◌+◌, ◌-◌, ◌*◌, ◌≤◌, ℕ, List, [], ◌∷◌, ◌++◌, length, refl, sym, ap, ◌∙◌, arith, subst, append_assoc, length-append}
-use Rattle.std.specs.Prelude.{◌==◌, ◌&&◌, All, sum_by, if◌then◌else◌}
+use Rattle.std.specs.Prelude.{◌==◌, ◌&&◌, All, if◌then◌else◌}
 use Rattle.std.proofs.lemmas.List.Concat.{flat_map-append}
 use Rattle.std.proofs.lemmas.List.Elements.{All-head, All-tail}
-use Rattle.std.proofs.lemmas.List.Sums.{sum_by_push}
 use Rattle.sdr_base.specs.Blocks.{Block}
 use Rattle.sdr_base.specs.Entries.{Entries, BlocksAre, times}
 use Rattle.sdr_base.specs.Linked.{first_of}
@@ -13,18 +12,16 @@ use Rattle.sdr_base.specs.Sources.{SourceRow}
 use Rattle.sdr_base.specs.ZcoObjects.{ExtentRow, extent_addr, extent_block, extent_entries}
 use Rattle.sdr_base.specs.declared.account.Acct.{Acct}
 use Rattle.sdr_base.specs.declared.account.Amounts.{Amounts}
-use Rattle.sdr_base.specs.declared.kind.Space.{Space}
 use Rattle.sdr_base.specs.declared.refusal.Refusal.TheVariants.{LogFull}
 use Rattle.sdr_base.specs.declared.stop.Stop.{Stop}
 use Rattle.sdr_base.specs.declared.stop.Stop.TheVariants.{Refused, DiskFault, MediaFault, Failed}
 use Rattle.sdr_base.proofs.GaveLemmas.{length-gave}
 use Rattle.sdr_base.proofs.StandingLemmas.{moved_back, rotated, times-append}
-use Rattle.sdr_model.specs.Amounts.{amount, amounts_by, plus}
-use Rattle.sdr_model.specs.Charges.{bytes_charge}
+use Rattle.sdr_model.specs.Amounts.{amounts_by, plus}
 use Rattle.sdr_model.specs.Limits.{longest_source}
-use Rattle.zco_obj.specs.Amounts.{extent_amounts, medium_space, source_space}
+use Rattle.zco_obj.specs.Amounts.{last_amounts}
 use Rattle.zco_obj.specs.Uses.{CountsUses, ExtentGiveStops, ExtentsGiveStops, GivesExtent, GivesExtents, GivesSomeOfExtent, IsThere, SomeUse, SomeUses, UseAt, UsesAt, going_with, left_next}
-use Rattle.zco_obj.specs.Gone.{NamedSource, extent_row_charge, extents_amounts, going_before, gone_blocks, left_of, less_uses, naming, source_at, sources_entries, sources_left, space_in}
+use Rattle.zco_obj.specs.Gone.{NamedSource, extents_amounts, going_before, gone_blocks, left_of, less_uses, naming, source_at, sources_entries, sources_left}
 use Rattle.zco_obj.specs.Kept.{ExtentFits}
 use Rattle.zco_obj.specs.declared.destroying.GivenExtent.{GivenExtent}
 use Rattle.zco_obj.proofs.ChainGoneLemmas.{Leaving, PartLeft, given_most, over_made, over_stands, over_told, part_at, part_begun, part_below, part_count, part_first, part_fits, part_many, part_none, part_on, part_room, part_some, part_stands, passed_most}
@@ -35,7 +32,8 @@ use Rattle.zco_obj.proofs.WalkLemmas.{HasFirst, fits_from}
 use Rattle.zco_ref.specs.Counting.{gone_next}
 use Rattle.zco_ref.specs.Going.{gone_with}
 use Rattle.zco_ref.specs.Kept.{CountedSource, count_in, counted_block, tied_entries}
-use Rattle.zco_obj.proofs.SpotLemmas.{SpotOf, amount_by, find_spot, less_fits, none_gone, others, same_amounts, times_head}
+use Rattle.zco_obj.proofs.SourcesLessLemmas.{extents_none, extents_push}
+use Rattle.zco_obj.proofs.SpotLemmas.{SpotOf, find_spot, less_fits, none_gone, others, times_head}
 
 -- extents with their sources, which go
 abbrev pub leaving_extents : Acct → List ExtentRow → List NamedSource → Leaving ExtentRow Amounts
@@ -44,7 +42,7 @@ leaving_extents acct xs ss = record {
   block = extent_block;
   beside = λ passed. sources_left acct passed ss;
   blocks = gone_blocks ss xs;
-  told = extents_amounts ss;
+  told = extents_amounts acct ss;
 }
 
 -- so many first ones of whichever are a chain there are gone
@@ -55,7 +53,7 @@ pub record ExtentsLeft (acct : Acct) (first : ℕ) (old now : Heap) (cursor i : 
 pub extents_begun : (acct : Acct) (first : ℕ) (old : Heap) (nothing : Amounts) → nothing ≡ amounts_by (λ space. 0) →
     ExtentsLeft acct first old old first 0 nothing
 extents_begun acct first old nothing e = record {
-  left = λ xs ss u. part_begun ExtentFits (leaving_extents acct xs ss) old xs u.rest first nothing e
+  left = λ xs ss u. part_begun ExtentFits (leaving_extents acct xs ss) old xs u.rest first nothing (e ∙ sym (extents_none acct ss))
       (subst (λ (es : Entries). BlocksAre old.blocks (extent_entries xs ++ (es ++ u.rest))) (sym (none_gone acct ss)) u.stands)
       u.at_first u.fits;
 }
@@ -194,23 +192,11 @@ module _ {acct : Acct} {first : ℕ} {old now : Heap} {cursor i : ℕ} {charged 
       let a = length-append (gone_next h.one.source source_now) (h.one.addr ∷ []) in
       let g = ap (going_with now.blocks) at ∙ going_told use_now in omega (arith, a, g)
 
-  -- what it charges
-  charge_now : (space : Space) → extent_row_charge ss space h.one
-      ≡ amount (extent_amounts (source_space source_now) h.one.length) space
-  charge_now space =
-      ap (λ of. bytes_charge of h.one.length space)
-      (ap space_in spot.is_found ∙ ap (λ (r : SourceRow). medium_space r.medium) (sym (less_row acct before_it spot.here.source)))
-      ∙ sym (amount_by (bytes_charge (source_space source_now) h.one.length) space)
-
-  pub charges_now : extents_amounts ss (p.passed ++ (h.one ∷ [])) ≡ plus charged (extent_amounts (source_space source_now) h.one.length)
+  -- what is charged less with it
+  pub charges_now : extents_amounts acct ss (p.passed ++ (h.one ∷ [])) ≡ plus charged (last_amounts acct source_now)
   charges_now =
-      same_amounts (λ space. sum_by (extent_row_charge ss space) (p.passed ++ (h.one ∷ [])))
-      (λ space. amount charged space + amount (extent_amounts (source_space source_now) h.one.length) space) (λ space.
-      let s = sum_by_push (extent_row_charge ss space) p.passed h.one in
-      let c = charge_now space in
-      let a : amount charged space ≡ sum_by (extent_row_charge ss space) p.passed =
-      ap (λ (m : Amounts). amount m space) p.is ∙ amount_by (λ (z : Space). sum_by (extent_row_charge ss z) p.passed) space in
-      omega (arith, s, c, a))
+      extents_push acct ss p.passed h.one spot apart.0 apart.1 (let e = enough in omega (arith, e))
+      ∙ ap (λ (m : Amounts). plus m (last_amounts acct source_now)) (sym p.is)
 
 module _ {acct : Acct} {first : ℕ} {old now : Heap} {cursor i : ℕ} {charged : Amounts}
     (l : ExtentsLeft acct first old now cursor i charged) where

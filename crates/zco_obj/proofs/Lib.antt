@@ -20,6 +20,7 @@ pub mod ChainGoneLemmas
 pub mod CapsulesGoneLemmas
 pub mod CountLemmas
 pub mod SpotLemmas
+pub mod SourcesLessLemmas
 pub mod ExtentsGoneLemmas
 pub mod PartsGoneLemmas
 pub mod EndLemmas

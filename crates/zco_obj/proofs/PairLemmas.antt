@@ -86,16 +86,16 @@ module _ {object : ℕ} {acct : Acct} {old mid : Heap} (piece : ExtentPiece) (a 
   }
 
 -- what stands beside an object and its queue stands so once its account was charged
-pub beside_still : {object number : ℕ} {amounts : Amounts} {old mid : Heap} → ChargesObject object number amounts old mid →
+pub beside_still : {object number : ℕ} {amounts : Acct → Amounts} {old mid : Heap} → ChargesObject object number amounts old mid →
     {row : ObjectRow} {tickets : List Ticket} {es : Entries} (k : KeepsBeside old object row tickets es) →
-    BlocksAre mid.blocks (object_entries object row ++ (es ++ (queue_entries row.account (charged tickets number amounts) ++ k.behind)))
+    BlocksAre mid.blocks (object_entries object row ++ (es ++ (queue_entries row.account (charged tickets number (amounts row.account)) ++ k.behind)))
 beside_still {object} {number} {amounts} {old} {mid} c {row} {tickets} {es} k =
-    swapped mid.blocks (object_entries object row) (queue_entries row.account (charged tickets number amounts)) es k.behind
+    swapped mid.blocks (object_entries object row) (queue_entries row.account (charged tickets number (amounts row.account))) es k.behind
     (stands_still (c.charges row tickets k.keeps) (queue_of k.keeps) (object_entries object row) (es ++ k.behind)
     (subst (λ (rest : Entries). BlocksAre old.blocks (object_entries object row ++ (queue_entries row.account tickets ++ rest))) k.whole
     k.keeps.stands))
 
-pub pair_still : {object number addr : ℕ} {amounts : Amounts} {old mid : Heap} → ChargesObject object number amounts old mid →
+pub pair_still : {object number addr : ℕ} {amounts : Acct → Amounts} {old mid : Heap} → ChargesObject object number amounts old mid →
     {row : ObjectRow} {tickets : List Ticket} {source : CountedSource} → KeepsWithSource old object row tickets addr source →
     KeepsPair mid.blocks object row addr source
 pair_still c {row} {tickets} {source} k = record {

@@ -1,49 +1,28 @@
 -- The parts of an object are given back, with what goes with its extents.
 use Rattle.std.proofs.Common.{◌≡◌, ◌+◌, ℕ, List, [], ◌∷◌, ◌++◌, length, map, refl, sym, ap, ◌∙◌, arith, subst, append_assoc, append-nil, length-append}
-use Rattle.std.specs.Prelude.{sum_by}
 use Rattle.std.proofs.lemmas.List.{length-map}
-use Rattle.std.proofs.lemmas.List.Sums.{sum_by-cons}
 use Rattle.sdr_base.specs.Entries.{Entries, BlocksAre}
 use Rattle.sdr_base.specs.Making.{GaveSome}
 use Rattle.sdr_base.specs.Objects.{Heap}
-use Rattle.sdr_base.specs.ZcoObjects.{CapsuleRow, ObjectRow, capsule_addr, capsule_entries, extent_entries, object_block}
+use Rattle.sdr_base.specs.ZcoObjects.{ObjectRow, capsule_addr, capsule_entries, extent_entries, object_block}
 use Rattle.sdr_base.specs.declared.account.Acct.{Acct}
 use Rattle.sdr_base.specs.declared.account.Amounts.{Amounts}
-use Rattle.sdr_base.specs.declared.kind.Space.{Space}
-use Rattle.sdr_base.specs.declared.kind.Space.TheVariants as spaces
 use Rattle.sdr_base.specs.declared.refusal.Refusal.TheVariants.{LogFull}
 use Rattle.sdr_base.specs.declared.stop.Stop.{Stop}
 use Rattle.sdr_base.specs.declared.stop.Stop.TheVariants.{Refused, DiskFault, MediaFault, Failed}
 use Rattle.sdr_base.proofs.GaveLemmas.{gave_spare, more_gave, some_of, some_then}
 use Rattle.sdr_base.proofs.StandingLemmas.{moved}
-use Rattle.sdr_model.specs.Amounts.{amount, in_space, plus}
-use Rattle.zco_obj.specs.Amounts.{charge_of, heap_amounts}
-use Rattle.zco_obj.specs.Destroying.{GivesParts, KeepsSources, PartStops, SomeWithSources, capsule_row_charge, gone_parts}
+use Rattle.sdr_model.specs.Amounts.{plus}
+use Rattle.zco_obj.specs.Amounts.{heap_amounts}
+use Rattle.zco_obj.specs.Destroying.{GivesParts, KeepsSources, PartStops, SomeWithSources, gone_parts}
 use Rattle.zco_obj.specs.Giving.{CapsuleGiveStops, CapsulesGone, GivesCapsules, SomeCapsulesToGive, capsules_charge}
 use Rattle.zco_obj.specs.Uses.{AreNamed, ExtentsGiveStops, ExtentsGone, GivesExtents, SomeUses, UsesAt}
-use Rattle.zco_obj.specs.Gone.{NamedSource, extent_row_charge, gone_blocks, sources_entries, sources_left}
+use Rattle.zco_obj.specs.Gone.{NamedSource, extents_amounts, gone_blocks, sources_entries, sources_left}
 use Rattle.zco_obj.specs.Kept.{KeepsObject, SomeObject}
 use Rattle.zco_obj.specs.Reading.{Tells, TellsFirsts}
 use Rattle.zco_obj.specs.Walks.{CapsulesAt}
 use Rattle.zco_obj.specs.declared.object.Firsts.{Firsts}
-use Rattle.zco_obj.proofs.SpotLemmas.{amount_by, same_amounts}
 use Rattle.zco_obj.proofs.PairLemmas.{swapped}
-
--- what headers or trailers charge of a space
-capsules_sum : (space : Space) (rows : List CapsuleRow) → sum_by (capsule_row_charge space) rows
-    ≡ in_space spaces.Heap (capsules_charge rows) space
-capsules_sum spaces.Heap rows = refl
-capsules_sum spaces.File [] = refl
-capsules_sum spaces.File (c ∷ rows) =
-    let s = sum_by-cons (capsule_row_charge spaces.File) c rows in let ih = capsules_sum spaces.File rows in omega (arith, s, ih)
-capsules_sum spaces.Bulk [] = refl
-capsules_sum spaces.Bulk (c ∷ rows) =
-    let s = sum_by-cons (capsule_row_charge spaces.Bulk) c rows in let ih = capsules_sum spaces.Bulk rows in omega (arith, s, ih)
-
-in_space-plus : (a b : ℕ) (space : Space) → amount (heap_amounts (a + b)) space ≡ in_space spaces.Heap a space + in_space spaces.Heap b space
-in_space-plus a b spaces.File = refl
-in_space-plus a b spaces.Bulk = refl
-in_space-plus a b spaces.Heap = refl
 
 -- how many blocks go
 count_parts : (row : ObjectRow) (ss : List NamedSource) → length (gone_parts row ss)
@@ -228,16 +207,8 @@ module _ {object : ℕ} {acct : Acct} (old : Heap) (first : Firsts) (f : TellsFi
               stands = subst (λ (n : Acct). BlocksAre h3.blocks ((object, object_block row) ∷ (sources_left n row.extents ss ++ k.rest))) own three.stands;
               made = more_gave (H ++ G) T (more_gave H G one.made two.made) three.made;
               charge =
-                  e
-                  ∙ same_amounts (λ space. amount extents space + amount (heap_amounts (headers + trailers)) space)
-                  (λ space. charge_of 0 (extent_row_charge ss space) (capsule_row_charge space) row) (λ space.
-                  let x : amount extents space ≡ sum_by (extent_row_charge ss space) row.extents =
-                  ap (λ (m : Amounts). amount m space) two.charge ∙ amount_by (λ (z : Space). sum_by (extent_row_charge ss z) row.extents) space in
-                  let s = in_space-plus headers trailers space in
-                  let h : in_space spaces.Heap headers space ≡ sum_by (capsule_row_charge space) row.headers =
-                  ap (λ n. in_space spaces.Heap n space) one.charge ∙ sym (capsules_sum space row.headers) in
-                  let y : in_space spaces.Heap trailers space ≡ sum_by (capsule_row_charge space) row.trailers =
-                  ap (λ n. in_space spaces.Heap n space) three.charge ∙ sym (capsules_sum space row.trailers) in
-                  omega (arith, x, s, h, y));
+                  e ∙ ap (λ (m : Amounts). plus m (heap_amounts (headers + trailers))) (two.charge ∙ ap (λ n. extents_amounts n ss row.extents) own)
+                  ∙ ap (λ n. plus (extents_amounts row.account ss row.extents) (heap_amounts (n + trailers))) one.charge
+                  ∙ ap (λ n. plus (extents_amounts row.account ss row.extents) (heap_amounts (capsules_charge row.headers + n))) three.charge;
             };
       }

@@ -23,7 +23,7 @@ use Rattle.zco_obj.specs.Amounts.{extent_amounts}
 use Rattle.zco_obj.specs.Appending.{AppendsRaw, HasPiece, IsWithin, NamesSource, OfRaw, taken_piece, taking_over}
 use Rattle.zco_obj.specs.AppendStops.{LacksRooms, RangeRefused, RawAllowed, RawPieceStops}
 use Rattle.zco_obj.specs.Beside.{IsWithRaw, KeepsPair, KeepsWithRaw, SomePair, SomeWithRaw}
-use Rattle.zco_obj.specs.Charging.{ChargesObject, ObjectAllows, ObjectChargeStops}
+use Rattle.zco_obj.specs.Charging.{ChargesObject, ObjectAllows, ObjectChargeStops, ObjectRefuses}
 use Rattle.zco_obj.specs.Extents.{extent_of, with_extent}
 use Rattle.zco_obj.specs.Kept.{SomeWithQueue}
 use Rattle.zco_obj.specs.declared.extent.ExtentPiece.{ExtentPiece}
@@ -59,12 +59,15 @@ module _ {object : ℕ} (number : ℕ) {old : Heap} (piece : ExtentPiece) (have 
   abbrev q : SomeWithQueue old object
   q = queue_with_raw is r h.unnamed
 
-  -- it has the bytes, so they are few
-  pub raw_short : IsWithin piece have → piece.bytes ≤ 2 ^ 40
-  raw_short w =
+  -- its bytes are few
+  pub raw_short : have ≤ 2 ^ 40
+  raw_short =
       let k = with_raw is r h.unnamed in
-      let e = h.counts 0 (raw_there is r h.unnamed).bytes (raw_beside k) in
-      let s = k.short in let i = w.within in omega (arith, e, s, i)
+      let e = h.counts 0 (raw_there is r h.unnamed).bytes (raw_beside k) in let s = k.short in omega (arith, e, s)
+
+  -- so are those of a piece of it
+  pub raw_piece_short : IsWithin piece have → piece.bytes ≤ 2 ^ 40
+  raw_piece_short w = let s = raw_short in let i = w.within in omega (arith, s, i)
 
   -- it has not the bytes
   pub raw_range_stops : (new : Heap) (stop : Stop) → RangeRefused piece have stop → new ≡ old → RawPieceStops object number piece old new stop
@@ -82,27 +85,35 @@ module _ {object : ℕ} (number : ℕ) {old : Heap} (piece : ExtentPiece) (have 
     has_piece : (bytes : List ℕ) → KeepsRaw (old.blocks piece.of) 0 bytes → HasPiece piece bytes
     has_piece bytes k = subst (IsWithin piece) (h.counts 0 bytes k) w
 
-    raw_allowed : ObjectAllows object number (extent_amounts spaces.Heap piece.bytes) old →
+    raw_allowed : ObjectAllows object number (λ acct. extent_amounts spaces.Heap have) old →
         OfRaw (RawAllowed object number piece old) object piece.of old
-    raw_allowed a = of_raw is r h.unnamed _ (λ bytes k. record { has = has_piece bytes k; allows = a })
+    raw_allowed a = of_raw is r h.unnamed _ (λ bytes k. record {
+      has = has_piece bytes k;
+      allows = subst (λ n. ObjectAllows object number (λ acct. extent_amounts spaces.Heap n) old) (h.counts 0 bytes k) a;
+    })
 
     -- or the object's account isn't charged
-    pub raw_uncharged : (new : Heap) (stop : Stop) → ObjectChargeStops object number (extent_amounts spaces.Heap piece.bytes) old new stop →
+    pub raw_uncharged : (new : Heap) (stop : Stop) → ObjectChargeStops object number (λ acct. extent_amounts spaces.Heap have) old new stop →
         RawPieceStops object number piece old new stop
-    raw_uncharged new (Refused (refusals.BadAddress bad)) s = absurd (object_cause number (extent_amounts spaces.Heap piece.bytes) q s.0)
-    raw_uncharged new (Refused (refusals.WrongKind bad kind)) s = absurd (object_cause number (extent_amounts spaces.Heap piece.bytes) q s.0)
-    raw_uncharged new (Refused (refusals.InUse bad count)) s = absurd (object_cause number (extent_amounts spaces.Heap piece.bytes) q s.0)
+    raw_uncharged new (Refused (refusals.BadAddress bad)) s = absurd (object_cause number (λ acct. extent_amounts spaces.Heap have) q s.0)
+    raw_uncharged new (Refused (refusals.WrongKind bad kind)) s = absurd (object_cause number (λ acct. extent_amounts spaces.Heap have) q s.0)
+    raw_uncharged new (Refused (refusals.InUse bad count)) s = absurd (object_cause number (λ acct. extent_amounts spaces.Heap have) q s.0)
     raw_uncharged new (Refused (refusals.BadRange offset bytes most)) s =
-        absurd (object_cause number (extent_amounts spaces.Heap piece.bytes) q s.0)
-    raw_uncharged new (Refused (refusals.NoBlock missing)) s = absurd (object_cause number (extent_amounts spaces.Heap piece.bytes) q s.0)
+        absurd (object_cause number (λ acct. extent_amounts spaces.Heap have) q s.0)
+    raw_uncharged new (Refused (refusals.NoBlock missing)) s = absurd (object_cause number (λ acct. extent_amounts spaces.Heap have) q s.0)
     raw_uncharged new (Refused (refusals.LogFull lines room)) s = (raw_allowed s.0, took_neither 48 32 s.1)
-    raw_uncharged new (Refused refusal) s =
-        (of_raw is r h.unnamed _ (λ bytes k. record { has = has_piece bytes k; refuses = s.0 }), s.1)
+    raw_uncharged new (Refused refusal) s = (
+      of_raw is r h.unnamed _ (λ bytes k. record {
+        has = has_piece bytes k;
+        refuses = subst (λ n. ObjectRefuses object number (λ acct. extent_amounts spaces.Heap n) old refusal) (h.counts 0 bytes k) s.0;
+      }),
+      s.1,
+    )
     raw_uncharged new DiskFault s = s
     raw_uncharged new MediaFault s = s
     raw_uncharged new Failed s = s
 
-    module _ {mid : Heap} (c : ChargesObject object number (extent_amounts spaces.Heap piece.bytes) old mid) where
+    module _ {mid : Heap} (c : ChargesObject object number (λ acct. extent_amounts spaces.Heap have) old mid) where
       charged_of : mid.moves ≡ old.moves
       charged_of = charged_moves (c.charges q.row q.tickets q.keeps) (queue_of q.keeps)
 
@@ -127,7 +138,7 @@ module _ {object : ℕ} (number : ℕ) {old : Heap} (piece : ExtentPiece) (have 
           BlocksAre mid.blocks
           (object_entries object row
           ++ (raw_entries piece.of 0 bytes
-          ++ (queue_entries row.account (charged tickets number (extent_amounts spaces.Heap piece.bytes)) ++ k.beside.behind)))
+          ++ (queue_entries row.account (charged tickets number (extent_amounts spaces.Heap have)) ++ k.beside.behind)))
       raw_stands k = beside_still c k.beside
 
       raw_still : {row : ObjectRow} {tickets : List Ticket} {bytes : List ℕ} → KeepsWithRaw old object row tickets piece.of 0 bytes →
@@ -249,7 +260,9 @@ module _ {object : ℕ} (number : ℕ) {old : Heap} (piece : ExtentPiece) (have 
                     (more_stands n.addr piece.of source _ (object_entries object q.row) (counted_entries source (taking_over piece.of _)) _)
                     n.new_block.free);
                 pays = λ row tickets bytes z.
-                    pays (c.charges row tickets z.beside.keeps) (queue_of z.beside.keeps) (changes_all n z)
+                    let d = subst (λ n. ChargesObject object number (λ acct. extent_amounts spaces.Heap n) old mid)
+                    (h.counts 0 bytes (raw_beside z)) c in
+                    pays (d.charges row tickets z.beside.keeps) (queue_of z.beside.keeps) (changes_all n z)
                     (made_then (Took 48 source ∷ []) (Took 32 n.addr ∷ []) m.made n.made);
               }
             where

@@ -61,6 +61,10 @@ row_of_counted = refl
 row_of_left : sources_left accts.Inbound both (source_of media.Bulk true 3) ≡ sources_entries (source_of media.Bulk true 1)
 row_of_left = refl
 
--- two extents of three bytes of an item charge six bytes of bulk space, and 64 of heap space for themselves
-row_of_charge : extents_amounts (source_of media.Bulk false 2) both ≡ record { file = 0; bulk = 6; heap = 64 }
-row_of_charge = refl
+-- two extents that are all which name an item of five bytes give these back, and 64 of heap space for themselves
+row_of_last : extents_amounts accts.Inbound (source_of media.Bulk false 2) both ≡ record { file = 0; bulk = 5; heap = 64 }
+row_of_last = refl
+
+-- where an extent of another object of the account names it still, they give back themselves alone
+row_of_others : extents_amounts accts.Inbound (source_of media.Bulk false 3) both ≡ record { file = 0; bulk = 0; heap = 64 }
+row_of_others = refl

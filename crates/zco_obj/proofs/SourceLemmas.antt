@@ -1,14 +1,20 @@
 -- What the block of a source says to an extent that is to name it.
-use Rattle.std.proofs.Common.{◌≡◌, ℕ, Bool, true, false, refl, ap, ◌∙◌, arith}
-use Rattle.std.specs.Prelude.{◌==◌, Option}
-use Rattle.sdr_base.specs.Blocks.{Block}
+use Rattle.std.proofs.Common.{◌≡◌, ℕ, Bool, true, false, None, Some, refl, sym, ap, ◌∙◌, arith, subst}
+use Rattle.std.specs.Prelude.{◌==◌, Option, if◌then◌else◌}
+use Rattle.sdr_base.specs.Blocks.{Block, IsOther}
+use Rattle.sdr_base.specs.Objects.{Misses, OnlyFault}
 use Rattle.sdr_base.specs.Sources.{flag_word}
 use Rattle.sdr_base.specs.Words.{HasWord}
 use Rattle.sdr_base.specs.declared.kind.Kind.TheVariants as kinds
 use Rattle.sdr_base.specs.declared.kind.Space.{Space}
+use Rattle.sdr_base.specs.declared.refusal.Refusal.TheVariants as refusals
+use Rattle.sdr_base.specs.declared.stop.Stop.{Stop}
+use Rattle.sdr_base.specs.declared.stop.Stop.TheVariants.{Refused, DiskFault, MediaFault, Failed}
 use Rattle.sdr_base.proofs.WritingLemmas.{word_is}
-use Rattle.zco_obj.specs.Sources.{IsSpaceOf, SeesSource}
-use Rattle.zco_ref.specs.Kept.{CountedSource, KeepsSource}
+use Rattle.zco_obj.specs.Amounts.{extent_amounts, heap_amounts, naming_amounts, source_space}
+use Rattle.zco_obj.specs.Sources.{IsSeen, IsSpaceOf, SeesSource}
+use Rattle.zco_obj.specs.declared.seeing.SeenSource.{SeenSource}
+use Rattle.zco_ref.specs.Kept.{CountedSource, KeepsSource, SomeSource, counted_block}
 use Rattle.zco_ref.proofs.KeptLemmas.{flag_is, medium_is, source_words}
 
 -- the word of a yes or no
@@ -30,3 +36,23 @@ sees_source medium flag bytes space m f b of = record {
     bytes = length_is k b;
   };
 }
+
+-- what an extent charges that names the source, by what was read of it
+pub naming_read : (only : Bool) (s : CountedSource) (seen : SeenSource) → IsSeen s seen →
+    (if only then extent_amounts seen.space seen.bytes else heap_amounts 32) ≡ naming_amounts only s
+naming_read only s seen v =
+    ap (λ (space : Space). if only then extent_amounts space seen.bytes else heap_amounts 32) v.space
+    ∙ ap (λ n. if only then extent_amounts (source_space s) n else heap_amounts 32) v.bytes
+
+-- a source that is there isn't missed, so it is a fault
+pub source_misses : {found : Option Block} (addr : ℕ) (stop : Stop) → SomeSource found → Misses found addr kinds.Source stop → OnlyFault stop
+source_misses {found} addr (Refused (refusals.BadAddress bad)) q m = absurd (none (sym m.1 ∙ q.keeps.block))
+  where
+    none : {x : Block} → None ≡ Some x → ⊥
+    none e = cc
+source_misses {found} addr (Refused (refusals.WrongKind bad number)) q m =
+    absurd ((subst (λ (p : Option Block). IsOther p kinds.Source number) q.keeps.block m.1).1 refl)
+source_misses addr (Refused refusal) q m = m
+source_misses addr DiskFault q m = m
+source_misses addr MediaFault q m = m
+source_misses addr Failed q m = m

@@ -23,7 +23,7 @@ use Rattle.sdr_base.proofs.GaveLemmas.{gave_spare, none_made, one_gave, some_of,
 use Rattle.sdr_base.proofs.HeapLemmas.{given_blocks}
 use Rattle.sdr_base.proofs.StandingLemmas.{found, moved, went}
 use Rattle.sdr_base.proofs.WritingLemmas.{reaches}
-use Rattle.zco_obj.specs.Amounts.{extent_amounts, source_space}
+use Rattle.zco_obj.specs.Amounts.{extent_amounts, heap_amounts, naming_amounts}
 use Rattle.zco_obj.specs.Giving.{AreAtMost}
 use Rattle.zco_obj.specs.Uses.{ExtentGiveStops, GivesExtent, SomeUse, UseAt, going_with, left_next}
 use Rattle.zco_obj.specs.Sources.{SeesSource}
@@ -31,8 +31,9 @@ use Rattle.zco_obj.specs.Walks.{KeepsExtent, SeesExtent, SomeExtent}
 use Rattle.zco_obj.specs.declared.destroying.GivenExtent.{GivenExtent}
 use Rattle.zco_obj.specs.declared.seeing.SeenExtent.{SeenExtent}
 use Rattle.zco_obj.specs.declared.seeing.SeenSource.{SeenSource}
+use Rattle.zco_obj.proofs.SourceLemmas.{naming_read}
 use Rattle.zco_obj.proofs.WalkLemmas.{source_is}
-use Rattle.zco_ref.specs.Counting.{Becomes, DetachStops, Detaches, detached, gone_next}
+use Rattle.zco_ref.specs.Counting.{Becomes, CountsIn, DetachStops, Detaches, detached, gone_next}
 use Rattle.zco_ref.specs.Going.{SourceGoes, goes_next, going, going_by, gone_with, is_passing, blocks_left, passing_blocks, word_in}
 use Rattle.zco_ref.specs.Kept.{CountedSource, IsTiedRaw, KeepsSource, KeepsTied, SomeAttached, SomeSource, counted_block, counted_entries, raw_part, tied_entries, uses_of}
 use Rattle.zco_ref.proofs.GoneLemmas.{unmoved}
@@ -116,6 +117,12 @@ module _ {acct : Acct} {b : Blocks} {extent : ℕ} {seen : SeenExtent} (q : Some
   some_use_source =
       subst (λ n. SomeSource (b n)) (sym seen_source) (record { source = q.source; keeps = (use_tied q.is).keeps })
 
+  -- it has few bytes
+  pub source_short : (source : SeenSource) → SeesSource (b seen.source) source → source.bytes ≤ 2 ^ 40
+  source_short source w =
+      let kept = subst (λ n. KeepsSource (b n) q.source) (sym seen_source) (use_tied q.is).keeps in
+      let e = (w.sees q.source kept).bytes in let s = q.is.short in omega (arith, e, s)
+
   pub some_attached : SomeAttached acct b seen.source
   some_attached =
       subst (λ n. SomeAttached acct b n) (sym seen_source)
@@ -182,13 +189,14 @@ module _ {acct : Acct} (extent : ℕ) {old mid : Heap} {gone : Bool} (seen : See
       let m = gave_spare (gone_next q.row.source q.source) (use_detached q.is).made in omega (arith, n, m, enough)
 
   -- it was given back then
-  pub gives_extent : {new : Heap} (given : GivenExtent) (source : SeenSource) → SeesSource (old.blocks seen.source) source →
-      given.charged ≡ extent_amounts source.space seen.length → given.next ≡ seen.next → new ≡ with_given mid extent →
-      GivesExtent acct extent old new given
-  gives_extent {new} given source w charged after g = record {
+  pub gives_extent : {new : Heap} (given : GivenExtent) (source : SeenSource) (count : ℕ) → SeesSource (old.blocks seen.source) source →
+      CountsIn acct (old.blocks seen.source) count →
+      given.charged ≡ (if count == 1 then extent_amounts source.space source.bytes else heap_amounts 32) →
+      given.next ≡ seen.next → new ≡ with_given mid extent → GivesExtent acct extent old new given
+  gives_extent {new} given source count w n charged after g = record {
     gives = λ next e s bytes u.
         let at = v.source next e (use_extent u) in
-        let sees = w.sees s (subst (λ n. KeepsSource (old.blocks n) s) (sym at) (use_tied u).keeps) in
+        let kept = subst (λ p. KeepsSource (old.blocks p) s) (sym at) (use_tied u).keeps in
         record {
           changes = record {
             kept = λ rest st.
@@ -196,9 +204,7 @@ module _ {acct : Acct} (extent : ℕ) {old mid : Heap} {gone : Bool} (seen : See
                 (went mid.blocks extent (extent_block 0 next e) (left_next acct e.source s bytes) rest (extent_behind u rest st));
           };
           made = one_gave (gone_next e.source s) extent (use_detached u).made g;
-          charge =
-              charged ∙ ap (λ (space : Space). extent_amounts space seen.length) sees.space
-              ∙ ap (λ n. extent_amounts (source_space s) n) (v.length next e (use_extent u));
+          charge = charged ∙ naming_read (count == 1) s source (w.sees s kept) ∙ ap (λ m. naming_amounts (m == 1) s) (n.tells s kept);
           is_next = after ∙ v.next next e (use_extent u);
         };
   }
@@ -227,8 +233,10 @@ detach_stops acct extent seen old new DiskFault v d = d
 detach_stops acct extent seen old new MediaFault v d = d
 detach_stops acct extent seen old new Failed v d = d
 
--- what it charged is at most so much
-pub charge_most : (space : Space) (bytes : ℕ) → bytes ≤ 2 ^ 40 → AreAtMost (2 ^ 40 + 32) (extent_amounts space bytes)
-charge_most spaces.File bytes le = record { file = omega (arith, le); bulk = omega arith; heap = omega arith }
-charge_most spaces.Bulk bytes le = record { file = omega arith; bulk = omega (arith, le); heap = omega arith }
-charge_most spaces.Heap bytes le = record { file = omega arith; bulk = omega arith; heap = omega (arith, le) }
+-- what is charged less is at most so much
+pub charge_most : (only : Bool) (space : Space) (bytes : ℕ) → bytes ≤ 2 ^ 40 →
+    AreAtMost (2 ^ 40 + 32) (if only then extent_amounts space bytes else heap_amounts 32)
+charge_most true spaces.File bytes le = record { file = omega (arith, le); bulk = omega arith; heap = omega arith }
+charge_most true spaces.Bulk bytes le = record { file = omega arith; bulk = omega (arith, le); heap = omega arith }
+charge_most true spaces.Heap bytes le = record { file = omega arith; bulk = omega arith; heap = omega (arith, le) }
+charge_most false space bytes le = record { file = omega arith; bulk = omega arith; heap = omega arith }

@@ -16,10 +16,10 @@ ghost use Rattle.zco_obj.specs.Beside.{IsWithRaw, IsWithSource, SomePair, SomeWi
 use crate::charging::{charge_object, extent_amounts, naming_amounts};
 use crate::extent::{ExtentPiece, add_extent};
 use crate::object::account;
-use crate::seeing::see_source;
+use crate::seeing::{see_count, see_source};
 use sdr_base::{Addr, Kind, Objects, Refusal, Space, Stop, expect_kind};
 use zco_acct::charge;
-use zco_ref::{attach, count_in, expect_unnamed, heap_source};
+use zco_ref::{attach, expect_unnamed, heap_source};
 
 /// Puts a part of a source behind an object's extents, and charges the object's account for it: for the
 /// whole source too, where no extent of the account named that. Of a raw object, which no source may
@@ -87,7 +87,7 @@ fn append_source<O: Objects>(
     }
     check_range(piece, seen.bytes)?;
     let acct = account(o, object)?;
-    let count = count_in(o, piece.of, acct)?;
+    let count = see_count(o, piece.of, acct)?;
     charge(o, acct, ticket, &naming_amounts(seen, count == 0))?;
     name_source(o, object, piece)
 }

@@ -20,11 +20,11 @@ ghost use Rattle.zco_obj.specs.Walks.{CapsulesAt};
 
 use crate::charging::{capsule_bytes, heap_amounts, naming_amounts};
 use crate::object::{OBJECT_BYTES, account, first_parts};
-use crate::seeing::{TOO_MANY_PARTS, see_capsule, see_extent, see_source};
+use crate::seeing::{TOO_MANY_PARTS, see_capsule, see_count, see_extent, see_source};
 use sdr_base::{Acct, Addr, Amounts, Kind, Objects, Stop, check_failed, expect_kind};
 use sdr_model::amounts::{NOTHING, plus};
 use zco_acct::release;
-use zco_ref::{count_in, detach};
+use zco_ref::detach;
 
 // What is charged less for an extent that was given back, and the address of the next one, 0 for none.
 #[derive(Clone, Copy)]
@@ -151,7 +151,7 @@ fn give_extent<O: Objects>(o: &mut O, acct: Acct, extent: Addr) -> Result<GivenE
 {
     let seen = see_extent(o, extent)?;
     let source = see_source(o, seen.source)?;
-    let count = count_in(o, seen.source, acct)?;
+    let count = see_count(o, seen.source, acct)?;
     detach(o, seen.source, acct)?;
     o.give(extent)?;
     Ok(GivenExtent {

@@ -6,12 +6,14 @@ ghost use Rattle.sdr_base.specs.Works.{Looks};
 ghost use Rattle.sdr_model.specs.Limits.{longest_source};
 ghost use Rattle.zco_obj.specs.Sources.{IsSpaceOf, SeesSource};
 ghost use Rattle.zco_obj.specs.Walks.{FindsLast, SeesCapsule, SeesExtent, SomeCapsule, SomeCapsules, SomeExtent};
+ghost use Rattle.zco_ref.specs.Counting.{CountsIn};
 ghost use Rattle.zco_ref.specs.Kept.{SomeSource};
 
 use crate::capsule::TEXT_FROM;
 use sdr_base::layout::{capsule as capsule_words, extent as extent_words, source as source_words};
 use sdr_base::limits::LONGEST_CAPSULE;
-use sdr_base::{Addr, Objects, Space, Stop, check_failed, word};
+use sdr_base::{Acct, Addr, Objects, Space, Stop, check_failed, word};
+use zco_ref::count_in;
 
 /// More parts than an object may have.
 pub const TOO_MANY_PARTS: u64 = 4_194_304;
@@ -100,6 +102,17 @@ pub fn see_source<O: Objects>(o: &mut O, source: Addr) -> Result<SeenSource, Sto
         flagged: flag == 1,
         bytes,
     })
+}
+
+// How many extents of an account name a source that is there.
+pub fn see_count<O: Objects>(o: &mut O, source: Addr, acct: Acct) -> Result<u64, Stop>
+    requires kept { KeepsSome (O.keeps o.old) }
+    requires source { SomeSource ((O.heap o.old).blocks source) }
+    ensures seen { IfOk result (CountsIn acct ((O.heap o.old).blocks source)) }
+    ensures refused { IfErr result OnlyFault }
+    ensures looks { Looks O.HasHeap o.old o.new result }
+{
+    count_in(o, source, acct)
 }
 
 // The space that the bytes of a medium of this number are in.

@@ -3,7 +3,7 @@ use Rattle.std.proofs.Common.{arith}
 use Rattle.std.proofs.lemmas.Result.{IfErr-weaker, err_from_is_err_and, on_ok_weaker}
 use Rattle.sdr_base.proofs.LeavingLemmas.{wanting_leaves}
 use Rattle.zco_obj.specs.AppendStops.{RawPieceStops}
-use Rattle.zco_obj.proofs.RawStopLemmas.{appends_raw, extent_stops, queue_with_raw, raw_range_stops, raw_short, raw_uncharged, some_raw, source_stops, source_wants, taken_pair, taken_spare}
+use Rattle.zco_obj.proofs.RawStopLemmas.{appends_raw, extent_stops, queue_with_raw, raw_piece_short, raw_range_stops, raw_short, raw_uncharged, some_raw, source_stops, source_wants, taken_pair, taken_spare}
 use Rattle.zco_obj.proofs.RawLemmas.{address_stops, is_raw}
 use Rattle.zco_obj.proofs.SourceStopLemmas.{object_spare}
 use Rattle.zco_obj.proofs.appending.append_raw.Goals as goal
@@ -27,9 +27,7 @@ returns-in_err-check_range-clause-refused g c =
 
 pub extent_amounts-requires : goal.extent_amounts-requires
 extent_amounts-requires g c = record {
-  short =
-      raw_short c.args.ticket c.args.piece c.in_ok-have.have c.requires.object c.requires.raw c.in_ok-have.ensures.found
-      c.in_ok-check_range.ensures.within;
+  short = raw_short c.args.ticket c.args.piece c.in_ok-have.have c.requires.object c.requires.raw c.in_ok-have.ensures.found;
 }
 
 pub charge_object-requires-clause-object : goal.charge_object-requires-clause-object
@@ -87,7 +85,7 @@ name_source-requires-clause-some g c =
 
 pub name_source-requires-clause-short : goal.name_source-requires-clause-short
 name_source-requires-clause-short g c =
-    raw_short c.args.ticket c.args.piece c.in_ok-have.have c.requires.object c.requires.raw c.in_ok-have.ensures.found
+    raw_piece_short c.args.ticket c.args.piece c.in_ok-have.have c.requires.object c.requires.raw c.in_ok-have.ensures.found
     c.in_ok-check_range.ensures.within
 
 pub returns-clause-appended : goal.returns-clause-appended

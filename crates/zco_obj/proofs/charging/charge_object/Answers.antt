@@ -14,13 +14,13 @@ pub returns-clause-charged : goal.returns-clause-charged
 returns-clause-charged g c =
     let old = g.O.HasHeap.heap c.args.o.now in
     on_ok_weaker _
-    (λ w. charges_object {old = old} {new = g.O.HasHeap.heap c.charge.new.o} c.in_ok-acct.ensures.told
+    (λ w. charges_object (λ acct. c.args.amounts.now) {old = old} {new = g.O.HasHeap.heap c.charge.new.o} c.in_ok-acct.ensures.told
     (rw c.account.ensures.looks.same at w)) c.charge.ensures.charged
 
 pub returns-clause-refused : goal.returns-clause-refused
 returns-clause-refused g c =
     let old = g.O.HasHeap.heap c.args.o.now in
     let new = g.O.HasHeap.heap c.charge.new.o in
-    IfErr-weaker _ _ (ObjectChargeStops c.args.object c.args.ticket c.args.amounts.now old new)
-    (λ stop s. charge_stops c.args.object c.args.ticket _ c.args.amounts.now old new stop c.in_ok-acct.ensures.told
+    IfErr-weaker _ _ (ObjectChargeStops c.args.object c.args.ticket (λ acct. c.args.amounts.now) old new)
+    (λ stop s. charge_stops c.args.object c.args.ticket _ (λ acct. c.args.amounts.now) old new stop c.in_ok-acct.ensures.told
     (rw c.account.ensures.looks.same at s)) c.charge.ensures.refused
