@@ -1,15 +1,13 @@
 -- An object is destroyed.
-use Rattle.std.proofs.Common.{◌≡◌, ◌+◌, ◌≤◌, ℕ, List, [], ◌∷◌, ◌++◌, sym, ap, ◌∙◌, arith, subst, append_assoc, append-nil, length-append}
+use Rattle.std.proofs.Common.{◌≡◌, ◌≤◌, ℕ, List, [], ◌∷◌, ◌++◌, sym, ap, ◌∙◌, arith, subst, append_assoc, append-nil, length-append}
 use Rattle.sdr_base.specs.Blocks.{Blocks, IsKind, Reaches}
 use Rattle.sdr_base.specs.Entries.{Entries, BlocksAre}
 use Rattle.sdr_base.specs.Making.{GaveSome, besides, gave, with_moves}
 use Rattle.sdr_base.specs.Objects.{Heap, Misses, OnlyUnmoved, with_given}
-use Rattle.sdr_base.specs.ZcoObjects.{ObjectRow, object_block, object_entries}
+use Rattle.sdr_base.specs.ZcoObjects.{object_block, object_entries}
 use Rattle.sdr_base.specs.declared.account.Acct.{Acct}
 use Rattle.sdr_base.specs.declared.account.Amounts.{Amounts}
 use Rattle.sdr_base.specs.declared.kind.Kind.TheVariants as kinds
-use Rattle.sdr_base.specs.declared.kind.Space.{Space}
-use Rattle.sdr_base.specs.declared.kind.Space.TheVariants as spaces
 use Rattle.sdr_base.specs.declared.refusal.Refusal.TheVariants as refusals
 use Rattle.sdr_base.specs.declared.stop.Stop.{Stop}
 use Rattle.sdr_base.specs.declared.stop.Stop.TheVariants.{Refused, DiskFault, MediaFault, Failed}
@@ -21,7 +19,7 @@ use Rattle.sdr_model.specs.Amounts.{minus, plus}
 use Rattle.zco_acct.specs.Words.{occupied_in, with_occupied}
 use Rattle.zco_obj.specs.Amounts.{heap_amounts}
 use Rattle.zco_obj.specs.Destroying.{DestroysObject, DestroyStops, GivesParts, KeepsSources, PartStops, SomeWithSources, charges_of, gone_object, gone_parts}
-use Rattle.zco_obj.specs.Gone.{NamedSource, sources_entries, sources_left}
+use Rattle.zco_obj.specs.Gone.{sources_entries, sources_left}
 use Rattle.zco_obj.specs.Reading.{Tells}
 use Rattle.zco_obj.proofs.KeptLemmas.{object_words}
 use Rattle.zco_ref.proofs.GoneLemmas.{unmoved}

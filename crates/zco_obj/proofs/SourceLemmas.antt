@@ -14,7 +14,7 @@ use Rattle.sdr_base.proofs.WritingLemmas.{word_is}
 use Rattle.zco_obj.specs.Amounts.{extent_amounts, heap_amounts, naming_amounts, source_space}
 use Rattle.zco_obj.specs.Sources.{IsSeen, IsSpaceOf, SeesSource}
 use Rattle.zco_obj.specs.declared.seeing.SeenSource.{SeenSource}
-use Rattle.zco_ref.specs.Kept.{CountedSource, KeepsSource, SomeSource, counted_block}
+use Rattle.zco_ref.specs.Kept.{CountedSource, KeepsSource, SomeSource}
 use Rattle.zco_ref.proofs.KeptLemmas.{flag_is, medium_is, source_words}
 
 -- the word of a yes or no

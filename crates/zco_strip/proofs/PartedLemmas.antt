@@ -9,36 +9,30 @@ use Rattle.sdr_base.specs.Linked.{first_of, last_of, linked}
 use Rattle.sdr_base.specs.Making.{besides}
 use Rattle.sdr_base.specs.Objects.{Heap}
 use Rattle.sdr_base.specs.ZcoObjects.{ExtentRow, extent_addr, extent_block, extent_entries}
-use Rattle.sdr_base.specs.declared.account.Amounts.{Amounts}
-use Rattle.sdr_base.specs.declared.kind.Space.{Space}
-use Rattle.sdr_base.specs.declared.kind.Space.TheVariants as spaces
-use Rattle.sdr_model.specs.Amounts.{amount, plus}
 use Rattle.zco_strip.proofs.ChainChanges.{changes_then, ended, in_two, split}
-use Rattle.zco_strip.proofs.ChainLemmas.{chain_at, chain_left, last_reaches, named_there}
+use Rattle.zco_strip.proofs.ChainLemmas.{chain_left, last_reaches, one_there}
 use Rattle.zco_strip.proofs.CutLaws.{before_part, empty_part}
-use Rattle.zco_strip.proofs.PartingLemmas.{Kept, charged-append, end_there, kept_all}
+use Rattle.zco_strip.proofs.PartingLemmas.{Kept, end_there, kept_all}
 use Rattle.zco_strip.proofs.PlaceLemmas.{Begins, Ends, begins, ends, length-both}
-use Rattle.zco_strip.specs.Chain.{ChainOf, ChainParted, PartsChain, SomeChain, charged_of}
+use Rattle.zco_strip.specs.Chain.{ChainOf, ChainParted, PartsChain, SomeChain}
 use Rattle.zco_strip.specs.Cuts.{cut, cut_all, left_out}
 use Rattle.zco_strip.specs.Finding.{FindsPlace}
 use Rattle.zco_strip.specs.Linking.{LinksAfter}
-use Rattle.zco_strip.specs.Parting.{CutsEnd, CutsTo, SomeNamed}
+use Rattle.zco_strip.specs.Parting.{CutsEnd, CutsTo}
 use Rattle.zco_strip.specs.declared.finding.Place.{Place}
 use Rattle.zco_strip.specs.declared.parting.End.{End}
-use Rattle.zco_obj.proofs.SpotLemmas.{amount_by}
-use Rattle.zco_obj.specs.Gone.{NamedSource, sources_entries}
 use Rattle.zco_obj.specs.Kept.{extents_length}
-use Rattle.zco_obj.specs.Walks.{ExtentsAt, SomeExtents}
+use Rattle.zco_obj.specs.Walks.{ExtentsAt, SomeExtent, SomeExtents}
 
 pub some_extents : {blocks : Blocks} {first bytes : ℕ} → SomeChain blocks first bytes → SomeExtents blocks first
-some_extents q = record { rows = q.rows; is = chain_at q.is }
+some_extents q = record { rows = q.rows; is = q.is.chain }
 
 -- an empty part: all are outside
 pub parts_none : {old new : Heap} (first from to : ℕ) → from ≡ to → new ≡ old →
-    PartsChain first from to old new (record { first = 0; last = 0; out = first; freed = record { file = 0; bulk = 0; heap = 0 } })
+    PartsChain first from to old new (record { first = 0; last = 0; out = first })
 unfolding linked
 parts_none {old} {new} first from to e same = record {
-  parts = λ rows ss c le.
+  parts = λ rows c le.
       let law = empty_part to rows in
       let inside : cut_all from to rows ≡ [] = ap (λ n. cut_all n to rows) e ∙ law.0 in
       let out : left_out from to rows ≡ rows = ap (λ n. left_out n to rows) e ∙ law.1 in
@@ -51,19 +45,10 @@ parts_none {old} {new} first from to e same = record {
             (record { kept = λ rest s. s })));
         at_first = ap (first_of extent_addr 0) (sym inside);
         at_last = ap (last_of extent_addr 0) (sym inside);
-        at_out = c.at_first ∙ ap (first_of extent_addr 0) (sym out);
-        charge = λ space.
-            let i = ap (λ (l : List ExtentRow). charged_of ss l space) inside in
-            let o = ap (λ (l : List ExtentRow). charged_of ss l space) out in
-            let z = nothing space in omega (arith, i, o, z);
+        at_out = c.chain.at_first ∙ ap (first_of extent_addr 0) (sym out);
       };
   same = ap besides same;
 }
-  where
-    nothing : (space : Space) → amount (record { file = 0; bulk = 0; heap = 0 }) space ≡ 0
-    nothing spaces.File = refl
-    nothing spaces.Bulk = refl
-    nothing spaces.Heap = refl
 
 -- the first one outside is that of the chain, or the one behind the part where none is before it
 out_is : {b : Blocks} (before : List ExtentRow) (e : ExtentRow) (behind out : List ExtentRow) (first last next : ℕ) (rest : Entries) →
@@ -81,22 +66,22 @@ out_is {b} (x ∷ xs) e behind out first last next rest s f l n =
 
 -- a part with a byte: where it begins was found
 module _ (old : Heap) {first from to : ℕ} {begin : Place} (lt : from < to) (f : FindsPlace old.blocks first from begin)
-    {rows : List ExtentRow} {ss : List NamedSource} (c : ChainOf old.blocks first rows ss) (le : to ≤ extents_length rows) where
+    {rows : List ExtentRow} (c : ChainOf old.blocks first rows) (le : to ≤ extents_length rows) where
   begun : Begins rows from begin
-  begun = begins f (chain_at c) (omega (arith, lt, le))
+  begun = begins f c.chain (omega (arith, lt, le))
 
-  chain : ChainOf old.blocks first (begun.before ++ (begun.one ∷ begun.behind)) ss
-  chain = subst (λ (l : List ExtentRow). ChainOf old.blocks first l ss) begun.whole c
+  chain : ChainOf old.blocks first (begun.before ++ (begun.one ∷ begun.behind))
+  chain = subst (λ (l : List ExtentRow). ChainOf old.blocks first l) begun.whole c
 
   left_at : ExtentsAt old.blocks begin.extent (begun.one ∷ begun.behind)
-  left_at = chain_left begun.before (begun.one ∷ begun.behind) begin.extent (chain_at chain) begun.at_extent
+  left_at = chain_left begun.before (begun.one ∷ begun.behind) begin.extent chain.chain begun.at_extent
 
   pub left_there : SomeExtents old.blocks begin.extent
   left_there = record { rows = begun.one ∷ begun.behind; is = left_at }
 
-  pub first_there : SomeNamed old.blocks begin.extent
+  pub first_there : SomeExtent (old.blocks begin.extent)
   first_there =
-      subst (λ n. SomeNamed old.blocks n) (sym begun.at_extent) (named_there old begun.before begun.one begun.behind chain)
+      subst (λ n. SomeExtent (old.blocks n)) (sym begun.at_extent) (one_there old begun.before begun.one begun.behind chain)
 
   pub within_from : begin.inside ≤ from
   within_from = let s = begun.sum in omega (arith, s)
@@ -118,21 +103,21 @@ module _ (old : Heap) {first from to : ℕ} {begin : Place} (lt : from < to) (f 
         let both = length-both begun.before (begun.one ∷ begun.behind) in
         let s = begun.sum in omega (arith, whole, both, s, lt, le))
 
-    module _ {mid : Heap} {freed : Amounts} (cuts : CutsTo begin.extent begin.inside bytes old mid freed) where
-      cuts_first : CutsTo begun.one.addr begin.inside bytes old mid freed
-      cuts_first = subst (λ n. CutsTo n begin.inside bytes old mid freed) begun.at_extent cuts
+    module _ {mid : Heap} (cuts : CutsTo begin.extent begin.inside bytes old mid) where
+      cuts_first : CutsTo begun.one.addr begin.inside bytes old mid
+      cuts_first = subst (λ n. CutsTo n begin.inside bytes old mid) begun.at_extent cuts
 
-      pub last_there : place.inside ≢ 0 → SomeNamed mid.blocks place.extent
+      pub last_there : place.inside ≢ 0 → SomeExtent (mid.blocks place.extent)
       last_there nz =
           end_there begun.before begun.one begin.inside bytes begun.within (omega (arith, lt)) place cuts_first chain ended_at nz
 
       module _ (now : Heap) (end : End) (e : CutsEnd place mid now end) where
-        kept : Kept old now begun.before begun.one begun.behind ss begin.inside bytes freed end
+        kept : Kept old now begun.before begun.one begun.behind begin.inside bytes end
         kept =
             kept_all begun.before begun.one begin.inside bytes begun.within (omega (arith, lt)) place cuts_first chain ended_at e
 
-        kept_stands : BlocksAre now.blocks (extent_entries (begun.before ++ ((k ∷ kept.more) ++ kept.out)) ++ (sources_entries ss ++ chain.rest))
-        kept_stands = kept.changes.kept (sources_entries ss ++ chain.rest) chain.stands
+        kept_stands : BlocksAre now.blocks (extent_entries (begun.before ++ ((k ∷ kept.more) ++ kept.out)) ++ chain.chain.rest)
+        kept_stands = kept.changes.kept chain.chain.rest chain.chain.stands
 
         -- the last one in the part is there
         pub end_reaches : end.last ≢ 0 → Reaches (now.blocks end.last) 32
@@ -141,7 +126,7 @@ module _ (old : Heap) {first from to : ℕ} {begin : Place} (lt : from < to) (f 
             let A = linked extent_addr extent_block 0 k.addr begun.before in
             let B = linked extent_addr extent_block 0 next (k ∷ kept.more) in
             let C = extent_entries kept.out in
-            let R = sources_entries ss ++ chain.rest in
+            let R = chain.chain.rest in
             let line : extent_entries (begun.before ++ ((k ∷ kept.more) ++ kept.out)) ++ R ≡ A ++ (B ++ (C ++ R)) =
             ap (λ (es : Entries). es ++ R)
             (in_two 0 begun.before ((k ∷ kept.more) ++ kept.out) ∙ ap (λ (es : Entries). A ++ es) (in_two 0 (k ∷ kept.more) kept.out))
@@ -160,17 +145,17 @@ module _ (old : Heap) {first from to : ℕ} {begin : Place} (lt : from < to) (f 
               let A = linked extent_addr extent_block 0 k.addr begun.before in
               let B = linked extent_addr extent_block 0 0 (k ∷ kept.more) in
               let C = extent_entries kept.out in
-              let R = sources_entries ss ++ chain.rest in
+              let R = chain.chain.rest in
               subst (λ n. Reaches (linked_once.blocks n) 32) (sym begun.at_last)
               (last_reaches [] ((B ++ C) ++ R) k.addr begun.before
               (subst (λ (es : Entries). BlocksAre linked_once.blocks es) (append_assoc A (B ++ C) R)
               ((ended begun.before k kept.more kept.out link_in).kept R kept_stands)) (λ z. nz (begun.at_last ∙ z)))
 
           -- it is parted
-          pub parted : {new : Heap} (out : ℕ) (all : Amounts) → LinksAfter begin.last end.next linked_once new →
-              out ≡ (if begin.last == 0 then end.next else first) → all ≡ plus freed end.freed →
-              ChainParted from to rows ss old new (record { first = begin.extent; last = end.last; out = out; freed = all })
-          parted {new} out all m out_at all_at =
+          pub parted : {new : Heap} (out : ℕ) → LinksAfter begin.last end.next linked_once new →
+              out ≡ (if begin.last == 0 then end.next else first) →
+              ChainParted from to rows old new (record { first = begin.extent; last = end.last; out = out })
+          parted {new} out m out_at =
               let s = begun.sum in
               let law = before_part from to begun.before (begun.one ∷ begun.behind) (omega (arith, s)) in
               let a : from - extents_length begun.before ≡ begin.inside = omega (arith, s) in
@@ -201,17 +186,7 @@ module _ (old : Heap) {first from to : ℕ} {begin : Place} (lt : from < to) (f 
                 at_last = kept.at_last ∙ ap (last_of extent_addr 0) (sym inside);
                 at_out =
                     out_at
-                    ∙ out_is begun.before begun.one begun.behind kept.out first begin.last end.next (sources_entries ss ++ chain.rest)
-                    chain.stands chain.at_first begun.at_last kept.at_next
+                    ∙ out_is begun.before begun.one begun.behind kept.out first begin.last end.next chain.chain.rest
+                    chain.chain.stands chain.chain.at_first begun.at_last kept.at_next
                     ∙ ap (first_of extent_addr 0) (sym outside);
-                charge = λ space.
-                    let sum : amount all space ≡ amount freed space + amount end.freed space =
-                    ap (λ (m : Amounts). amount m space) all_at ∙ amount_by (λ z. amount freed z + amount end.freed z) space in
-                    let kept_all = kept.charge space in
-                    let i = ap (λ (l : List ExtentRow). charged_of ss l space) inside in
-                    let o = ap (λ (l : List ExtentRow). charged_of ss l space) outside in
-                    let o_both = charged-append ss space begun.before kept.out in
-                    let w = ap (λ (l : List ExtentRow). charged_of ss l space) begun.whole in
-                    let w_both = charged-append ss space begun.before (begun.one ∷ begun.behind) in
-                    omega (arith, sum, kept_all, i, o, o_both, w, w_both);
               }

@@ -2,7 +2,6 @@
 use Rattle.std.proofs.Common.{◌≡◌, ◌≢◌, ◌∙◌, ◌+◌, ◌≤◌, ◌<◌, ◌==◌, ℕ, List, [], ◌∷◌, ◌++◌, Bool, true, false, sym, ap, subst, arith, append_assoc}
 use Rattle.std.proofs.lemmas.Bool.{eq-eqb, ne_eqb}
 use Rattle.std.proofs.lemmas.List.Elements.{All-cons, All-head, All-nil, All-tail, recursion_from_All}
-use Rattle.std.proofs.lemmas.List.Sums.{sum_by-append, sum_by-cons}
 use Rattle.std.specs.List.{AllByRecursion}
 use Rattle.std.specs.Prelude.{All, MatchBool}
 use Rattle.sdr_base.proofs.LinkedLemmas.{last-append}
@@ -11,38 +10,24 @@ use Rattle.sdr_base.specs.Linked.{first_of, last_of}
 use Rattle.sdr_base.specs.Making.{besides}
 use Rattle.sdr_base.specs.Objects.{Heap}
 use Rattle.sdr_base.specs.ZcoObjects.{ExtentRow, extent_addr, extent_block, extent_entries}
-use Rattle.sdr_base.specs.declared.account.Amounts.{Amounts}
-use Rattle.sdr_base.specs.declared.kind.Space.{Space}
-use Rattle.sdr_base.specs.declared.kind.Space.TheVariants as spaces
-use Rattle.sdr_model.specs.Amounts.{amount}
 use Rattle.zco_strip.proofs.ChainChanges.{changes_then}
-use Rattle.zco_strip.proofs.ChainLemmas.{chain_at, chain_cut, charge_cut, named_there, one_kept, still_chain}
+use Rattle.zco_strip.proofs.ChainLemmas.{chain_cut, one_kept, one_there, still_chain}
 use Rattle.zco_strip.proofs.PartLaws.{cut_again, ends_between, ends_in, ends_within}
 use Rattle.zco_strip.proofs.PlaceLemmas.{Ends, between, later, same}
-use Rattle.zco_strip.specs.Chain.{ChainOf, charged_of}
+use Rattle.zco_strip.specs.Chain.{ChainOf}
 use Rattle.zco_strip.specs.Cuts.{HasByte, cut, cut_all, left_out}
-use Rattle.zco_strip.specs.Parting.{CutsEnd, CutsTo, EndsBefore, EndsInside, SomeNamed}
+use Rattle.zco_strip.specs.Parting.{CutsEnd, CutsTo, EndsBefore, EndsInside}
 use Rattle.zco_strip.specs.declared.finding.Place.{Place}
 use Rattle.zco_strip.specs.declared.parting.End.{End}
 use Rattle.zco_obj.proofs.WalkLemmas.{fits_from}
-use Rattle.zco_obj.specs.Gone.{NamedSource, extent_row_charge}
 use Rattle.zco_obj.specs.Kept.{extents_length}
-use Rattle.zco_obj.specs.Walks.{KeepsExtent}
+use Rattle.zco_obj.specs.Walks.{KeepsExtent, SomeExtent}
 
 -- what holds of all holds of some first ones
 all_front : (P : ExtentRow → Type 0) (xs ys : List ExtentRow) → All P (xs ++ ys) → All P xs
 all_front P [] ys all = All-nil P
 all_front P (x ∷ xs) ys all =
     All-cons P x xs (All-head P x (xs ++ ys) all) (all_front P xs ys (All-tail P x (xs ++ ys) all))
-
--- what extents charge
-pub charged-cons : (ss : List NamedSource) (space : Space) (e : ExtentRow) (es : List ExtentRow) →
-    charged_of ss (e ∷ es) space ≡ extent_row_charge ss space e + charged_of ss es space
-charged-cons ss space e es = sum_by-cons (extent_row_charge ss space) e es
-
-pub charged-append : (ss : List NamedSource) (space : Space) (xs ys : List ExtentRow) →
-    charged_of ss (xs ++ ys) space ≡ charged_of ss xs space + charged_of ss ys space
-charged-append ss space xs ys = sum_by-append (extent_row_charge ss space) xs ys
 
 -- the end of a part was cut, where some bytes of an extent lie in it, or nothing was
 end_before : (place : Place) (old new : Heap) (end : End) → place.inside ≡ 0 → CutsEnd place old new end → EndsBefore place old new end
@@ -62,8 +47,7 @@ end_same place old new end c = by (place.inside == 0) c
     by false ends = ends.cuts.same
 
 -- the extents in the part, cut to it, of which the first one was cut first; and those behind
-pub record Kept (old now : Heap) (before : List ExtentRow) (e : ExtentRow) (behind : List ExtentRow) (ss : List NamedSource) (a t : ℕ)
-    (freed : Amounts) (end : End) : Type 0 where
+pub record Kept (old now : Heap) (before : List ExtentRow) (e : ExtentRow) (behind : List ExtentRow) (a t : ℕ) (end : End) : Type 0 where
   pub more : List ExtentRow
   pub out : List ExtentRow
   pub inside : cut_all a t (e ∷ behind) ≡ cut a t e ∷ more
@@ -72,27 +56,20 @@ pub record Kept (old now : Heap) (before : List ExtentRow) (e : ExtentRow) (behi
       (extent_entries (before ++ ((cut a t e ∷ more) ++ out)))
   pub at_last : end.last ≡ last_of extent_addr 0 (cut a t e ∷ more)
   pub at_next : end.next ≡ first_of extent_addr 0 out
-  pub charge : (space : Space) → (amount freed space + amount end.freed space)
-      + (charged_of ss (cut a t e ∷ more) space + charged_of ss out space) ≡ charged_of ss (e ∷ behind) space
 
-nothing_of : (space : Space) (freed : Amounts) → freed ≡ record { file = 0; bulk = 0; heap = 0 } → amount freed space ≡ 0
-nothing_of spaces.File freed e = ap (λ (m : Amounts). m.file) e
-nothing_of spaces.Bulk freed e = ap (λ (m : Amounts). m.bulk) e
-nothing_of spaces.Heap freed e = ap (λ (m : Amounts). m.heap) e
-
-module _ {old mid : Heap} {first : ℕ} (before : List ExtentRow) (e : ExtentRow) {ss : List NamedSource} (a t : ℕ) (lt : a < e.length)
-    (some : a < t) (place : Place) {freed : Amounts} (cuts : CutsTo e.addr a t old mid freed) where
+module _ {old mid : Heap} {first : ℕ} (before : List ExtentRow) (e : ExtentRow) (a t : ℕ) (lt : a < e.length)
+    (some : a < t) (place : Place) (cuts : CutsTo e.addr a t old mid) where
   -- those behind the first one have bytes
-  have_bytes : (es out : List ExtentRow) → ChainOf old.blocks first (before ++ (e ∷ (es ++ out))) ss →
+  have_bytes : (es out : List ExtentRow) → ChainOf old.blocks first (before ++ (e ∷ (es ++ out))) →
       AllByRecursion (λ (x : ExtentRow). 1 ≤ x.length) es
   have_bytes es out c =
       recursion_from_All HasByte es (all_front HasByte es out (All-tail HasByte e (es ++ out) (fits_from HasByte before (e ∷ (es ++ out)) c.bytes)))
 
   -- it ends between two
-  module _ {now : Heap} {end : End} (es out : List ExtentRow) (c : ChainOf old.blocks first (before ++ (e ∷ (es ++ out))) ss)
+  module _ {now : Heap} {end : End} (es out : List ExtentRow) (c : ChainOf old.blocks first (before ++ (e ∷ (es ++ out))))
       (sum : extents_length (e ∷ es) ≡ t) where
     kept_between : place.last ≡ last_of extent_addr 0 (e ∷ es) → place.extent ≡ first_of extent_addr 0 out →
-        EndsBefore place mid now end → Kept old now before e (es ++ out) ss a t freed end
+        EndsBefore place mid now end → Kept old now before e (es ++ out) a t end
     kept_between last next ends =
         let law = ends_between a t e lt es out (have_bytes es out c) sum in
         record {
@@ -104,36 +81,30 @@ module _ {old mid : Heap} {first : ℕ} (before : List ExtentRow) (e : ExtentRow
               (extent_entries (before ++ (cut a t e ∷ (es ++ out))))) (sym ends.same) (chain_cut old before e (es ++ out) c a t cuts);
           at_last = ends.last ∙ last;
           at_next = ends.next ∙ next;
-          charge = λ space.
-              let one = charge_cut old before e (es ++ out) c a t cuts space in
-              let none = nothing_of space end.freed ends.freed in
-              let kept = charged-cons ss space (cut a t e) es in
-              let all = charged-cons ss space e (es ++ out) in
-              let both = charged-append ss space es out in omega (arith, one, none, kept, all, both);
         }
 
   -- it ends in a later one
   module _ (es : List ExtentRow) (x : ExtentRow) (out : List ExtentRow)
-      (c : ChainOf old.blocks first (before ++ (e ∷ (es ++ (x ∷ out)))) ss) (at : place.extent ≡ x.addr) where
+      (c : ChainOf old.blocks first (before ++ (e ∷ (es ++ (x ∷ out))))) (at : place.extent ≡ x.addr) where
     abbrev front : List ExtentRow
     front = before ++ (cut a t e ∷ es)
 
-    chain_mid : ChainOf mid.blocks first (front ++ (x ∷ out)) ss
+    chain_mid : ChainOf mid.blocks first (front ++ (x ∷ out))
     chain_mid =
-        subst (λ (l : List ExtentRow). ChainOf mid.blocks first l ss) (sym (append_assoc before (cut a t e ∷ es) (x ∷ out)))
+        subst (λ (l : List ExtentRow). ChainOf mid.blocks first l) (sym (append_assoc before (cut a t e ∷ es) (x ∷ out)))
         (still_chain old before e (es ++ (x ∷ out)) c a t cuts some lt)
 
-    later_there : SomeNamed mid.blocks place.extent
-    later_there = subst (λ n. SomeNamed mid.blocks n) (sym at) (named_there mid front x out chain_mid)
+    later_there : SomeExtent (mid.blocks place.extent)
+    later_there = subst (λ n. SomeExtent (mid.blocks n)) (sym at) (one_there mid front x out chain_mid)
 
     kept_later : {now : Heap} {end : End} → 1 ≤ place.inside → place.inside < x.length →
         extents_length (e ∷ es) + place.inside ≡ t → EndsInside place mid now end →
-        Kept old now before e (es ++ (x ∷ out)) ss a t freed end
+        Kept old now before e (es ++ (x ∷ out)) a t end
     kept_later {now} {end} one below sum ends =
         let b = place.inside in
         let law = ends_in a t e lt es x out b (have_bytes es (x ∷ out) c) one below sum in
         let cx = cut 0 b x in
-        let second : CutsTo x.addr 0 b mid now end.freed = subst (λ n. CutsTo n 0 b mid now end.freed) at ends.cuts in
+        let second : CutsTo x.addr 0 b mid now = subst (λ n. CutsTo n 0 b mid now) at ends.cuts in
         let line : before ++ (cut a t e ∷ (es ++ (x ∷ out))) ≡ front ++ (x ∷ out) =
         sym (append_assoc before (cut a t e ∷ es) (x ∷ out)) in
         let line' : front ++ (cx ∷ out) ≡ before ++ ((cut a t e ∷ (es ++ (cx ∷ []))) ++ out) =
@@ -156,34 +127,24 @@ module _ {old mid : Heap} {first : ℕ} (before : List ExtentRow) (e : ExtentRow
           at_next =
               ends.next (first_of extent_addr 0 out) x
               (subst (λ n. KeepsExtent (mid.blocks n) (first_of extent_addr 0 out) x) (sym at)
-              (one_kept front x out (chain_at chain_mid)));
-          charge = λ space.
-              let p = charge_cut old before e (es ++ (x ∷ out)) c a t cuts space in
-              let q = charge_cut mid front x out chain_mid 0 b second space in
-              let kept = charged-cons ss space (cut a t e) (es ++ (cx ∷ [])) in
-              let kept_both = charged-append ss space es (cx ∷ []) in
-              let kept_last = charged-cons ss space cx [] in
-              let all = charged-cons ss space e (es ++ (x ∷ out)) in
-              let both = charged-append ss space es (x ∷ out) in
-              let last = charged-cons ss space x out in
-              omega (arith, p, q, kept, kept_both, kept_last, all, both, last);
+              (one_kept front x out chain_mid.chain));
         }
 
   -- it ends in the same one
-  module _ (behind : List ExtentRow) (c : ChainOf old.blocks first (before ++ (e ∷ behind)) ss) (at : place.extent ≡ e.addr) where
-    same_chain : ChainOf mid.blocks first (before ++ (cut a t e ∷ behind)) ss
+  module _ (behind : List ExtentRow) (c : ChainOf old.blocks first (before ++ (e ∷ behind))) (at : place.extent ≡ e.addr) where
+    same_chain : ChainOf mid.blocks first (before ++ (cut a t e ∷ behind))
     same_chain = still_chain old before e behind c a t cuts some lt
 
-    same_there : SomeNamed mid.blocks place.extent
-    same_there = subst (λ n. SomeNamed mid.blocks n) (sym at) (named_there mid before (cut a t e) behind same_chain)
+    same_there : SomeExtent (mid.blocks place.extent)
+    same_there = subst (λ n. SomeExtent (mid.blocks n)) (sym at) (one_there mid before (cut a t e) behind same_chain)
 
     kept_same : {now : Heap} {end : End} → place.inside ≡ t → t < e.length → EndsInside place mid now end →
-        Kept old now before e behind ss a t freed end
+        Kept old now before e behind a t end
     kept_same {now} {end} is below ends =
         let law = ends_within a t e lt behind some below in
         let again = cut_again a t e lt some below in
-        let second : CutsTo e.addr 0 t mid now end.freed =
-        subst (λ n. CutsTo n 0 t mid now end.freed) at (subst (λ n. CutsTo place.extent 0 n mid now end.freed) is ends.cuts) in
+        let second : CutsTo e.addr 0 t mid now =
+        subst (λ n. CutsTo n 0 t mid now) at (subst (λ n. CutsTo place.extent 0 n mid now) is ends.cuts) in
         record {
           more = [];
           out = behind;
@@ -197,33 +158,27 @@ module _ {old mid : Heap} {first : ℕ} (before : List ExtentRow) (e : ExtentRow
           at_next =
               ends.next (first_of extent_addr 0 behind) (cut a t e)
               (subst (λ n. KeepsExtent (mid.blocks n) (first_of extent_addr 0 behind) (cut a t e)) (sym at)
-              (one_kept before (cut a t e) behind (chain_at same_chain)));
-          charge = λ space.
-              let p = charge_cut old before e behind c a t cuts space in
-              let q = charge_cut mid before (cut a t e) behind same_chain 0 t second space in
-              let r = ap (extent_row_charge ss space) again in
-              let kept = charged-cons ss space (cut a t e) [] in
-              let all = charged-cons ss space e behind in omega (arith, p, q, r, kept, all);
+              (one_kept before (cut a t e) behind same_chain.chain));
         }
 
   -- wherever it ends
-  module _ {behind : List ExtentRow} (c : ChainOf old.blocks first (before ++ (e ∷ behind)) ss) where
-    chain_with : {l : List ExtentRow} → behind ≡ l → ChainOf old.blocks first (before ++ (e ∷ l)) ss
-    chain_with is = subst (λ (l : List ExtentRow). ChainOf old.blocks first (before ++ (e ∷ l)) ss) is c
+  module _ {behind : List ExtentRow} (c : ChainOf old.blocks first (before ++ (e ∷ behind))) where
+    chain_with : {l : List ExtentRow} → behind ≡ l → ChainOf old.blocks first (before ++ (e ∷ l))
+    chain_with is = subst (λ (l : List ExtentRow). ChainOf old.blocks first (before ++ (e ∷ l))) is c
 
     -- the extent in which it does is there
-    pub end_there : Ends e behind t place → place.inside ≢ 0 → SomeNamed mid.blocks place.extent
+    pub end_there : Ends e behind t place → place.inside ≢ 0 → SomeExtent (mid.blocks place.extent)
     end_there (between es out is zero last next sum) nz = absurd (nz zero)
     end_there (later es x out is at one below sum) nz = later_there es x out (chain_with is) at
     end_there (same at is below) nz = same_there behind c at
 
     pub kept_all : {now : Heap} {end : End} → Ends e behind t place → CutsEnd place mid now end →
-        Kept old now before e behind ss a t freed end
+        Kept old now before e behind a t end
     kept_all {now} {end} (between es out is zero last next sum) ends =
-        subst (λ (l : List ExtentRow). Kept old now before e l ss a t freed end) (sym is)
+        subst (λ (l : List ExtentRow). Kept old now before e l a t end) (sym is)
         (kept_between es out (chain_with is) sum last next (end_before place mid now end zero ends))
     kept_all {now} {end} (later es x out is at one below sum) ends =
-        subst (λ (l : List ExtentRow). Kept old now before e l ss a t freed end) (sym is)
+        subst (λ (l : List ExtentRow). Kept old now before e l a t end) (sym is)
         (kept_later es x out (chain_with is) at one below sum (end_inside place mid now end (λ z. omega (arith, z, one)) ends))
     kept_all {now} {end} (same at is below) ends =
         kept_same behind c at is below (end_inside place mid now end (λ z. omega (arith, z, is, some)) ends)

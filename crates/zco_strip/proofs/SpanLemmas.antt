@@ -1,6 +1,5 @@
 -- The extents of an object are cut to its part.
 use Rattle.std.proofs.Common.{◌≡◌, ◌∙◌, ◌+◌, ◌≤◌, ◌<◌, ◌^◌, ℕ, List, [], ◌∷◌, ◌++◌, refl, sym, ap, subst, arith, append_assoc}
-use Rattle.std.proofs.lemmas.List.Elements.{All-weaker}
 use Rattle.sdr_base.proofs.StandingLemmas.{found, moved}
 use Rattle.sdr_base.proofs.WritingLemmas.{reaches}
 use Rattle.sdr_base.specs.Blocks.{Block, Blocks, Reaches}
@@ -16,7 +15,7 @@ use Rattle.sdr_base.specs.declared.stop.Stop.{Stop}
 use Rattle.sdr_base.specs.declared.stop.Stop.TheVariants.{Refused, DiskFault, MediaFault, Failed}
 use Rattle.zco_strip.proofs.ChainChanges.{changes_swapped, changes_then}
 use Rattle.zco_strip.proofs.OutsideLaws.{part_stays}
-use Rattle.zco_strip.specs.Chain.{ChainOf, ChainParted, NamedFits, PartsChain, SomeChain}
+use Rattle.zco_strip.specs.Chain.{ChainOf, ChainParted, PartsChain, SomeChain}
 use Rattle.zco_strip.specs.Cuts.{inside, outside, part_end, stripped}
 use Rattle.zco_strip.specs.Linking.{SetsEnds}
 use Rattle.zco_strip.specs.Stripping.{CutsObject, KeepsToStrip, SomeToStrip, TellsSpan}
@@ -27,7 +26,6 @@ use Rattle.zco_obj.proofs.PairLemmas.{swapped}
 use Rattle.zco_obj.specs.Extents.{extents_block}
 use Rattle.zco_obj.specs.Gone.{NamedSource, sources_entries}
 use Rattle.zco_obj.specs.Kept.{KeepsObject, SomeObject}
-use Rattle.zco_obj.specs.Uses.{CountsUses}
 
 -- an object that is kept so is kept
 pub object_kept : {blocks : Blocks} {object : ℕ} {row : ObjectRow} {ss : List NamedSource} → KeepsToStrip blocks object row ss →
@@ -70,36 +68,31 @@ unmoved_after old mid new MediaFault e u = absurd u
 unmoved_after old mid new Failed e u = u
 
 module _ {object : ℕ} (old : Heap) (span : Span) (f : TellsSpan old.blocks object span) where
-  -- its extents are a chain, with their sources
-  chain_of : {row : ObjectRow} {ss : List NamedSource} → KeepsToStrip old.blocks object row ss → ChainOf old.blocks span.first row.extents ss
+  -- its extents are a chain
+  chain_of : {row : ObjectRow} {ss : List NamedSource} → KeepsToStrip old.blocks object row ss → ChainOf old.blocks span.first row.extents
   chain_of {row} {ss} k =
       let H = capsule_entries row.headers in
       let X = extent_entries row.extents in
       let T = capsule_entries row.trailers in
-      let S = sources_entries ss in
-      let R = S ++ k.keeps.rest in
+      let R = sources_entries ss ++ k.keeps.rest in
       let O : Entries = (object, object_block row) ∷ H in
       record {
-        rest = (O ++ T) ++ k.keeps.rest;
-        stands =
-            swapped old.blocks X (O ++ T) S k.keeps.rest
-            (subst (λ (es : Entries). BlocksAre old.blocks (X ++ es)) (sym (append_assoc O T R))
-            (moved O X (T ++ R)
-            (subst (λ (es : Entries). BlocksAre old.blocks ((object, object_block row) ∷ es))
-            (append_assoc (H ++ X) T R ∙ append_assoc H X (T ++ R)) k.keeps.stands)));
-        at_first = (f.told row (object_kept k)).first;
-        fits = k.keeps.fits.extents;
-        few = let n = k.keeps.fits.few in omega (arith, n);
-        there = k.keeps.named.there;
-        source_fits =
-            All-weaker (CountsUses row.account row.extents) NamedFits (λ s counts. counts.fits) ss k.keeps.named.counted;
+        chain = record {
+          rest = O ++ (T ++ R);
+          stands =
+              moved O X (T ++ R)
+              (subst (λ (es : Entries). BlocksAre old.blocks ((object, object_block row) ∷ es))
+              (append_assoc (H ++ X) T R ∙ append_assoc H X (T ++ R)) k.keeps.stands);
+          at_first = (f.told row (object_kept k)).first;
+          fits = k.keeps.fits.extents;
+          few = let n = k.keeps.fits.few in omega (arith, n);
+        };
         bytes = k.bytes;
       }
 
   pub some_chain : SomeToStrip old object → SomeChain old.blocks span.first span.to
   some_chain q = record {
     rows = q.row.extents;
-    sources = q.sources;
     is = chain_of q.keeps;
     long = let t = (f.told q.row (object_kept q.keeps)).to in let p = q.keeps.keeps.fits.part in omega (arith, t, p);
   }
@@ -109,12 +102,12 @@ module _ {object : ℕ} (old : Heap) (span : Span) (f : TellsSpan old.blocks obj
 
   module _ {mid : Heap} {p : Parted} (parts : PartsChain span.first span.from span.to old mid p) where
     parted : {row : ObjectRow} {ss : List NamedSource} → KeepsToStrip old.blocks object row ss →
-        ChainParted row.part_offset (part_end row) row.extents ss old mid p
+        ChainParted row.part_offset (part_end row) row.extents old mid p
     parted {row} {ss} k =
         let t = f.told row (object_kept k) in
-        subst (λ n. ChainParted n (part_end row) row.extents ss old mid p) t.from
-        (subst (λ n. ChainParted span.from n row.extents ss old mid p) t.to
-        (parts.parts row.extents ss (chain_of k) (let e = t.to in let i = k.keeps.fits.part in omega (arith, e, i))))
+        subst (λ n. ChainParted n (part_end row) row.extents old mid p) t.from
+        (subst (λ n. ChainParted span.from n row.extents old mid p) t.to
+        (parts.parts row.extents (chain_of k) (let e = t.to in let i = k.keeps.fits.part in omega (arith, e, i))))
 
     -- the object with two chains in place of one
     opened : {row : ObjectRow} {ss : List NamedSource} → KeepsToStrip old.blocks object row ss →
@@ -172,7 +165,6 @@ module _ {object : ℕ} (old : Heap) (span : Span) (f : TellsSpan old.blocks obj
           record {
             changes = changes_then (opened k) (changes_then begun apart);
             at_out = c.at_out;
-            charge = c.charge;
           };
       same = ends.same ∙ parts.same;
     }

@@ -15,21 +15,19 @@ use Rattle.sdr_base.specs.declared.kind.Kind.TheVariants as kinds
 use Rattle.sdr_base.specs.declared.refusal.Refusal.TheVariants as refusals
 use Rattle.sdr_base.specs.declared.stop.Stop.{Stop}
 use Rattle.sdr_base.specs.declared.stop.Stop.TheVariants.{Refused, DiskFault, MediaFault, Failed}
-use Rattle.sdr_model.specs.Amounts.{amount, minus, plus}
+use Rattle.sdr_model.specs.Amounts.{minus}
 use Rattle.zco_acct.specs.Words.{occupied_in, with_occupied}
 use Rattle.zco_strip.proofs.OutsideLaws.{all_out, length_out, sum_out}
 use Rattle.zco_strip.proofs.SpanLemmas.{object_kept}
-use Rattle.zco_strip.specs.Chain.{IsOf, charged_of}
-use Rattle.zco_strip.specs.Cuts.{inside, outside, part_end, stripped}
-use Rattle.zco_strip.specs.Stripping.{CutsObject, KeepsToStrip, SomeToStrip, StripsObject, StripStops, gone_outside, stripped_amounts}
+use Rattle.zco_strip.specs.Cuts.{outside, part_end, stripped}
+use Rattle.zco_strip.specs.Stripping.{CutsObject, KeepsToStrip, SomeToStrip, StripsObject, StripStops, gone_outside}
 use Rattle.zco_strip.specs.declared.chain.Parted.{Parted}
 use Rattle.zco_obj.proofs.CountLemmas.{names}
 use Rattle.zco_obj.proofs.PairLemmas.{swapped}
-use Rattle.zco_obj.proofs.SpotLemmas.{amount_by, same_amounts}
-use Rattle.zco_obj.specs.Gone.{NamedSource, extents_amounts, sources_entries, sources_left}
+use Rattle.zco_obj.specs.Gone.{NamedSource, extents_amounts, source_at, sources_entries, sources_left}
 use Rattle.zco_obj.specs.Kept.{ExtentFits}
 use Rattle.zco_obj.specs.Reading.{Tells}
-use Rattle.zco_obj.specs.Uses.{AreNamed, CountsUses, ExtentsGiveStops, ExtentsGone, GivesExtents, SomeUses, UsesAt}
+use Rattle.zco_obj.specs.Uses.{AreNamed, CountsUses, ExtentsGiveStops, ExtentsGone, GivesExtents, IsThere, SomeUses, UsesAt}
 use Rattle.zco_ref.proofs.GoneLemmas.{unmoved}
 
 -- for the address nothing is cut
@@ -57,7 +55,7 @@ cut_stop object old new Failed kind u = u
 -- the extents outside name those of an object's sources that they named
 outside_named : (row : ObjectRow) (ss : List NamedSource) → AreNamed row.account row.extents ss → AreNamed row.account (outside row) ss
 outside_named row ss n = record {
-  there = all_out (IsOf ss) row.part_offset (part_end row) row.extents n.there;
+  there = all_out (λ e. IsThere (source_at e.source ss)) row.part_offset (part_end row) row.extents n.there;
   counted = All-weaker (CountsUses row.account row.extents) (CountsUses row.account (outside row)) (λ s counts.
       record {
         fits = counts.fits;
@@ -145,23 +143,11 @@ module _ {object : ℕ} {acct : Acct} {old mid : Heap} {parted : Parted} (c : Cu
     release_stop new MediaFault kind u = absurd u
     release_stop new Failed kind u = u
 
-    -- what is charged less
-    freed_all : {row : ObjectRow} {ss : List NamedSource} → KeepsToStrip old.blocks object row ss →
-        plus parted.freed charged ≡ stripped_amounts row ss
-    freed_all {row} {ss} k =
-        same_amounts (λ space. amount parted.freed space + amount charged space)
-        (λ space. amount (extents_amounts ss row.extents) space - amount (extents_amounts ss (inside row)) space) (λ space.
-        let cut = (c.cuts row ss k).charge space in
-        let out : amount charged space ≡ charged_of ss (outside row) space =
-        ap (λ (m : Amounts). amount m space) (gone k).charge ∙ amount_by (charged_of ss (outside row)) space in
-        let all = amount_by (charged_of ss row.extents) space in
-        let in_part = amount_by (charged_of ss (inside row)) space in omega (arith, cut, out, all, in_part))
-
     -- it is stripped
-    pub strips : {new : Heap} (all : Amounts) → IsKind (old.blocks object) kinds.Object → all ≡ plus parted.freed charged →
-        new ≡ with_occupied last acct (minus (occupied_in last acct) all) → StripsObject object old new
+    pub strips : {new : Heap} → IsKind (old.blocks object) kinds.Object →
+        new ≡ with_occupied last acct (minus (occupied_in last acct) charged) → StripsObject object old new
     unfolding uses_out
-    strips {new} all kind e r = record {
+    strips {new} kind r = record {
       kind = kind;
       strips = λ row ss k.
           let own = account_is k in
@@ -192,11 +178,11 @@ module _ {object : ℕ} {acct : Acct} {old mid : Heap} {parted : Parted} (c : Cu
             };
             others =
                 ap besides r
-                ∙ ap (λ (h : Heap). with_occupied h acct (minus (occupied_in last acct) all)) made.all
-                ∙ ap (λ (a : Amounts). besides (with_occupied (with_moves old moves) acct (minus a all))) same
+                ∙ ap (λ (h : Heap). with_occupied h acct (minus (occupied_in last acct) charged)) made.all
+                ∙ ap (λ (a : Amounts). besides (with_occupied (with_moves old moves) acct (minus a charged))) same
                 ∙ ap (λ (a : Amounts). besides (with_occupied (with_moves old moves) acct (minus (occupied_in old acct) a)))
-                (e ∙ freed_all k)
-                ∙ ap (λ (a : Acct). besides (with_occupied (with_moves old moves) a (minus (occupied_in old a) (stripped_amounts row ss))))
-                own;
+                (gone k).charge
+                ∙ ap (λ (a : Acct). besides (with_occupied (with_moves old moves) a
+                (minus (occupied_in old a) (extents_amounts a ss (outside row))))) own;
           };
     }

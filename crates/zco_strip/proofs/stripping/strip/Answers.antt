@@ -59,7 +59,7 @@ returns-clause-stripped g c =
     let p = rw (c.account.ensures.looks.same, c.expect_kind.ensures.looks.same) at c.in_ok-parted.ensures.cut in
     let t = rw c.expect_kind.ensures.looks.same at c.in_ok-acct.ensures.told in
     on_ok_weaker _
-    (λ r. strips p t c.in_ok-charged.ensures.given c.plus.result c.in_ok-expect_kind.ensures.found c.plus.ensures r)
+    (λ r. strips p t c.in_ok-charged.ensures.given c.in_ok-expect_kind.ensures.found r)
     c.release.ensures.released
 
 pub returns-clause-refused : goal.returns-clause-refused
