@@ -86,7 +86,7 @@ all_rise {firsts = firsts} t h u a b {row} k =
 module _ {object : ℕ} {firsts : Firsts} (heap : Heap) (t : TellsFirsts heap.blocks object firsts) (h u : ℕ)
     (a : TellsRise heap.blocks firsts.header h) (b : TellsRise heap.blocks firsts.trailer u) where
   pub charges_bond : {number : ℕ} {new : Heap} (amounts : Amounts) → amounts ≡ heap_amounts (h + u) →
-      ChargesObject object number amounts heap new → ChargesBond object number heap new
+      ChargesObject object number (λ acct. amounts) heap new → ChargesBond object number heap new
   charges_bond {number} {new} amounts e c = record {
     charges = λ row tickets k.
         subst (λ n. ChargesAccount row.account number (heap_amounts n) heap new) (all_rise t h u a b (object_of k))
@@ -94,7 +94,7 @@ module _ {object : ℕ} {firsts : Firsts} (heap : Heap) (t : TellsFirsts heap.bl
   }
 
   pub bond_uncharged : (number : ℕ) (new : Heap) (amounts : Amounts) (stop : Stop) → amounts ≡ heap_amounts (h + u) →
-      ObjectChargeStops object number amounts heap new stop → BondChargeStops object number heap new stop
+      ObjectChargeStops object number (λ acct. amounts) heap new stop → BondChargeStops object number heap new stop
   bond_uncharged number new amounts (Refused (refusals.LogFull lines room)) e s = (
     record {
       allows = λ row tickets k.

@@ -1,39 +1,33 @@
 -- What of an object is asked for, and what it charges.
-use Rattle.std.proofs.Common.{◌≡◌, ◌+◌, ◌≤◌, ◌<◌, ◌^◌, ℕ, List, ◌∷◌, ◌++◌, sym, ap, ◌∙◌, arith, subst, append_assoc}
-use Rattle.std.specs.Prelude.{sum_by}
+use Rattle.std.proofs.Common.{◌≡◌, ◌+◌, ◌*◌, ◌≤◌, ◌<◌, ◌^◌, ℕ, List, ◌∷◌, ◌++◌, sym, ap, ◌∙◌, arith, subst, append_assoc}
 use Rattle.sdr_base.specs.Blocks.{Blocks, IsKind}
 use Rattle.sdr_base.specs.Entries.{Entries, BlocksAre}
 use Rattle.sdr_base.specs.Linked.{first_of}
 use Rattle.sdr_base.specs.Objects.{Heap, Misses, OnlyFault}
 use Rattle.sdr_base.specs.Words.{HasWord}
-use Rattle.sdr_base.specs.ZcoObjects.{ObjectRow, capsule_entries, extent_addr, extent_entries, object_block, object_entries}
+use Rattle.sdr_base.specs.ZcoObjects.{ExtentRow, ObjectRow, capsule_entries, extent_addr, extent_entries, object_block, object_entries}
 use Rattle.sdr_base.specs.declared.account.Acct.{Acct}
 use Rattle.sdr_base.specs.declared.account.Amounts.{Amounts}
 use Rattle.sdr_base.specs.declared.kind.Kind.TheVariants as kinds
-use Rattle.sdr_base.specs.declared.kind.Space.{Space}
-use Rattle.sdr_base.specs.declared.kind.Space.TheVariants as spaces
 use Rattle.sdr_base.specs.declared.refusal.Refusal.TheVariants as refusals
 use Rattle.sdr_base.specs.declared.stop.Stop.{Stop}
 use Rattle.sdr_base.specs.declared.stop.Stop.TheVariants.{Refused, DiskFault, MediaFault, Failed}
 use Rattle.sdr_base.proofs.StandingLemmas.{moved}
-use Rattle.sdr_model.specs.Amounts.{amount, in_space, plus}
 use Rattle.sdr_model.specs.declared.accounts.Ticket.{Ticket}
 use Rattle.zco_acct.specs.Charges.{ChargesAccount, ChargeStops}
-use Rattle.zco_acct.specs.Kept.{queue_entries}
 use Rattle.zco_obj.specs.Amounts.{heap_amounts}
-use Rattle.zco_obj.specs.Gone.{NamedSource, sources_entries}
+use Rattle.zco_obj.specs.Gone.{NamedSource}
 use Rattle.zco_obj.specs.Kept.{KeepsObject, SomeObject, SomeWithQueue}
-use Rattle.zco_obj.specs.declared.extent.ExtentPiece.{ExtentPiece}
+use Rattle.zco_obj.specs.Walks.{ExtentsAt, SomeExtents}
 use Rattle.zco_obj.proofs.ChargeLemmas.{object_of}
 use Rattle.zco_obj.proofs.KeptLemmas.{extents_most, object_word}
 use Rattle.zco_obj.proofs.PairLemmas.{swapped}
-use Rattle.zco_obj.proofs.SpotLemmas.{amount_by, same_amounts}
-use Rattle.zco_part.specs.Charging.{ChargesChain, clone_amounts, piece_charge, pieces_amounts}
+use Rattle.zco_obj.proofs.PartsLemmas.{extents_at}
+use Rattle.zco_part.specs.Charging.{CountsPieces, clone_amounts}
 use Rattle.zco_part.specs.Cloning.{ChargesClone, CloneStops, HasRange, IsBad, KeepsToClone, SeesAsked, SomeToClone, StopsClone}
 use Rattle.zco_part.specs.Copying.{parts}
 use Rattle.zco_part.specs.Delimiting.{OfObject}
 use Rattle.zco_part.specs.Pieces.{asked, pieces}
-use Rattle.zco_part.specs.Sources.{ExtentsBeside, SomeExtentsBeside}
 use Rattle.zco_part.specs.declared.cloning.Asked.{Asked}
 
 -- the object and its queue
@@ -106,61 +100,32 @@ module _ (object : ℕ) (row : ObjectRow) where
       (swapped b (front ++ S) X head (tail ++ rest)
       (subst (λ (es : Entries). BlocksAre b es) (sym (append_assoc front S (X ++ (head ++ (tail ++ rest))))) s))))
 
--- its extents and their sources stand beside
-pub extents_beside : {heap : Heap} {object first : ℕ} {row : ObjectRow} {tickets : List Ticket} {sources : List NamedSource} →
-    KeepsToClone heap object row tickets sources → first ≡ first_of extent_addr 0 row.extents →
-    ExtentsBeside heap.blocks first row.extents sources
-extents_beside {heap} {object} {first} {row} {tickets} {sources} k e =
-    let O = object_entries object row in
-    let Q = queue_entries row.account tickets in
-    let S = sources_entries sources in
-    let few = k.beside.keeps.fits.few in
-    record {
-      rest = head object row ++ (tail object row ++ (Q ++ k.beside.behind));
-      stands =
-          opened object row heap.blocks S (Q ++ k.beside.behind)
-          (swapped heap.blocks O Q S k.beside.behind
-          (subst (λ (rest : Entries). BlocksAre heap.blocks (O ++ (Q ++ rest))) k.beside.whole k.beside.keeps.stands));
-      at_first = e;
-      fits = k.beside.keeps.fits.extents;
-      few = omega (arith, few);
-      may = k.may;
-    }
+-- its extents are a chain
+pub extents_there : {heap : Heap} {object first : ℕ} {row : ObjectRow} {tickets : List Ticket} {sources : List NamedSource} →
+    KeepsToClone heap object row tickets sources → first ≡ first_of extent_addr 0 row.extents → ExtentsAt heap.blocks first row.extents
+extents_there {first = first} k e = extents_at (kept_object k) first e
 
-pub some_beside : {heap : Heap} {object offset bytes : ℕ} (seen : Asked) → SomeToClone heap object offset bytes →
-    SeesAsked heap.blocks object offset bytes seen → SomeExtentsBeside heap.blocks seen.first
-some_beside seen q v = record {
-  extents = q.row.extents;
-  sources = q.sources;
-  is = extents_beside q.keeps (v.first q.row (kept_object q.keeps));
-}
+pub some_extents : {heap : Heap} {object offset bytes : ℕ} (seen : Asked) → SomeToClone heap object offset bytes →
+    SeesAsked heap.blocks object offset bytes seen → SomeExtents heap.blocks seen.first
+some_extents seen q v = record { rows = q.row.extents; is = extents_there q.keeps (v.first q.row (kept_object q.keeps)) }
 
--- an object charges for itself what no extent does
-clone_sum : (sources : List NamedSource) (ps : List ExtentPiece) (charge : Amounts) → charge ≡ pieces_amounts sources
-    ps →
-    plus charge (heap_amounts 72) ≡ clone_amounts sources ps
-clone_sum sources ps charge e =
-    same_amounts (λ space. amount charge space + amount (heap_amounts 72) space)
-    (λ space. in_space spaces.Heap 72 space + sum_by (piece_charge sources space) ps) (λ space.
-    let a : amount charge space ≡ sum_by (piece_charge sources space) ps =
-    ap (λ (x : Amounts). amount x space) e ∙ amount_by (λ (z : Space). sum_by (piece_charge sources z) ps) space in
-    let b : amount (heap_amounts 72) space ≡ in_space spaces.Heap 72 space = amount_by (in_space spaces.Heap 72) space in
-    omega (arith, a, b))
+-- what is charged for so many extents
+charge_is : {blocks : Blocks} (seen : Asked) {count : ℕ} → CountsPieces blocks seen.first seen.span.from seen.span.to count → (all : Amounts)
+    (xs : List ExtentRow) → ExtentsAt blocks seen.first xs → all ≡ heap_amounts (72 + 32 * count) → all ≡ clone_amounts (parts seen.span xs)
+charge_is seen t all xs c e = e ∙ ap (λ n. heap_amounts (72 + 32 * n)) (t.counts xs c)
 
-module _ {acct : Acct} {number : ℕ} (seen : Asked) {old : Heap} {charge : Amounts}
-    (t : ChargesChain old.blocks seen.first seen.span.from seen.span.to charge) where
-  pub charges_clone : (all : Amounts) {new : Heap} → all ≡ plus charge (heap_amounts 72) → ChargesAccount acct number all old new →
+module _ {acct : Acct} {number : ℕ} (seen : Asked) {old : Heap} {count : ℕ}
+    (t : CountsPieces old.blocks seen.first seen.span.from seen.span.to count) where
+  pub charges_clone : (all : Amounts) {new : Heap} → all ≡ heap_amounts (72 + 32 * count) → ChargesAccount acct number all old new →
       ChargesClone acct number seen old new
   charges_clone all {new} e c = record {
-    charges = λ xs ss b.
-        subst (λ a. ChargesAccount acct number a old new) (e ∙ clone_sum ss (parts seen.span xs) charge (t.charges xs ss b)) c;
+    charges = λ xs b. subst (λ a. ChargesAccount acct number a old new) (charge_is seen t all xs b e) c;
   }
 
-  pub stops_clone : (all : Amounts) (new : Heap) (stop : Stop) → all ≡ plus charge (heap_amounts 72) → ChargeStops acct number all old new stop →
-      StopsClone acct number seen old new stop
+  pub stops_clone : (all : Amounts) (new : Heap) (stop : Stop) → all ≡ heap_amounts (72 + 32 * count) →
+      ChargeStops acct number all old new stop → StopsClone acct number seen old new stop
   stops_clone all new stop e c = record {
-    stops = λ xs ss b.
-        subst (λ a. ChargeStops acct number a old new stop) (e ∙ clone_sum ss (parts seen.span xs) charge (t.charges xs ss b)) c;
+    stops = λ xs b. subst (λ a. ChargeStops acct number a old new stop) (charge_is seen t all xs b e) c;
   }
 
 -- a fault is none of the account's causes
@@ -174,7 +139,7 @@ fault_stops acct number amounts old new Failed f = f
 pub fault_clone : (acct : Acct) (number : ℕ) (seen : Asked) (old new : Heap) (stop : Stop) → OnlyFault stop →
     StopsClone acct number seen old new stop
 fault_clone acct number seen old new stop f = record {
-  stops = λ xs ss b. fault_stops acct number (clone_amounts ss (parts seen.span xs)) old new stop f;
+  stops = λ xs b. fault_stops acct number (clone_amounts (parts seen.span xs)) old new stop f;
 }
 
 -- the object isn't there

@@ -39,7 +39,7 @@ use Rattle.zco_part.specs.Delimiting.{OfObject}
 use Rattle.zco_part.specs.Pieces.{asked, extents_at, whole_row}
 use Rattle.zco_part.specs.Sources.{all_counted, counted, more_uses, pieces_of}
 use Rattle.zco_part.specs.declared.cloning.Asked.{Asked}
-use Rattle.zco_part.proofs.AskedLemmas.{closed, extents_beside, head, kept_object, opened, same_parts, tail}
+use Rattle.zco_part.proofs.AskedLemmas.{closed, extents_there, head, kept_object, opened, same_parts, tail}
 
 -- what holds of each by two facts
 all_both : {X : Type 0} (P Q R : X → Type 0) → ((x : X) → P x → Q x → R x) → (xs : List X) → All P xs → All Q xs → All R xs
@@ -103,17 +103,17 @@ module _ (number : ℕ) {object offset bytes : ℕ} {acct : Acct} (seen : Asked)
 
     -- why it isn't
     stops_of : {new : Heap} {stop : Stop} → StopsClone acct number seen old new stop →
-        ChargeStops row.account number (clone_amounts sources (asked offset bytes row)) old new stop
+        ChargeStops row.account number (clone_amounts (asked offset bytes row)) old new stop
     stops_of {new} {stop} s =
-        subst (λ a. ChargeStops a number (clone_amounts sources (asked offset bytes row)) old new stop) own
-        (subst (λ ps. ChargeStops acct number (clone_amounts sources ps) old new stop) these
-        (s.stops row.extents sources (extents_beside k (v.first row (kept_object k)))))
+        subst (λ a. ChargeStops a number (clone_amounts (asked offset bytes row)) old new stop) own
+        (subst (λ ps. ChargeStops acct number (clone_amounts ps) old new stop) these
+        (s.stops row.extents (extents_there k (v.first row (kept_object k)))))
 
   module _ (q : SomeToClone old object offset bytes) where
     cause : {refusal : Refusal} → Refuses old q.row.account
-        (refusal_in old q.row.account number (clone_amounts q.sources (asked offset bytes q.row))) refusal → IsCause refusal
+        (refusal_in old q.row.account number (clone_amounts (asked offset bytes q.row))) refusal → IsCause refusal
     cause {refusal} r =
-        is_cause old q.row.account number (clone_amounts q.sources (asked offset bytes q.row)) q.tickets refusal
+        is_cause old q.row.account number (clone_amounts (asked offset bytes q.row)) q.tickets refusal
         (r.some q.tickets (queue q.keeps))
 
     pub uncharged : (new : Heap) (stop : Stop) → StopsClone acct number seen old new stop → CloneStops object number offset bytes old new stop
@@ -148,11 +148,11 @@ module _ (number : ℕ) {object offset bytes : ℕ} {acct : Acct} (seen : Asked)
   -- or it is
   module _ {mid : Heap} (c : ChargesClone acct number seen old mid) where
     module _ {row : ObjectRow} {tickets : List Ticket} {sources : List NamedSource} (k : KeepsToClone old object row tickets sources) where
-      charge_of : ChargesAccount row.account number (clone_amounts sources (asked offset bytes row)) old mid
+      charge_of : ChargesAccount row.account number (clone_amounts (asked offset bytes row)) old mid
       charge_of =
-          subst (λ a. ChargesAccount a number (clone_amounts sources (asked offset bytes row)) old mid) (own k)
-          (subst (λ ps. ChargesAccount acct number (clone_amounts sources ps) old mid) (these k)
-          (c.charges row.extents sources (extents_beside k (v.first row (kept_object k)))))
+          subst (λ a. ChargesAccount a number (clone_amounts (asked offset bytes row)) old mid) (own k)
+          (subst (λ ps. ChargesAccount acct number (clone_amounts ps) old mid) (these k)
+          (c.charges row.extents (extents_there k (v.first row (kept_object k)))))
 
       pub moves_then : mid.moves ≡ old.moves
       moves_then = charged_moves charge_of (queue k)
@@ -162,7 +162,7 @@ module _ (number : ℕ) {object offset bytes : ℕ} {acct : Acct} (seen : Asked)
 
       -- what stands behind the object and the sources then
       abbrev pub left : Entries
-      left = queue_entries row.account (charged tickets number (clone_amounts sources (asked offset bytes row))) ++ k.beside.behind
+      left = queue_entries row.account (charged tickets number (clone_amounts (asked offset bytes row))) ++ k.beside.behind
 
       pub stands_then : BlocksAre mid.blocks (object_entries object row ++ (sources_entries sources ++ left))
       stands_then =

@@ -38,9 +38,8 @@ use Rattle.zco_obj.specs.Links.{SeesLink}
 use Rattle.zco_obj.specs.declared.link.Link.{Link}
 use Rattle.zco_part.specs.Walking.{Walked}
 use Rattle.zco_part.specs.declared.span.Span.{Span}
-use Rattle.zco_part.proofs.ChargeLemmas.{spot_counts, spot_of}
 use Rattle.zco_part.proofs.LinkLemmas.{keeps_at}
-use Rattle.zco_part.proofs.SourceLemmas.{focus, more_below, more_fits, none_counted, of_most, others_now, source_now, unfocus}
+use Rattle.zco_part.proofs.SourceLemmas.{focus, more_below, more_fits, none_counted, of_most, others_now, source_now, spot_counts, spot_of, unfocus}
 use Rattle.zco_part.proofs.WalkLemmas.{done_most, here, walk_at, walk_begun, walk_below, walk_count, walk_first, walk_many, walk_on, walk_over, walk_whole}
 
 -- a piece has a byte, or it is left out

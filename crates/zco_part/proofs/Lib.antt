@@ -2,7 +2,7 @@ mod DelimitLemmas
 mod LinkLemmas
 mod WholeLemmas
 mod WalkLemmas
-mod ChargeLemmas
+mod CountLemmas
 mod SourceLemmas
 mod CopyLemmas
 mod AskedLemmas

@@ -1,23 +1,27 @@
 -- Sources that count more extents.
 use Rattle.std.proofs.Common.{◌≡◌, ◌≢◌, ◌+◌, ◌≤◌, ◌<◌, ◌^◌, ℕ, List, [], ◌∷◌, ◌++◌, length, true, false, refl, sym, ap, ◌∙◌, arith, subst, append_assoc, eq-eqb}
-use Rattle.std.specs.Prelude.{◌==◌, if◌then◌else◌}
+use Rattle.std.specs.Prelude.{◌==◌, All, if◌then◌else◌}
 use Rattle.std.proofs.lemmas.Bool.{ne_eqb}
 use Rattle.std.proofs.lemmas.List.{map-append}
 use Rattle.std.proofs.lemmas.List.Concat.{flat_map-append}
+use Rattle.std.proofs.lemmas.List.Elements.{All-head}
 use Rattle.std.proofs.lemmas.List.Sums.{sum_by-append, sum_by-cons}
 use Rattle.sdr_base.specs.Blocks.{Blocks}
 use Rattle.sdr_base.specs.Entries.{Entries, BlocksAre, times}
 use Rattle.sdr_base.specs.Sources.{SourceRow}
+use Rattle.sdr_base.specs.ZcoObjects.{ExtentRow}
 use Rattle.sdr_base.specs.declared.account.Acct.{Acct}
 use Rattle.sdr_base.specs.declared.account.Acct.TheVariants as accts
 use Rattle.sdr_base.proofs.StandingLemmas.{times-append}
-use Rattle.zco_obj.specs.Gone.{NamedSource, sources_entries}
+use Rattle.zco_obj.specs.Gone.{NamedSource, source_at, sources_entries}
+use Rattle.zco_obj.specs.Uses.{IsThere}
 use Rattle.zco_obj.specs.declared.extent.ExtentPiece.{ExtentPiece}
 use Rattle.zco_obj.proofs.PairLemmas.{swapped}
-use Rattle.zco_obj.proofs.SpotLemmas.{SpotOf, times_head}
+use Rattle.zco_obj.proofs.SpotLemmas.{SpotOf, find_spot, times_head}
+use Rattle.zco_obj.proofs.WalkLemmas.{fits_from}
 use Rattle.zco_ref.specs.Counting.{attached}
 use Rattle.zco_ref.specs.Kept.{CountedSource, SourceFits, count_in, counted_block, counted_entries, raw_part, tied_entries}
-use Rattle.zco_part.specs.Sources.{MayCount, all_counted, counted, more_uses, pieces_of}
+use Rattle.zco_part.specs.Sources.{AreCountable, MayCount, all_counted, counted, more_uses, pieces_of}
 
 -- whether a piece is of the source at an address
 abbrev is_of : ℕ → ExtentPiece → ℕ
@@ -190,3 +194,15 @@ module _ (acct : Acct) (done : List ExtentPiece) (p : ExtentPiece) {ss : List Na
       subst (λ (es : Entries). BlocksAre b' (front' ++ es)) whole
       (swapped b' front' C before (own ++ (behind ++ rest))
       (subst (λ a. BlocksAre b' (front' ++ (counted_entries a now ++ others_now rest))) (sym s.at) st'))
+
+-- the source of an extent among those that are there
+pub spot_of : {xs : List ExtentRow} {ss : List NamedSource} → AreCountable xs ss → (passed : List ExtentRow) (e : ExtentRow)
+    (behind : List ExtentRow) → xs ≡ passed ++ (e ∷ behind) → SpotOf e.source ss
+spot_of {xs} {ss} m passed e behind whole =
+    let P = λ (x : ExtentRow). IsThere (source_at x.source ss) in
+    find_spot e.source ss (All-head P e behind (fits_from P passed (e ∷ behind) (subst (All P) whole m.there)))
+
+-- it may count more
+pub spot_counts : {xs : List ExtentRow} {ss : List NamedSource} {addr : ℕ} → AreCountable xs ss → (s : SpotOf addr ss) → MayCount s.here
+spot_counts {xs} {ss} m s =
+    All-head MayCount s.here s.behind (fits_from MayCount s.before (s.here ∷ s.behind) (subst (All MayCount) s.whole m.counted))

@@ -1,12 +1,8 @@
 -- The sources that some extents name, which extents more are to name.
-use Rattle.std.specs.Prelude.{◌≡◌, ◌+◌, ◌<◌, ◌==◌, ◌^◌, ℕ, List, ◌++◌, length, map, sum_by, All, if◌then◌else◌}
-use Rattle.sdr_base.specs.Blocks.{Blocks}
-use Rattle.sdr_base.specs.Entries.{Entries, BlocksAre}
-use Rattle.sdr_base.specs.Linked.{first_of}
-use Rattle.sdr_base.specs.ZcoObjects.{ExtentRow, extent_addr, extent_entries}
+use Rattle.std.specs.Prelude.{◌+◌, ◌<◌, ◌==◌, ◌^◌, ℕ, List, map, sum_by, All, if◌then◌else◌}
+use Rattle.sdr_base.specs.ZcoObjects.{ExtentRow}
 use Rattle.sdr_base.specs.declared.account.Acct.{Acct}
-use Rattle.zco_obj.specs.Gone.{NamedSource, source_at, sources_entries}
-use Rattle.zco_obj.specs.Kept.{ExtentFits}
+use Rattle.zco_obj.specs.Gone.{NamedSource, source_at}
 use Rattle.zco_obj.specs.Uses.{IsThere}
 use Rattle.zco_obj.specs.declared.extent.ExtentPiece.{ExtentPiece}
 use Rattle.zco_ref.specs.Counting.{with_count}

@@ -1,14 +1,15 @@
 // How many extents a new object is to have.
-ghost use Rattle.std.specs.Prelude.{◌≡◌, ◌≢◌, ◌+◌, ◌≤◌, IfErr, IfOk};
+ghost use Rattle.std.specs.Prelude.{◌≡◌, ◌≤◌, length, IfErr, IfOk};
 ghost use Rattle.sdr_base.specs.Moves.{KeepsSome};
 ghost use Rattle.sdr_base.specs.Objects.{OnlyFault};
 ghost use Rattle.sdr_base.specs.Works.{Looks};
 ghost use Rattle.zco_obj.specs.Walks.{SomeExtents};
 ghost use Rattle.zco_part.specs.Charging.{CountsPieces};
+ghost use Rattle.zco_part.specs.Pieces.{filled};
 
 use crate::span::{Span, cut, later};
 use sdr_base::{Addr, Objects, Stop, check_failed};
-use zco_obj::{TOO_MANY_PARTS, see_link};
+use zco_obj::{ExtentPiece, TOO_MANY_PARTS, see_link};
 
 // How many extents of a chain have a byte in a span. It is linear in the chain.
 pub fn count_pieces<O: Objects>(o: &mut O, first: Addr, span: Span) -> Result<u64, Stop>
@@ -28,11 +29,17 @@ pub fn count_pieces<O: Objects>(o: &mut O, first: Addr, span: Span) -> Result<u6
             break;
         }
         let link = see_link(o, extent)?;
-        if cut(left, link.piece).bytes != 0 {
-            count += 1;
-        }
+        count += extents_of(cut(left, link.piece));
         left = later(left, link.piece.bytes);
         extent = link.next;
     }
     Ok(count)
+}
+
+// How many extents are to name a piece: none where it has no byte.
+fn extents_of(piece: ExtentPiece) -> u64
+    ensures counted { result ≡ length (filled piece) }
+    ensures most { result ≤ 1 }
+{
+    if piece.bytes == 0 { 0 } else { 1 }
 }

@@ -1,10 +1,10 @@
 -- A chain of extents, and one of them.
-use Rattle.std.proofs.Common.{◌≡◌, ◌≢◌, ◌∙◌, ◌+◌, ◌-◌, ◌≤◌, ◌<◌, ℕ, List, [], ◌∷◌, ◌++◌, Bool, true, false, Some, refl, sym, ap, subst, arith, append_assoc, length-append}
+use Rattle.std.proofs.Common.{◌≡◌, ◌≢◌, ◌∙◌, ◌≤◌, ◌<◌, ℕ, List, [], ◌∷◌, ◌++◌, refl, ap, subst, arith, append_assoc, length-append}
 use Rattle.std.proofs.lemmas.List.Elements.{All-cons, All-head, All-tail}
 use Rattle.std.specs.Prelude.{All}
 use Rattle.sdr_base.proofs.ChainLemmas.{last_holds}
 use Rattle.sdr_base.proofs.LayoutLemmas.{length-layout}
-use Rattle.sdr_base.proofs.StandingLemmas.{found, moved}
+use Rattle.sdr_base.proofs.StandingLemmas.{moved}
 use Rattle.sdr_base.specs.Blocks.{Blocks, Reaches}
 use Rattle.sdr_base.specs.Entries.{Changes, Entries, BlocksAre}
 use Rattle.sdr_base.specs.Linked.{first_of, last_of, linked}

@@ -63,9 +63,13 @@ source = record {
   bytes = [];
 } ∷ []
 
--- seven bytes of bulk space are given back, and 32 of heap space for the extent that goes
-row_of_amounts : stripped_amounts (object_with 2 2) source ≡ record { file = 0; bulk = 7; heap = 32 }
+-- 32 bytes of heap space are given back for the extent that goes, and nothing for those that are cut
+row_of_amounts : stripped_amounts (object_with 2 2) source ≡ record { file = 0; bulk = 0; heap = 32 }
 row_of_amounts = refl
+
+-- where all three go, the whole source too
+row_of_last : stripped_amounts (object_with 4 0) source ≡ record { file = 0; bulk = 30; heap = 96 }
+row_of_last = refl
 
 row_of_gone : gone_outside (object_with 4 1) source ≡ 40 ∷ 56 ∷ []
 row_of_gone = refl

@@ -1,6 +1,6 @@
 -- The extents of an object are cut to its part.
 use Rattle.std.proofs.Common.{◌≡◌, ◌∙◌, ◌+◌, ◌≤◌, ◌<◌, ◌^◌, ℕ, List, [], ◌∷◌, ◌++◌, refl, sym, ap, subst, arith, append_assoc}
-use Rattle.sdr_base.proofs.StandingLemmas.{found, moved}
+use Rattle.sdr_base.proofs.StandingLemmas.{found}
 use Rattle.sdr_base.proofs.WritingLemmas.{reaches}
 use Rattle.sdr_base.specs.Blocks.{Block, Blocks, Reaches}
 use Rattle.sdr_base.specs.Entries.{Changes, Entries, BlocksAre}
@@ -23,6 +23,7 @@ use Rattle.zco_strip.specs.declared.chain.Parted.{Parted}
 use Rattle.zco_strip.specs.declared.stripping.Span.{Span}
 use Rattle.zco_obj.proofs.KeptLemmas.{extents_most, object_reaches, object_word, object_words}
 use Rattle.zco_obj.proofs.PairLemmas.{swapped}
+use Rattle.zco_obj.proofs.PartsLemmas.{extents_at}
 use Rattle.zco_obj.specs.Extents.{extents_block}
 use Rattle.zco_obj.specs.Gone.{NamedSource, sources_entries}
 use Rattle.zco_obj.specs.Kept.{KeepsObject, SomeObject}
@@ -70,25 +71,7 @@ unmoved_after old mid new Failed e u = u
 module _ {object : ℕ} (old : Heap) (span : Span) (f : TellsSpan old.blocks object span) where
   -- its extents are a chain
   chain_of : {row : ObjectRow} {ss : List NamedSource} → KeepsToStrip old.blocks object row ss → ChainOf old.blocks span.first row.extents
-  chain_of {row} {ss} k =
-      let H = capsule_entries row.headers in
-      let X = extent_entries row.extents in
-      let T = capsule_entries row.trailers in
-      let R = sources_entries ss ++ k.keeps.rest in
-      let O : Entries = (object, object_block row) ∷ H in
-      record {
-        chain = record {
-          rest = O ++ (T ++ R);
-          stands =
-              moved O X (T ++ R)
-              (subst (λ (es : Entries). BlocksAre old.blocks ((object, object_block row) ∷ es))
-              (append_assoc (H ++ X) T R ∙ append_assoc H X (T ++ R)) k.keeps.stands);
-          at_first = (f.told row (object_kept k)).first;
-          fits = k.keeps.fits.extents;
-          few = let n = k.keeps.fits.few in omega (arith, n);
-        };
-        bytes = k.bytes;
-      }
+  chain_of k = record { chain = extents_at (object_kept k) span.first (f.told _ (object_kept k)).first; bytes = k.bytes }
 
   pub some_chain : SomeToStrip old object → SomeChain old.blocks span.first span.to
   some_chain q = record {

@@ -1,5 +1,5 @@
 -- The extents outside an object's part are given back, and then what is charged less.
-use Rattle.std.proofs.Common.{◌≡◌, ◌∙◌, ◌+◌, ◌-◌, ℕ, List, [], ◌++◌, sym, ap, subst, arith, append_assoc, append-nil}
+use Rattle.std.proofs.Common.{◌≡◌, ◌∙◌, ℕ, List, [], ◌++◌, sym, ap, subst, arith, append_assoc, append-nil}
 use Rattle.std.proofs.lemmas.List.Elements.{All-weaker}
 use Rattle.sdr_base.proofs.GaveLemmas.{more_gave, none_made, some_then}
 use Rattle.sdr_base.proofs.HeapLemmas.{heap_blocks}

@@ -47,7 +47,7 @@ returns-clause-charged g c =
     let d = rw (c.bond_rise-2.ensures.looks.same, c.bond_rise.ensures.looks.same, c.first_parts.ensures.looks.same)
     at c.charge_object.ensures.charged in
     on_ok_weaker _
-    (λ d. charges_bond (g.O.HasHeap.heap c.args.o.now) c.in_ok-first.ensures.told c.in_ok-headers.headers c.in_ok-trailers.trailers h t _ c.heap_amounts.ensures d) d
+    (λ d. charges_bond (g.O.HasHeap.heap c.args.o.now) c.in_ok-first.ensures.told c.in_ok-headers.headers c.in_ok-trailers.trailers h t c.heap_amounts.result c.heap_amounts.ensures d) d
 
 pub returns-clause-refused : goal.returns-clause-refused
 returns-clause-refused g c =
@@ -58,5 +58,5 @@ returns-clause-refused g c =
     let d = rw (c.bond_rise-2.ensures.looks.same, c.bond_rise.ensures.looks.same, c.first_parts.ensures.looks.same)
     at c.charge_object.ensures.refused in
     IfErr-weaker _ _ (BondChargeStops c.args.object c.args.ticket old new)
-    (λ stop s. bond_uncharged old c.in_ok-first.ensures.told c.in_ok-headers.headers c.in_ok-trailers.trailers h t c.args.ticket new _ stop
+    (λ stop s. bond_uncharged old c.in_ok-first.ensures.told c.in_ok-headers.headers c.in_ok-trailers.trailers h t c.args.ticket new c.heap_amounts.result stop
     c.heap_amounts.ensures s) d

@@ -5,7 +5,7 @@ use Rattle.std.proofs.lemmas.Result.{err_from_is_err_and}
 use Rattle.sdr_base.proofs.WorksLemmas.{looks_then, looks_works, works_more, works_ok, works_stopped, works_then}
 use Rattle.zco_obj.specs.declared.extent.ExtentPiece.{ExtentPiece}
 use Rattle.zco_obj.proofs.ChargeLemmas.{some_queue}
-use Rattle.zco_part.proofs.AskedLemmas.{some_beside, some_kept, with_queue}
+use Rattle.zco_part.proofs.AskedLemmas.{some_extents, some_kept, with_queue}
 use Rattle.zco_part.proofs.CloneLemmas.{clones, copy_then, not_copied, not_made, some_copy, spare_enough, these, uncharged}
 use Rattle.zco_part.proofs.cloning.make_clone.Goals as goal
 
@@ -37,7 +37,7 @@ charge_clone-requires-clause-queue g c =
 pub charge_clone-requires-clause-chain : goal.charge_clone-requires-clause-chain
 charge_clone-requires-clause-chain g c =
     let v = rw c.account.ensures.looks.same at c.in_ok-seen.ensures.seen in
-    rw (c.see_asked.ensures.looks.same, c.account.ensures.looks.same) (some_beside c.in_ok-seen.seen c.requires.object v)
+    rw (c.see_asked.ensures.looks.same, c.account.ensures.looks.same) (some_extents c.in_ok-seen.seen c.requires.object v)
 
 pub returns-in_err-charge_clone-clause-refused : goal.returns-in_err-charge_clone-clause-refused
 returns-in_err-charge_clone-clause-refused g c =
