@@ -22,7 +22,6 @@ use Rattle.sdr_base.specs.declared.refusal.Refusal.TheVariants as refusals
 use Rattle.sdr_base.specs.declared.stop.Stop.TheVariants as stops
 use Rattle.law_steps.proofs.ChargeMoves.{MovesCharge, object_moves}
 use Rattle.law_steps.proofs.ObjectRows.{header_charge, trailer_charge}
-use Rattle.law_steps.proofs.SourceViews.{of}
 use Rattle.law_steps.proofs.SourceMoves.{nothing, sources_stay}
 use Rattle.sdr_machine.proofs.WorkLemmas.{on_false, on_some, on_true}
 use Rattle.sdr_model.specs.Accounts.{is_same_account, tickets_of}

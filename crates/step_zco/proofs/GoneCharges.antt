@@ -135,7 +135,7 @@ module _ (w : World) (acct : Acct) (all : List Extent) where
         rows_less us ∙ sym (sum_of_some less w.things (addresses w all us) are.distinct (others_less us are))
 
   -- so it is for the extents with them
-  pub extents_told : (us : List (UsedSource w all)) → AreUsed w all all us →
+  extents_told : (us : List (UsedSource w all)) → AreUsed w all all us →
       extents_amounts acct (map (named_of w all) us) all_rows
       ≡ amounts_by (λ space. in_space spaces.Heap (extent_bytes * length all) space + sources_less w acct all space)
   extents_told us are = λ i.

@@ -5,7 +5,7 @@ use Rattle.std.proofs.lemmas.Bool.Decides.{nat_tests}
 use Rattle.std.proofs.lemmas.List.Sums.{sum_by-cons}
 use Rattle.std.proofs.lemmas.Simd.{map-map}
 use Rattle.std.specs.Option.{option_to_list}
-use Rattle.std.specs.Prelude.{if◌then◌else◌, sum_by}
+use Rattle.std.specs.Prelude.{if◌then◌else◌}
 use Rattle.sdr_stands.specs.Rows.{capsule_row, extent_row, medium_of, object_row, subject_number}
 use Rattle.sdr_base.specs.ZcoObjects.{ExtentRow, capsule_addr}
 use Rattle.law_steps.proofs.DistinctLemmas.{weight}
