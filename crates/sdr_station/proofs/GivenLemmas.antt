@@ -26,7 +26,7 @@ use Rattle.sdr_model.specs.AccountSteps.{pending_of}
 use Rattle.sdr_model.specs.Accounts.{account_of, most_amount, pending_in, tickets_of}
 use Rattle.sdr_model.specs.Amounts.{amount, amounts_by, first_above, in_space, minus}
 use Rattle.sdr_model.specs.BondSteps.{bond_charge, bond_moves, bonded, capsules_of, with_bonded}
-use Rattle.sdr_model.specs.Charges.{bytes_charge, capsule_bytes, object_bytes, object_charge, rooms}
+use Rattle.sdr_model.specs.Charges.{bytes_charge, capsule_bytes, object_bytes, object_charge, rooms, use_charge}
 use Rattle.sdr_model.specs.Charging.{Charges, grant_left, no_space, with_covered}
 use Rattle.sdr_model.specs.Cuts.{placed}
 use Rattle.sdr_model.specs.HashSteps.{OnHash, OnKey, as_hash, has_key, is_no_count, is_no_key_length, value_at}
@@ -49,7 +49,7 @@ use Rattle.sdr_model.specs.Wire.{GivesOf, ToldBytes, extents_told, headers_part,
 use Rattle.sdr_model.specs.World.{World, as_raw, as_text, block_at, is_marked, misnamed, spot_of, thing_at}
 use Rattle.sdr_model.specs.SourceSteps.{OnUnnamed, new_source}
 use Rattle.sdr_model.specs.Things.{capsule_need, extent_need, object_need}
-use Rattle.sdr_model.specs.Zco.{empty_object, extents_length, object_at, owned_raw, source_at, source_naming, space_of, uses_of}
+use Rattle.sdr_model.specs.Zco.{empty_object, extents_length, object_at, owned_raw, source_at, source_naming, uses_of}
 use Rattle.sdr_model.specs.declared.accounts.Pending.{Pending}
 use Rattle.sdr_model.specs.declared.answer.Answer.TheVariants as answers
 use Rattle.sdr_model.specs.declared.answer.Reply.{Reply}
@@ -385,7 +385,7 @@ module _ (w : World) (o : Outcome) where
       from_option (source_at w named) h (λ _ h. on named (as_raw (thing_at w named)) h (λ text _ h.
       on_unnamed named h (λ h.
       unless (bytes == 0 || nat_lt (length text) (offset + bytes)) (refusals.BadRange offset bytes (length text)) h (λ _ h.
-      charged z.account number (bytes_charge spaces.Heap bytes) _ h (λ used h.
+      charged z.account number (bytes_charge spaces.Heap (length text)) _ h (λ used h.
       does raw_append_moves
       (λ at. with_object (with_thing used (at 0) (things.Source (new_source (subjects.Heap named) (length text)))) addr
       (with_extent z (record { block = at 1; source = at 0; offset = offset; length = bytes })))
@@ -393,7 +393,7 @@ module _ (w : World) (o : Outcome) where
       (λ s _ h.
       unless s.flagged refusals.NotFound h (λ _ h.
       unless (bytes == 0 || nat_lt s.length (offset + bytes)) (refusals.BadRange offset bytes s.length) h (λ _ h.
-      charged z.account number (bytes_charge (space_of s.subject) bytes) _ h (λ used h.
+      charged z.account number (use_charge w z.account named s) _ h (λ used h.
       takes extent_need (λ block. with_object used addr
       (with_extent z (record { block = block; source = named; offset = offset; length = bytes })))
       (λ block. replies.Done) h (λ block. refl))))))
@@ -409,7 +409,7 @@ module _ (w : World) (o : Outcome) where
   given_row (calls.ClonePart addr number offset bytes) whole h = on addr (object_at w addr) h (λ z _ h.
       let extents = asked_extents z offset bytes in
       unless (bytes == 0 || nat_lt z.part.length (offset + bytes)) (refusals.BadRange offset bytes z.part.length) h (λ _ h.
-      charged z.account number (λ (space : Space). object_charge w space (object_of z.account extents)) _ h (λ used h.
+      charged z.account number (λ (space : Space). object_charge space (object_of z.account extents)) _ h (λ used h.
       does (λ at. clone_moves at extents)
       (λ at. with_object used (at 0) (object_of z.account (placed at 1 extents)))
       (λ at. replies.At (at 0)) h refl)))

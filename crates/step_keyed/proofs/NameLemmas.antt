@@ -18,7 +18,7 @@ use Rattle.sdr_base.specs.Linked.{first_of, last_of}
 use Rattle.sdr_base.specs.Objects.{Heap}
 use Rattle.sdr_base.specs.Roots.{roots_by}
 use Rattle.sdr_base.specs.declared.account.Acct.TheVariants as accts
-use Rattle.sdr_base.specs.declared.control.TheConstants.{FIRST_NAME, LAST_NAME}
+use Rattle.sdr_base.specs.declared.control.TheConstants.{FIRST_NAME, HEAP_VERSION, LAST_NAME}
 use Rattle.sdr_cat.specs.Changes.{with_names}
 use Rattle.sdr_cat.specs.Kept.{KeepsNames, NameFits}
 use Rattle.sdr_cat.specs.Names as blocks
@@ -96,7 +96,7 @@ pub names_roots : (w : World) (names : List Name)
 names_roots w names = λ i word.
     names_words (first_of name_addr 0 (map name_row w.names)) (last_of name_addr 0 (map name_row w.names))
     (first_of name_addr 0 (map name_row names)) (last_of name_addr 0 (map name_row names))
-    (0 ∷ (account_roots w accts.Inbound ++ account_roots w accts.Outbound ++ w.accounts.next ∷ replicate 19 0)) word i
+    (HEAP_VERSION ∷ (account_roots w accts.Inbound ++ account_roots w accts.Outbound ++ w.accounts.next ∷ replicate 19 0)) word i
 
 -- the entry of a name
 pub find_is : (ns : List Name) (name : List ℕ) → find (is_named name) (map name_row ns) ≡ option_map name_row (name_of ns name)

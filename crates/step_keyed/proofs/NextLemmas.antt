@@ -17,7 +17,7 @@ use Rattle.sdr_model.specs.AccountSteps.{new_ticket, pending_of, with_maximum, w
 use Rattle.sdr_model.specs.Accounts.{account_of, most_amount, pending_in, tickets_of, with_account, with_ticket}
 use Rattle.sdr_model.specs.Amounts.{amounts_by, first_above, in_space, minus}
 use Rattle.sdr_model.specs.BondSteps.{bond_charge, bond_moves, bonded, capsules_of, with_bonded}
-use Rattle.sdr_model.specs.Charges.{bytes_charge, capsule_bytes, object_bytes, object_charge, rooms}
+use Rattle.sdr_model.specs.Charges.{bytes_charge, capsule_bytes, object_bytes, object_charge, rooms, use_charge}
 use Rattle.sdr_model.specs.Charging.{Charges, grant_left, no_space, with_covered}
 use Rattle.sdr_model.specs.Cuts.{placed}
 use Rattle.sdr_model.specs.Gone.{gone_things, without_things}
@@ -30,7 +30,7 @@ use Rattle.sdr_model.specs.SourceSteps.{new_source}
 use Rattle.sdr_model.specs.Steps.{DoesWith, Outcome, RefusedFor, Takes, taken_at, with_thing, without_thing}
 use Rattle.sdr_model.specs.Things.{capsule_need, extent_need, object_need}
 use Rattle.sdr_model.specs.World.{World, as_raw, thing_at}
-use Rattle.sdr_model.specs.Zco.{empty_object, extents_length, object_at, owned_raw, source_at, source_naming, space_of, uses_of}
+use Rattle.sdr_model.specs.Zco.{empty_object, extents_length, object_at, owned_raw, source_at, source_naming, uses_of}
 use Rattle.sdr_model.specs.declared.accounts.Accounts.{Accounts}
 use Rattle.sdr_model.specs.declared.accounts.Pending.{Pending}
 use Rattle.sdr_model.specs.declared.accounts.Ticket.{Ticket}
@@ -184,7 +184,7 @@ module _ (w : World) (o : Outcome) where
       from_option (as_raw (thing_at w named)) h (λ _ h. same_next _ h.1 refl) (λ text _ h.
       from_option (source_naming w named) h (λ _ h.
       from_test (bytes == 0 || nat_lt (length text) (offset + bytes)) h (λ _ h. same_next _ h.1 refl) (λ _ h.
-      charged_next z.account number (bytes_charge spaces.Heap bytes) _ h (λ used same h.
+      charged_next z.account number (bytes_charge spaces.Heap (length text)) _ h (λ used same h.
       does_next raw_append_moves
       (λ at. with_object (with_thing used (at 0) (things.Source (new_source (subjects.Heap named) (length text)))) addr
       (with_extent z (record { block = at 1; source = at 0; offset = offset; length = bytes })))
@@ -193,7 +193,7 @@ module _ (w : World) (o : Outcome) where
       (λ s _ h.
       from_test s.flagged h (λ _ h. same_next _ h.1 refl) (λ _ h.
       from_test (bytes == 0 || nat_lt s.length (offset + bytes)) h (λ _ h. same_next _ h.1 refl) (λ _ h.
-      charged_next z.account number (bytes_charge (space_of s.subject) bytes) _ h (λ used same h.
+      charged_next z.account number (use_charge w z.account named s) _ h (λ used same h.
       takes_next extent_need (λ block. with_object used addr
       (with_extent z (record { block = block; source = named; offset = offset; length = bytes })))
       (λ block. replies.Done) h (λ block. same))))))
@@ -220,7 +220,7 @@ module _ (w : World) (o : Outcome) where
       from_option (object_at w addr) row (λ _ h. same_next _ h.1 refl) (λ z _ h.
       from_test (bytes == 0 || nat_lt z.part.length (offset + bytes)) h (λ _ h. same_next _ h.1 refl) (λ _ h.
       let extents = asked_extents z offset bytes in
-      charged_next z.account number (λ (space : Space). object_charge w space (object_of z.account extents)) _ h (λ used same h.
+      charged_next z.account number (λ (space : Space). object_charge space (object_of z.account extents)) _ h (λ used same h.
       does_next (λ at. clone_moves at extents)
       (λ at. with_object used (at 0) (object_of z.account (placed at 1 extents)))
       (λ at. replies.At (at 0)) h (λ at. same))))

@@ -25,12 +25,15 @@ use Rattle.sdr_base.specs.Sources.{source_entries}
 use Rattle.sdr_base.specs.ZcoObjects.{ExtentRow, ObjectRow, capsule_entries, extent_addr, extent_block, extent_entries, object_entries}
 use Rattle.sdr_base.specs.declared.account.Acct.{Acct}
 use Rattle.sdr_base.specs.declared.account.Acct.TheVariants as accts
+use Rattle.sdr_base.specs.declared.kind.Space.TheVariants as spaces
 use Rattle.sdr_base.specs.declared.moves.Move.TheVariants.{Took}
 use Rattle.law_steps.proofs.SourceViews.{apart_at, by_addr, here_at, sum_by-with_at}
 use Rattle.sdr_model.proofs.SumLemmas.{counted_at, sum_by-map}
 use Rattle.sdr_model.proofs.ThingsLemmas.{same_things}
 use Rattle.sdr_model.specs.Accounts.{is_same_account}
+use Rattle.sdr_model.specs.Amounts.{amounts_by, in_space}
 use Rattle.sdr_model.specs.Blocks.{addresses_of, blocks_of}
+use Rattle.sdr_model.specs.Charges.{bytes_charge, extent_bytes, use_charge}
 use Rattle.sdr_model.specs.Fields.{IsWord}
 use Rattle.sdr_model.specs.ObjectSteps as object
 use Rattle.sdr_model.specs.ObjectSteps.{with_object}
@@ -47,12 +50,12 @@ use Rattle.sdr_model.specs.declared.zco.Subject.TheVariants as subjects
 use Rattle.sdr_model.specs.declared.zco.ZcoObject.{ZcoObject}
 use Rattle.sdr_model.specs.declared.zco.ZcoSource.{ZcoSource}
 use Rattle.step_zco.proofs.AlikeLemmas.{StandAlike, alike_behind, alike_then, one_first}
-use Rattle.zco_obj.specs.Amounts.{medium_space}
+use Rattle.zco_obj.specs.Amounts.{extent_amounts, heap_amounts, medium_space, use_amounts}
 use Rattle.zco_obj.specs.Charging.{IsFree}
 use Rattle.zco_obj.specs.Extents.{grown, with_extent}
 use Rattle.zco_ref.specs.Counting.{attached}
 use Rattle.zco_ref.specs.Kept.{CountedSource, counted_entries}
-use Rattle.step_zco.proofs.SourceLemmas.{counted_in}
+use Rattle.step_zco.proofs.SourceLemmas.{counted_in, counts_told}
 
 -- two things of a map may stand in front of the others
 pub two_first : (f : ℕ → Thing → Entries) (m : Things) (a c : ℕ) (x y : Thing) → c ≢ a → finite.get m a ≡ Some x →
@@ -117,6 +120,19 @@ same_space (subjects.File path) = refl
 same_space (subjects.Bulk item) = refl
 same_space (subjects.Heap raw) = refl
 same_space (subjects.Obj raw) = refl
+
+-- an extent more that names a source charges by the source's block what it does by the world
+pub use_told : (w : World) (addr : ℕ) (s : ZcoSource) (acct : Acct) →
+    use_amounts acct (counted_in w addr s) ≡ amounts_by (use_charge w acct addr s)
+use_told w addr s acct =
+    (λ i. if (counts_told w addr s acct i == 0) then extent_amounts (same_space s.subject i) s.length else heap_amounts extent_bytes)
+    ∙ by (count_of w addr acct == 0)
+  where
+    by : (b : Bool) →
+        (if b then extent_amounts (space_of s.subject) s.length else heap_amounts extent_bytes)
+        ≡ amounts_by (λ space. if b then bytes_charge (space_of s.subject) s.length space else in_space spaces.Heap extent_bytes space)
+    by true = refl
+    by false = refl
 
 -- a range that lies within so many bytes, and one that doesn't
 pub in_range : (offset bytes have : ℕ) → 1 ≤ bytes → offset + bytes ≤ have →

@@ -69,9 +69,6 @@ module _ (old new : Heap) (w : World) (unmoved : old.moves ≡ []) (s : HeapStan
   abbrev piece : ExtentPiece
   piece = record { of = raw; offset = offset; bytes = bytes }
 
-  abbrev charge : Space → ℕ
-  charge = bytes_charge spaces.Heap bytes
-
   abbrev moves : ℕ → ℕ → List Move
   moves source block = Took (source_need 0) source ∷ Took extent_need block ∷ []
 
@@ -88,6 +85,10 @@ module _ (old new : Heap) (w : World) (unmoved : old.moves ≡ []) (s : HeapStan
 
   -- where the raw object is
   module _ (p : IsWithRawAt w addr raw) where
+    -- the whole raw object is charged
+    abbrev charge : Space → ℕ
+    charge = bytes_charge spaces.Heap (length p.text)
+
     abbrev after : ℕ → ℕ → World
     after source block = paid_world w (raw_things w addr raw p source block offset bytes) p.object.account number charge
 
@@ -161,7 +162,7 @@ module _ (old new : Heap) (w : World) (unmoved : old.moves ≡ []) (s : HeapStan
 
       -- the heap stands for the world with the source and the extent
       appended_stands : (source block : ℕ) → thing_at w source ≡ None →
-          Pays p.object.account number (extent_amounts spaces.Heap bytes) (tickets_of w.accounts p.object.account) (moves source block)
+          Pays p.object.account number (extent_amounts spaces.Heap (length p.text)) (tickets_of w.accounts p.object.account) (moves source block)
           (object_entries addr (object_row p.object) ++ raw_entries raw 0 p.text)
           (object_entries addr (with_extent (object_row p.object) (extent_of block (taken_piece source piece)))
           ++ (counted_entries source (attached p.object.account (taking_over raw p.text)) ++ raw_entries raw source p.text)) old new →

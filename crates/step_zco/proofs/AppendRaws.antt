@@ -1,9 +1,9 @@
 -- An object and a raw object of a world beside each other, before and after a new source takes the raw object over and the object
 -- gets an extent of that.
-use Rattle.std.proofs.Common.{◌≡◌, ◌≢◌, ◌∙◌, ◌≤◌, ◌++◌, ℕ, List, length, Option, Some, None, true, true≢false, refl, sym, ap, subst, arith}
+use Rattle.std.proofs.Common.{◌≡◌, ◌≢◌, ◌∙◌, ◌≤◌, ◌==◌, ◌++◌, ℕ, List, length, Option, Some, None, true, true≢false, refl, sym, ap, subst, arith}
 use Rattle.std.proofs.lemmas.Bool.{eq-eqb, ne_eqb}
 use Rattle.std.specs.FinMap as finite
-use Rattle.std.specs.Prelude.{IfSome}
+use Rattle.std.specs.Prelude.{IfSome, if◌then◌else◌}
 use Rattle.step_things.proofs.EntryLemmas.{source_there}
 use Rattle.step_things.proofs.KindLemmas.{own_in_use}
 use Rattle.step_things.proofs.ListLemmas.{IsSmall}
@@ -21,15 +21,16 @@ use Rattle.sdr_base.specs.ZcoObjects.{object_entries}
 use Rattle.sdr_base.specs.declared.account.Acct.{Acct}
 use Rattle.sdr_base.specs.declared.account.Acct.TheVariants as accts
 use Rattle.sdr_base.specs.declared.kind.Kind.TheVariants as kinds
+use Rattle.sdr_base.specs.declared.kind.Space.{Space}
 use Rattle.sdr_base.specs.declared.kind.Space.TheVariants as spaces
-use Rattle.law_steps.proofs.ChargeLemmas.{charge_source}
-use Rattle.law_steps.proofs.ChargeMoves.{MovesCharge, after_same, object_moves}
-use Rattle.law_steps.proofs.ObjectRows.{extent_charge_more}
+use Rattle.law_steps.proofs.ChargeLemmas.{charge_source, count_new}
+use Rattle.law_steps.proofs.ChargeMoves.{MovesCharge, after_same}
 use Rattle.law_steps.proofs.OutcomeFits.{unnamed_from}
-use Rattle.law_steps.proofs.SourceViews.{NoSpare, apart_at, by_addr, fits_from, here_at, of}
-use Rattle.law_steps.proofs.ZcoOutcomes.{nothing}
+use Rattle.law_steps.proofs.SourceViews.{NoSpare, apart_at, by_addr, fits_from, here_at}
+use Rattle.law_steps.proofs.SourceMoves.{nothing}
 use Rattle.sdr_model.specs.Accounts.{tickets_of}
-use Rattle.sdr_model.specs.Charges.{bytes_charge}
+use Rattle.sdr_model.specs.Amounts.{in_space}
+use Rattle.sdr_model.specs.Charges.{bytes_charge, extent_bytes}
 use Rattle.sdr_model.specs.Limits.{longest_raw}
 use Rattle.sdr_model.specs.ObjectSteps as object
 use Rattle.sdr_model.specs.SourceSteps.{new_source}
@@ -46,6 +47,7 @@ use Rattle.sdr_model.specs.declared.zco.ZcoObject.{ZcoObject}
 use Rattle.sdr_model.specs.declared.zco.ZcoSource.{ZcoSource}
 use Rattle.step_zco.proofs.AlikeLemmas.{StandAlike, alike_behind, alike_then, one_first, section_alike}
 use Rattle.step_zco.proofs.AppendLemmas.{counted_once, longer_row, lost_again, others_counted, put_and_lost, same_source_on, two_first, written_alike}
+use Rattle.step_zco.proofs.AppendSources.{use_moves}
 use Rattle.step_zco.proofs.ObjectLemmas.{object_beside, object_is_at}
 use Rattle.zco_obj.specs.Appending.{taken_piece, taking_over}
 use Rattle.zco_obj.specs.Beside.{IsWithRaw, KeepsWithRaw}
@@ -54,7 +56,7 @@ use Rattle.zco_obj.specs.declared.extent.ExtentPiece.{ExtentPiece}
 use Rattle.zco_ref.specs.Counting.{attached}
 use Rattle.zco_ref.specs.Kept.{SomeFew, counted_entries}
 use Rattle.step_zco.proofs.SourceLemmas.{counted_in, named_is_at, source_few}
-use Rattle.step_zco.proofs.UsesLemmas.{none_counted, same_counts}
+use Rattle.step_zco.proofs.UsesLemmas.{same_counts}
 
 -- an object and a raw object of a world
 pub record IsWithRawAt (w : World) (addr raw : ℕ) : Type 0 where
@@ -161,17 +163,15 @@ module _ (w : World) (addr raw : ℕ) (p : IsWithRawAt w addr raw) where
           others_counted mid addr p.object raw_extent mid_there q acct (λ same. apart (sym same))
           ∙ same_counts w source (Some (things.Source taking)) q acct (ap as_object free) refl
 
+      new_unused : (acct : Acct) → count_of mid source acct ≡ 0
+      new_unused acct = count_new NoSpare w.things (fits_from w fits) acct source taking free
+
       counted_new : counted_in mid source taking ≡ taking_over raw p.text
       counted_new = λ i. record {
-        inbound = zero accts.Inbound i;
-        outbound = zero accts.Outbound i;
+        inbound = new_unused accts.Inbound i;
+        outbound = new_unused accts.Outbound i;
         row = source_row taking;
       }
-        where
-          zero : (acct : Acct) → count_of mid source acct ≡ 0
-          zero acct =
-              same_counts w source (Some (things.Source taking)) source acct (ap as_object free) refl
-              ∙ none_counted w source acct fits (ap as_source free)
 
       -- the other things are written as before
       others_alike : section g raw_others ≡ section f raw_others
@@ -236,14 +236,15 @@ module _ (w : World) (addr raw : ℕ) (p : IsWithRawAt w addr raw) where
           ++ (counted_entries source (counted i) ++ (raw_entries raw (names i) p.text ++ others_alike i)))
           three_first
 
-      -- the account of the object is charged for the extent
-      pub raw_charge : MovesCharge w.things raw_things p.object.account (bytes_charge spaces.Heap bytes) nothing
+      -- the account of the object is charged for the extent and the whole raw object
+      pub raw_charge : MovesCharge w.things raw_things p.object.account (bytes_charge spaces.Heap (length p.text)) nothing
       raw_charge =
-          after_same (λ acct space. charge_source w.things source acct space NoSpare (fits_from w fits) taking free)
-          (object_moves mid.things addr p.object.account (Some p.object) (Some raw_object) (bytes_charge spaces.Heap bytes) nothing
-          mid_there refl refl
-          (λ space. extent_charge_more (of mid.things) p.object raw_extent taking
-          (ap as_source (here_at w.things source (Some (things.Source taking)))) space))
+          let acct = p.object.account in
+          subst (λ (charge : Space → ℕ). MovesCharge w.things raw_things acct charge nothing)
+          (λ i space. if (new_unused acct i == 0) then bytes_charge spaces.Heap (length p.text) space
+          else in_space spaces.Heap extent_bytes space)
+          (after_same (λ b space. charge_source w.things source b space NoSpare (fits_from w fits) taking free)
+          (use_moves mid.things addr p.object raw_extent taking mid_there (here_at w.things source (Some (things.Source taking)))))
 
 -- in a heap that stands for a world in which calls are served
 module _ (heap : Heap) (w : World) (s : HeapStandsFor heap w) (served : IsReady w) (small : IsSmall heap) (addr raw : ℕ) where

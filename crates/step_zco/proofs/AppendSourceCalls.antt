@@ -20,7 +20,7 @@ use Rattle.sdr_base.specs.declared.stop.Stop.TheVariants as stops
 use Rattle.sdr_machine.proofs.WorkLemmas.{on_false, on_some, on_true}
 use Rattle.sdr_model.specs.Accounts.{tickets_of}
 use Rattle.sdr_model.specs.Amounts.{amounts_by}
-use Rattle.sdr_model.specs.Charges.{bytes_charge}
+use Rattle.sdr_model.specs.Charges.{use_charge}
 use Rattle.sdr_model.specs.Charging.{Charges}
 use Rattle.sdr_model.specs.ObjectSteps as object
 use Rattle.sdr_model.specs.ObjectSteps.{with_object}
@@ -28,19 +28,19 @@ use Rattle.sdr_model.specs.Rows.{ByRow}
 use Rattle.sdr_model.specs.Steps.{Outcome, Takes}
 use Rattle.sdr_model.specs.Things.{extent_need}
 use Rattle.sdr_model.specs.World.{World}
-use Rattle.sdr_model.specs.Zco.{as_object, as_source, object_at, source_at, space_of}
+use Rattle.sdr_model.specs.Zco.{as_object, as_source, object_at, source_at}
 use Rattle.sdr_model.specs.declared.answer.Reply.TheVariants as replies
 use Rattle.sdr_model.specs.declared.call.Call.{Call}
 use Rattle.sdr_model.specs.declared.call.Call.TheVariants as calls
 use Rattle.sdr_model.specs.declared.zco.ZcoSource.{ZcoSource}
 use Rattle.zco_acct.specs.Charges.{charged}
 use Rattle.step_zco.proofs.AlikeLemmas.{StandAlike}
-use Rattle.step_zco.proofs.AppendLemmas.{AppendsNamed, in_range, out_of_range, same_space}
+use Rattle.step_zco.proofs.AppendLemmas.{AppendsNamed, in_range, out_of_range, use_told}
 use Rattle.step_zco.proofs.AppendSources.{IsPair, pair_after, pair_at, pair_before, pair_charge, pair_kept, pair_object, pair_others, pair_things}
 use Rattle.step_zco.proofs.ChargeLemmas.{IsPaid, paid, unpaid}
 use Rattle.step_zco.proofs.MovingLemmas.{both_alike}
 use Rattle.step_zco.proofs.PayingLemmas.{paid_stands, paid_world, room_refused, same_refusal}
-use Rattle.zco_obj.specs.Amounts.{extent_amounts, source_space}
+use Rattle.zco_obj.specs.Amounts.{use_amounts}
 use Rattle.zco_obj.specs.AppendStops.{RangeRefused, SourceAllowed, SourceStops}
 use Rattle.zco_obj.specs.Appending.{AppendsSource, IsWithin, OfSource}
 use Rattle.zco_obj.specs.Charging.{Pays, refusal_in}
@@ -62,7 +62,7 @@ module _ (old new : Heap) (w : World) (unmoved : old.moves ≡ []) (s : HeapStan
   -- where the source is
   module _ (p : IsPair w addr named) where
     abbrev charge : Space → ℕ
-    charge = bytes_charge (space_of p.source.subject) bytes
+    charge = use_charge w p.object.account named p.source
 
     abbrev after : ℕ → World
     after block = paid_world w (pair_things w addr named p block offset bytes) p.object.account number charge
@@ -117,8 +117,8 @@ module _ (old new : Heap) (w : World) (unmoved : old.moves ≡ []) (s : HeapStan
         record { after = _; reply = _; row = appended_row 0 unflagged within paid; answered = refl }
 
     -- the charge is that of the world
-    same_charge : extent_amounts (source_space (counted_in w named p.source)) bytes ≡ amounts_by charge
-    same_charge = ap (λ (space : Space). extent_amounts space bytes) (same_space p.source.subject)
+    same_charge : use_amounts p.object.account (counted_in w named p.source) ≡ amounts_by charge
+    same_charge = use_told w named p.source p.object.account
 
     -- the heap stands for the world with the extent
     appended_stands : (block : ℕ) →
@@ -168,7 +168,7 @@ module _ (old new : Heap) (w : World) (unmoved : old.moves ≡ []) (s : HeapStan
         (paid w acct number charge (sym (same_refusal acct s number charge) ∙ pays.allowed))) refl
 
     -- what the account says
-    may_pay : refusal_in old p.object.account number (extent_amounts (source_space (counted_in w named p.source)) bytes)
+    may_pay : refusal_in old p.object.account number (use_amounts p.object.account (counted_in w named p.source))
         (tickets_of w.accounts p.object.account) ≡ None → IsPaid w p.object.account number charge
     may_pay none =
         paid w p.object.account number charge
@@ -202,7 +202,7 @@ module _ (old new : Heap) (w : World) (unmoved : old.moves ≡ []) (s : HeapStan
         (refl, refl, λ i. replies.Refused (refusals.BadRange (r.0 i) (r.1 i) (r.2 i)))))
 
     unpaid_row : (refusal : Refusal) → p.source.flagged ≡ false → IsWithin piece p.source.length →
-        refusal_in old p.object.account number (extent_amounts (source_space (counted_in w named p.source)) bytes)
+        refusal_in old p.object.account number (use_amounts p.object.account (counted_in w named p.source))
         (tickets_of w.accounts p.object.account) ≡ Some refusal → new ≡ old →
         ByRow w (record { moves = new.moves; after = w; reply = replies.Refused refusal }) call
     unpaid_row refusal unflagged within some same =

@@ -1,5 +1,5 @@
 -- An object and a source of a world beside each other, before and after the object gets an extent of the source.
-use Rattle.std.proofs.Common.{◌≡◌, ◌≢◌, ◌∙◌, ◌<◌, ◌^◌, ◌++◌, ℕ, Some, None, refl, sym, ap, subst}
+use Rattle.std.proofs.Common.{◌≡◌, ◌≢◌, ◌∙◌, ◌<◌, ◌^◌, ◌++◌, ℕ, Some, None, refl, sym, ap, subst, arith}
 use Rattle.std.specs.FinMap as finite
 use Rattle.step_things.proofs.ListLemmas.{IsSmall}
 use Rattle.step_things.specs.Answering.{IsReady}
@@ -16,14 +16,14 @@ use Rattle.sdr_base.specs.declared.account.Acct.TheVariants as accts
 use Rattle.sdr_base.specs.declared.kind.Kind.TheVariants as kinds
 use Rattle.law_steps.proofs.ChargeMoves.{MovesCharge, object_moves}
 use Rattle.law_steps.proofs.ObjectRows.{extent_charge_more}
+use Rattle.law_steps.proofs.SourceMoves.{nothing, sources_use, use_parts}
 use Rattle.law_steps.proofs.SourceViews.{apart_at, here_at, of}
-use Rattle.law_steps.proofs.ZcoOutcomes.{nothing}
 use Rattle.sdr_model.specs.Accounts.{tickets_of}
-use Rattle.sdr_model.specs.Charges.{bytes_charge}
+use Rattle.sdr_model.specs.Charges.{use_charge}
 use Rattle.sdr_model.specs.ObjectSteps as object
 use Rattle.sdr_model.specs.Things.{Things}
 use Rattle.sdr_model.specs.World.{World, thing_at}
-use Rattle.sdr_model.specs.Zco.{as_source, space_of}
+use Rattle.sdr_model.specs.Zco.{as_source}
 use Rattle.sdr_model.specs.declared.things.Thing.{Thing}
 use Rattle.sdr_model.specs.declared.things.Thing.TheVariants as things
 use Rattle.sdr_model.specs.declared.zco.Extent.{Extent}
@@ -39,6 +39,16 @@ use Rattle.zco_ref.specs.Counting.{attached}
 use Rattle.zco_ref.specs.Kept.{count_in, counted_entries}
 use Rattle.step_zco.proofs.SourceLemmas.{counted_in, source_is_at, source_stands}
 use Rattle.step_zco.proofs.UsesLemmas.{counts_small}
+
+-- an object gets an extent more: its account is charged for that, and for the source where it named that by none
+pub use_moves : (m : Things) (addr : ℕ) (z : ZcoObject) (e : Extent) (source : ZcoSource) →
+    finite.get m addr ≡ Some (things.Object z) → finite.get m e.source ≡ Some (things.Source source) →
+    MovesCharge m (finite.insert m addr (things.Object (object.with_extent z e))) z.account
+    (use_charge (of m) z.account e.source source) nothing
+use_moves m addr z e source there named =
+    object_moves m addr z.account (Some z) (Some (object.with_extent z e)) (use_charge (of m) z.account e.source source) nothing
+    there refl refl (sources_use m z.account z e)
+    (λ space. omega (arith, extent_charge_more z e space, use_parts (of m) z.account e.source source (ap as_source named) space))
 
 -- an object and a source of a world
 pub record IsPair (w : World) (addr named : ℕ) : Type 0 where
@@ -109,12 +119,9 @@ module _ (w : World) (addr named : ℕ) (p : IsPair w addr named) where
         (two_first g pair_things addr named now (things.Source p.source) pair_apart (here_at w.things addr (Some now))
         (apart_at w.things addr (Some now) named pair_apart ∙ p.named_there))
 
-    -- the account of the object is charged for the extent
-    pub pair_charge : MovesCharge w.things pair_things p.object.account (bytes_charge (space_of p.source.subject) bytes) nothing
-    pair_charge =
-        object_moves w.things addr p.object.account (Some p.object) (Some pair_object)
-        (bytes_charge (space_of p.source.subject) bytes) nothing p.there refl refl
-        (λ space. extent_charge_more (of w.things) p.object pair_extent p.source (ap as_source p.named_there) space)
+    -- the account of the object is charged for the extent, and for the source where it named that by none
+    pub pair_charge : MovesCharge w.things pair_things p.object.account (use_charge w p.object.account named p.source) nothing
+    pair_charge = use_moves w.things addr p.object pair_extent p.source p.there p.named_there
 
 -- in a heap that stands for a world in which calls are served
 module _ (heap : Heap) (w : World) (s : HeapStandsFor heap w) (served : IsReady w) (small : IsSmall heap) (addr named : ℕ) where

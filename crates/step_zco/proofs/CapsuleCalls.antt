@@ -22,8 +22,7 @@ use Rattle.sdr_base.specs.declared.refusal.Refusal.TheVariants as refusals
 use Rattle.sdr_base.specs.declared.stop.Stop.TheVariants as stops
 use Rattle.law_steps.proofs.ChargeMoves.{MovesCharge, object_moves}
 use Rattle.law_steps.proofs.ObjectRows.{header_charge, trailer_charge}
-use Rattle.law_steps.proofs.SourceViews.{of}
-use Rattle.law_steps.proofs.ZcoOutcomes.{nothing}
+use Rattle.law_steps.proofs.SourceMoves.{nothing, sources_stay}
 use Rattle.sdr_machine.proofs.WorkLemmas.{on_false, on_some, on_true}
 use Rattle.sdr_model.specs.Accounts.{is_same_account, tickets_of}
 use Rattle.sdr_model.specs.Amounts.{amounts_by, in_space}
@@ -57,15 +56,15 @@ pub record AddsOne (more : ZcoObject → Capsule → ZcoObject) (more_row : Obje
   pub rows : (z : ZcoObject) (c : Capsule) → object_row (more z c) ≡ more_row (object_row z) (capsule_row c)
   pub account : (z : ZcoObject) (c : Capsule) → (more z c).account ≡ z.account
   pub extents : (z : ZcoObject) (c : Capsule) → (more z c).extents ≡ z.extents
-  pub charge : (w : World) (z : ZcoObject) (c : Capsule) (space : Space) →
-      object_charge w space (more z c) ≡ object_charge w space z + capsule_charge space c
+  pub charge : (z : ZcoObject) (c : Capsule) (space : Space) →
+      object_charge space (more z c) ≡ object_charge space z + capsule_charge space c
 
 pub adds_header : AddsOne object.with_header with_header
 adds_header = record {
   rows = λ z c. refl;
   account = λ z c. refl;
   extents = λ z c. refl;
-  charge = λ w z c space. header_charge w z c space;
+  charge = λ z c space. header_charge z c space;
 }
 
 pub adds_trailer : AddsOne object.with_trailer with_trailer
@@ -73,7 +72,7 @@ adds_trailer = record {
   rows = λ z c. ap (λ (rows : List CapsuleRow). record (object_row z) { trailers = rows }) (map-append capsule_row z.trailers (c ∷ []));
   account = λ z c. refl;
   extents = λ z c. refl;
-  charge = λ w z c space. trailer_charge w z c space;
+  charge = λ z c space. trailer_charge z c space;
 }
 
 -- a length that a header or trailer has, or hasn't
@@ -158,7 +157,7 @@ module _ (old new : Heap) (w : World) (unmoved : old.moves ≡ []) (s : HeapStan
 
   -- where it allows the charge
   may_pay : (z : ZcoObject) → thing_at w addr ≡ Some (things.Object z) → IsSmall old →
-      ObjectAllows addr number (amounts_by charge) old → IsPaid w z.account number charge
+      ObjectAllows addr number (λ acct. amounts_by charge) old → IsPaid w z.account number charge
   may_pay z there small allows =
       paid w z.account number charge
       (sym (same_refusal z.account s number charge)
@@ -186,7 +185,8 @@ module _ (old new : Heap) (w : World) (unmoved : old.moves ≡ []) (s : HeapStan
       let charges : MovesCharge w.things (things_with z block) z.account charge nothing =
       object_moves w.things addr z.account (Some z) (Some (more z (capsule block))) charge nothing at.there refl
       (adds.account z (capsule block))
-      (λ space. let more = adds.charge (of w.things) z (capsule block) space in omega (arith, more)) in
+      (sources_stay w.things z.account (Some z) (Some (more z (capsule block))) (λ q. ap (naming q) (adds.extents z (capsule block))))
+      (λ space. let more = adds.charge z (capsule block) space in omega (arith, more)) in
       let is : new.moves ≡ moves =
       ap (λ (h : Heap). h.moves) pays.others ∙ ap (λ (ms : List Move). ms ++ moves) unmoved in
       moved_answered w (after z block) call moves new replies.Done

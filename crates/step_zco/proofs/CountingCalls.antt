@@ -2,7 +2,6 @@
 use Rattle.std.proofs.Common.{◌≡◌, ℕ, List, [], refl, ap}
 use Rattle.step_things.proofs.ListLemmas.{IsSmall}
 use Rattle.step_things.proofs.RowLemmas.{looked, misnamed_refused}
-use Rattle.step_things.specs.Answering as answers
 use Rattle.step_things.specs.Answering.{Answered, IsRefused, IsReady}
 use Rattle.sdr_stands.specs.Standing.{HeapStandsFor}
 use Rattle.sdr_base.specs.Objects.{Heap, Misses}
@@ -11,9 +10,7 @@ use Rattle.sdr_base.specs.declared.refusal.Refusal.{Refusal}
 use Rattle.sdr_base.specs.declared.stop.Stop.TheVariants as stops
 use Rattle.sdr_model.specs.World.{World}
 use Rattle.sdr_model.specs.Zco.{as_source, source_at, uses_of}
-use Rattle.sdr_model.specs.declared.answer.Reply.{Reply}
 use Rattle.sdr_model.specs.declared.answer.Reply.TheVariants as replies
-use Rattle.sdr_model.specs.declared.call.Call.{Call}
 use Rattle.sdr_model.specs.declared.call.Call.TheVariants as calls
 use Rattle.zco_ref.specs.Counting.{CountsUses}
 use Rattle.step_zco.proofs.SourceLemmas.{counted_in, no_source, source_is_at}

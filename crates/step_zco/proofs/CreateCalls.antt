@@ -16,7 +16,7 @@ use Rattle.sdr_base.specs.declared.refusal.Refusal.{Refusal}
 use Rattle.sdr_base.specs.declared.refusal.Refusal.TheVariants as refusals
 use Rattle.sdr_base.specs.declared.stop.Stop.TheVariants as stops
 use Rattle.law_steps.proofs.ChargeMoves.{MovesCharge, object_moves}
-use Rattle.law_steps.proofs.ZcoOutcomes.{nothing}
+use Rattle.law_steps.proofs.SourceMoves.{nothing, sources_stay}
 use Rattle.sdr_model.specs.Accounts.{is_same_account, tickets_of}
 use Rattle.sdr_model.specs.Amounts.{amounts_by, in_space}
 use Rattle.sdr_model.specs.Charges.{object_bytes}
@@ -31,6 +31,7 @@ use Rattle.sdr_model.specs.declared.call.Call.TheVariants as calls
 use Rattle.sdr_model.specs.declared.things.Thing.TheVariants as things
 use Rattle.zco_acct.specs.Charges.{charged}
 use Rattle.step_zco.proofs.ChargeLemmas.{IsPaid, paid, unpaid}
+use Rattle.step_zco.proofs.HeapAmounts.{in_heap-none}
 use Rattle.step_zco.proofs.MovingLemmas.{both_change, things_swap}
 use Rattle.step_zco.proofs.PayingLemmas.{paid_stands, paid_world, room_refused, same_refusal}
 use Rattle.step_zco.proofs.ComingLemmas.{tickets_kept}
@@ -103,7 +104,9 @@ module _ (old new : Heap) (w : World) (unmoved : old.moves ≡ []) (s : HeapStan
       let p = paid w acct number charge (sym (same_refusal acct s number charge) ∙ pays.allowed) in
       let moves = Took object_need addr ∷ [] in
       let charges : MovesCharge w.things (things_with addr) acct charge nothing =
-      object_moves w.things addr acct None (Some (empty_object acct)) charge nothing none tt refl (λ space. omega arith) in
+      object_moves w.things addr acct None (Some (empty_object acct)) charge nothing none tt refl
+      (sources_stay w.things acct None (Some (empty_object acct)) (λ q. refl))
+      (λ space. let no_extents = in_heap-none space in omega (arith, no_extents)) in
       let is : new.moves ≡ moves =
       ap (λ (h : Heap). h.moves) pays.others ∙ ap (λ (ms : List Move). ms ++ moves) unmoved in
       moved_answered w (paid_world w (things_with addr) acct number charge) (calls.Create acct number) moves new (replies.At addr)

@@ -19,15 +19,14 @@ use Rattle.sdr_base.specs.declared.refusal.Refusal.{Refusal}
 use Rattle.sdr_base.specs.declared.refusal.Refusal.TheVariants as refusals
 use Rattle.sdr_base.specs.declared.stop.Stop.TheVariants as stops
 use Rattle.law_steps.proofs.ChargeMoves.{MovesCharge}
-use Rattle.law_steps.proofs.SourceViews.{of}
-use Rattle.law_steps.proofs.ZcoOutcomes.{nothing}
+use Rattle.law_steps.proofs.SourceMoves.{nothing}
+use Rattle.law_steps.proofs.ZcoOutcomes.{drop_release}
 use Rattle.law_steps.specs.Fresh.{AreFresh}
 use Rattle.sdr_machine.proofs.WorkLemmas.{on_some}
 use Rattle.sdr_machine.specs.Demand.{grants_between}
 use Rattle.sdr_model.specs.Accounts.{tickets_of}
 use Rattle.sdr_model.specs.Amounts.{amounts_by, minus}
 use Rattle.sdr_model.specs.Blocks.{addresses_of, blocks_of}
-use Rattle.sdr_model.specs.Charges.{object_charge}
 use Rattle.sdr_model.specs.Fields.{IsWord}
 use Rattle.sdr_model.specs.Gone.{gone_things, without_things}
 use Rattle.sdr_model.specs.ObjectSteps.{destroy_blocks}
@@ -48,7 +47,8 @@ use Rattle.step_zco.proofs.DropLemmas.{framed}
 use Rattle.step_zco.proofs.DestroyLeft.{extents_few}
 use Rattle.step_zco.proofs.DestroyKept.{keeps_sources, sources, used}
 use Rattle.step_zco.proofs.GoneLosses.{lost_charge, lost_fields, lost_fits}
-use Rattle.step_zco.proofs.GoneMoves.{charge_same, destroyed_same}
+use Rattle.step_zco.proofs.GoneCharges.{charge_same}
+use Rattle.step_zco.proofs.GoneMoves.{destroyed_same}
 use Rattle.step_zco.proofs.GoneTies.{leaves_none, left_things, lost_is, lost_world}
 use Rattle.step_zco.proofs.GoneWorlds.{beside, left_first, own_blocks, own_first}
 use Rattle.step_zco.proofs.MovedLemmas.{moved_stands}
@@ -99,14 +99,13 @@ module _ (old : Heap) (w : World) (unmoved : old.moves ≡ []) (s : HeapStandsFo
     pub lost_keeps : KeepsTickets lost
     lost_keeps = record { queues = served.whole.queues; fits = lost_fields w addr z at.there served.fits }
 
-    -- it charged so much
+    -- it charged so much, with the sources that no other object of the account names
     abbrev frees : Space → ℕ
-    frees space = object_charge (of w.things) space z
+    frees = drop_release w z None z.extents
 
     amounts_same : charges_of (object_row z) rows ≡ amounts_by frees
     amounts_same =
-        let u = used w addr z served.whole.fits at.there in
-        λ i. amounts_by (λ space. charge_same w z u.sources u.are.found space i)
+        let u = used w addr z served.whole.fits at.there in charge_same w z u.sources u.are
 
     -- the blocks that go
     pub blocks_same : destroy_blocks w addr z ≡ gone_object addr (object_row z) rows

@@ -23,8 +23,7 @@ use Rattle.sdr_base.specs.declared.refusal.Refusal.TheVariants as refusals
 use Rattle.sdr_base.specs.declared.stop.Stop.TheVariants as stops
 use Rattle.law_steps.proofs.ChargeMoves.{MovesCharge, object_moves}
 use Rattle.law_steps.proofs.ObjectFields.{put_fits}
-use Rattle.law_steps.proofs.SourceViews.{of}
-use Rattle.law_steps.proofs.ZcoOutcomes.{nothing}
+use Rattle.law_steps.proofs.SourceMoves.{nothing, sources_stay}
 use Rattle.law_steps.specs.Fresh.{AreFresh}
 use Rattle.sdr_machine.proofs.WorkLemmas.{on_none, on_some}
 use Rattle.sdr_machine.specs.Demand.{grants_between}
@@ -136,7 +135,8 @@ module _ (old : Heap) (w : World) (unmoved : old.moves ≡ []) (s : HeapStandsFo
         let frees : Space → ℕ = in_space spaces.Heap (capsule_bytes (length c.text)) in
         let charges : MovesCharge w.things m acct nothing frees =
         object_moves w.things addr acct (Some z) (Some new) nothing frees d.gone.there refl (drops.account z)
-        (λ space. let less = drops.less (of w.things) z c d.gone.is space in omega (arith, less)) in
+        (sources_stay w.things acct (Some z) (Some new) (λ q. ap (naming q) (drops.extents z)))
+        (λ space. let less = drops.less z c d.gone.is space in omega (arith, less)) in
         let alike : TieAlike (Some (things.Object z)) (Some (things.Object new)) = record {
           raws = λ raw. refl;
           sources = λ source b. λ i. if is_same_account b (sym (drops.account z) i)

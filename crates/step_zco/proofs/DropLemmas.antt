@@ -15,7 +15,6 @@ use Rattle.sdr_model.specs.Charges.{capsule_charge, object_charge}
 use Rattle.sdr_model.specs.Fields.{FitsCapsule, FitsObject}
 use Rattle.sdr_model.specs.ObjectSteps as object
 use Rattle.sdr_model.specs.ObjectSteps.{last_capsule, with_object}
-use Rattle.sdr_model.specs.World.{World}
 use Rattle.sdr_model.specs.declared.zco.Capsule.{Capsule}
 use Rattle.sdr_model.specs.declared.zco.ZcoObject.{ZcoObject}
 use Rattle.zco_obj.specs.Discards.{first_header, last_trailer, without_header, without_trailer}
@@ -28,8 +27,8 @@ pub record DropsOne (pick : ZcoObject → Option Capsule) (without : ZcoObject �
   pub rows : (z : ZcoObject) → object_row (without z) ≡ without_row (object_row z)
   pub account : (z : ZcoObject) → (without z).account ≡ z.account
   pub extents : (z : ZcoObject) → (without z).extents ≡ z.extents
-  pub less : (w : World) (z : ZcoObject) (c : Capsule) → pick z ≡ Some c → (space : Space) →
-      object_charge w space (without z) + capsule_charge space c ≡ object_charge w space z
+  pub less : (z : ZcoObject) (c : Capsule) → pick z ≡ Some c → (space : Space) →
+      object_charge space (without z) + capsule_charge space c ≡ object_charge space z
   pub fits : (z : ZcoObject) → FitsObject z → FitsObject (without z)
 
 pub drops_header : DropsOne (λ z. slice_get z.headers 0) object.without_header first_header without_header
@@ -38,7 +37,7 @@ drops_header = record {
   rows = λ z. ap (λ (rows : List CapsuleRow). record (object_row z) { headers = rows }) (sym (drop-map capsule_row 1 z.headers));
   account = λ z. refl;
   extents = λ z. refl;
-  less = λ w z c is space. first_less w z c is space;
+  less = λ z c is space. first_less z c is space;
   fits = λ z f. record {
     headers = All-drop FitsCapsule 1 z.headers f.headers;
     extents = f.extents;
@@ -57,7 +56,7 @@ drops_trailer = record {
       ∙ ap (λ n. take (n - 1) (map capsule_row z.trailers)) (sym (length-map z.trailers capsule_row)));
   account = λ z. refl;
   extents = λ z. refl;
-  less = λ w z c is space. last_less w z c is space;
+  less = λ z c is space. last_less z c is space;
   fits = λ z f. record {
     headers = f.headers;
     extents = f.extents;

@@ -8,12 +8,11 @@ use Rattle.law_steps.proofs.GoneLaws.{AllGone}
 use Rattle.law_steps.proofs.ObjectFields as fields
 use Rattle.law_steps.proofs.OutcomeFits.{charged_by, drops_gone}
 use Rattle.law_steps.proofs.OutcomeLemmas.{gone_accounts, object_owes, owes_release}
-use Rattle.law_steps.proofs.SourceViews.{Fits, NoSpare, fits_from, fits_to, of}
-use Rattle.law_steps.proofs.ZcoOutcomes.{AccountChange, Drops, Queued, nothing}
-use Rattle.law_steps.specs.Charged.{charge_less}
+use Rattle.law_steps.proofs.SourceViews.{Fits, NoSpare, fits_from, fits_to}
+use Rattle.law_steps.proofs.SourceMoves.{nothing, sources_gone}
+use Rattle.law_steps.proofs.ZcoOutcomes.{AccountChange, Drops, Queued, drop_release}
 use Rattle.law_steps.specs.Fresh.{AreFresh}
 use Rattle.sdr_model.specs.Blocks.{addresses_of, blocks_of}
-use Rattle.sdr_model.specs.Charges.{object_charge}
 use Rattle.sdr_model.specs.Fields.{FitsFields}
 use Rattle.sdr_model.specs.Gone.{gone_things, without_things}
 use Rattle.sdr_model.specs.ObjectSteps.{destroy_blocks}
@@ -51,7 +50,7 @@ module _ (w : World) (addr : ℕ) (z : ZcoObject) (there : thing_at w addr ≡ S
     was = ap as_object there;
     account = tt;
     owes = owes_release (λ b space. refl)
-        (λ b space. object_owes w addr z (λ z. charge_less w z None) (ap as_object there) b space) (λ b space. refl);
+        (λ b space. object_owes w addr z (λ z. drop_release w z None z.extents) (ap as_object there) b space) (λ b space. refl);
     less = λ space. omega arith;
     parts = λ source. omega arith;
     inside = λ all. tt;
@@ -80,13 +79,14 @@ module _ (w : World) (addr : ℕ) (z : ZcoObject) (there : thing_at w addr ≡ S
     pub lost_fits : FitTogether (lost_world w addr z.extents None)
     lost_fits = fits_to (lost_world w addr z.extents None) (subst (λ (m : Things). Fits m NoSpare) things_are all_went.fits)
 
-    -- and its account is charged less by what it charged
-    pub lost_charge : MovesCharge w.things (left_things w addr z.extents None) z.account nothing (λ space. object_charge (of w.things) space z)
+    -- and its account is charged less by what it charged, and by the sources that no other object of it names
+    pub lost_charge : MovesCharge w.things (left_things w addr z.extents None) z.account nothing
+        (drop_release w z None z.extents)
     unfolding drops
     lost_charge =
-        let one : MovesCharge w.things (lose w.things addr) z.account nothing (λ space. object_charge (of w.things) space z) =
-        object_moves w.things addr z.account (Some z) None nothing (λ space. object_charge (of w.things) space z) there refl tt
-        (λ space. omega arith) in
+        let one : MovesCharge w.things (lose w.things addr) z.account nothing (drop_release w z None z.extents) =
+        object_moves w.things addr z.account (Some z) None nothing (drop_release w z None z.extents) there refl tt
+        (sources_gone w.things z.account (Some z) None z.extents (λ q. omega arith)) (λ space. omega arith) in
         let same : SameCharge (lose w.things addr) (left_things w addr z.extents None) =
         λ acct space. ap (λ (m : Things). things_charge m acct space) (sym things_are) ∙ all_went.charges acct space in
         before_same one same

@@ -1,19 +1,15 @@
--- The blocks that go with an object, and what it charges, as the world and the blocks have them.
+-- The blocks that go with an object, as the world and the blocks have them.
 use Rattle.std.proofs.Common.{◌≡◌, ◌∙◌, ◌≤◌, ℕ, ◌==◌, ◌&&◌, ◌||◌, not, List, [], ◌∷◌, ◌++◌, map, nat_lt, Bool, true, false, Option, Some, is_some, refl, sym, ap, arith}
 use Rattle.std.proofs.lemmas.Bool.{ne_eqb}
 use Rattle.std.proofs.lemmas.Bool.Decides.{nat_tests}
 use Rattle.std.proofs.lemmas.List.Sums.{sum_by-cons}
 use Rattle.std.proofs.lemmas.Simd.{map-map}
 use Rattle.std.specs.Option.{option_to_list}
-use Rattle.std.specs.Prelude.{if◌then◌else◌, sum_by}
+use Rattle.std.specs.Prelude.{if◌then◌else◌}
 use Rattle.sdr_stands.specs.Rows.{capsule_row, extent_row, medium_of, object_row, subject_number}
 use Rattle.sdr_base.specs.ZcoObjects.{ExtentRow, capsule_addr}
-use Rattle.sdr_base.specs.declared.kind.Space.{Space}
-use Rattle.sdr_base.specs.declared.kind.Space.TheVariants as spaces
 use Rattle.law_steps.proofs.DistinctLemmas.{weight}
 use Rattle.sdr_model.proofs.SumLemmas.{sum_by-map}
-use Rattle.sdr_model.specs.Amounts.{in_space}
-use Rattle.sdr_model.specs.Charges.{bytes_charge, extent_charge, object_bytes, object_charge, space_in}
 use Rattle.sdr_model.specs.Gone.{gone_blocks, gone_with, is_passing, names_source, source_blocks}
 use Rattle.sdr_model.specs.ObjectSteps.{destroy_blocks}
 use Rattle.sdr_model.specs.World.{World}
@@ -24,10 +20,8 @@ use Rattle.sdr_model.specs.declared.zco.Subject.{Subject}
 use Rattle.sdr_model.specs.declared.zco.Subject.TheVariants as subjects
 use Rattle.sdr_model.specs.declared.zco.ZcoObject.{ZcoObject}
 use Rattle.sdr_model.specs.declared.zco.ZcoSource.{ZcoSource}
-use Rattle.step_zco.proofs.AppendLemmas.{same_space}
 use Rattle.step_zco.proofs.GoneUses.{IsFound, UsedSource, goes, itself, named_later, named_of, some_naming}
-use Rattle.zco_obj.specs.Amounts.{charge_of}
-use Rattle.zco_obj.specs.Destroying.{capsule_row_charge, gone_object}
+use Rattle.zco_obj.specs.Destroying.{gone_object}
 use Rattle.zco_obj.specs.Gone as rows
 use Rattle.zco_obj.specs.Gone.{NamedSource}
 use Rattle.zco_ref.specs.Going as ref
@@ -126,24 +120,6 @@ module _ (w : World) (all : List Extent) where
         one_gone es e f.used f.here ∙ ap (rows.going_before all_rows (map extent_row es)) (sym f.is) in
         λ i. one i ++ e.block ∷ blocks_same es (λ q named. found q (named_later q e es named)) i
 
-    -- an extent charges what its row does
-    extent_same : (space : Space) (e : Extent) → IsFound w all us e.source →
-        rows.extent_row_charge sources space (extent_row e) ≡ extent_charge w space e
-    extent_same space e f =
-        ap (λ (o : Option NamedSource). bytes_charge (rows.space_in o) e.length space) f.is
-        ∙ ap (λ (of : Space). bytes_charge of e.length space) (same_space f.used.source.subject)
-        ∙ ap (λ (o : Option ZcoSource). bytes_charge (space_in o) e.length space)
-        (sym (ap (source_at w) (sym f.here) ∙ ap as_source f.used.there))
-
-    extents_same : (space : Space) (es : List Extent) → ((q : ℕ) → names_source q es ≡ true → IsFound w all us q) →
-        sum_by (rows.extent_row_charge sources space) (map extent_row es) ≡ sum_by (extent_charge w space) es
-    extents_same space [] found = refl
-    extents_same space (e ∷ es) found =
-        let rest = extents_same space es (λ q named. found q (named_later q e es named)) in
-        let one = extent_same space e (found e.source (itself e es)) in
-        let row = sum_by-cons (rows.extent_row_charge sources space) (extent_row e) (map extent_row es) in
-        let here = sum_by-cons (extent_charge w space) e es in omega (arith, rest, one, row, here)
-
 -- of an object whose extents all go
 module _ (w : World) (z : ZcoObject) (us : List (UsedSource w z.extents))
     (found : (q : ℕ) → names_source q z.extents ≡ true → IsFound w z.extents us q) where
@@ -156,13 +132,3 @@ module _ (w : World) (z : ZcoObject) (us : List (UsedSource w z.extents))
       let trailers : map (λ (c : Capsule). c.block) z.trailers ≡ map capsule_addr (map capsule_row z.trailers) =
       sym (map-map capsule_addr capsule_row z.trailers) in
       λ i. headers i ++ blocks_same w z.extents us z.extents found i ++ trailers i ++ addr ∷ []
-
-  -- and it charges what its row does
-  pub charge_same : (space : Space) →
-      charge_of (in_space spaces.Heap object_bytes space)
-      (rows.extent_row_charge (map (named_of w z.extents) us) space) (capsule_row_charge space) (object_row z)
-      ≡ object_charge w space z
-  charge_same space =
-      let extents = extents_same w z.extents us space z.extents found in
-      let headers = sum_by-map (capsule_row_charge space) capsule_row z.headers in
-      let trailers = sum_by-map (capsule_row_charge space) capsule_row z.trailers in omega (arith, extents, headers, trailers)

@@ -15,7 +15,7 @@ use Rattle.law_steps.proofs.GoneLaws.{gone_apart, without}
 use Rattle.law_steps.proofs.GoneLemmas.{AreApart}
 use Rattle.law_steps.proofs.HashShapes.{neither}
 use Rattle.law_steps.proofs.SourceViews.{apart_at, by_addr, here_at, fits_from, sum_by-with_at}
-use Rattle.law_steps.proofs.ZcoOutcomes.{naming_in}
+use Rattle.law_steps.proofs.SourceMoves.{naming_in}
 use Rattle.sdr_model.proofs.SumLemmas.{counted_at}
 use Rattle.sdr_model.specs.Accounts.{is_same_account}
 use Rattle.sdr_model.specs.Gone.{gone_things, names_source, without_things}

@@ -105,6 +105,13 @@ module _ (w : World) (all : List Extent) where
   abbrev pub all_keys : List UsedSource → List ℕ
   all_keys us = flat_map (λ (u : UsedSource). keys_at u.addr u.source) us
 
+  -- one at another address than theirs isn't found among these
+  pub not_found : (q : ℕ) (us : List UsedSource) → AreApart q (addresses us) → rows.source_at q (map named_of us) ≡ None
+  not_found q [] apart = refl
+  not_found q (u ∷ us) apart =
+      ap (λ (b : Bool). cond b (Some (named_of u)) (rows.source_at q (map named_of us))) (ne_eqb u.addr q apart.0)
+      ∙ not_found q us apart.1
+
   -- the one at an address is found among these
   pub record IsFound (us : List UsedSource) (q : ℕ) : Type 0 where
     pub used : UsedSource

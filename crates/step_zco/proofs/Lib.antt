@@ -1,4 +1,5 @@
 pub mod FewLemmas
+pub mod HeapAmounts
 pub mod AlikeLemmas
 pub mod ObjectLemmas
 mod ReadingCalls
@@ -24,6 +25,7 @@ pub mod GoneUses
 pub mod GoneMoves
 pub mod GoneKeys
 pub mod GoneTies
+pub mod GoneCharges
 pub mod GoneChanges
 pub mod GoneWorlds
 pub mod GoneLosses

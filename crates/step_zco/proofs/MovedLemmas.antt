@@ -14,6 +14,7 @@ use Rattle.sdr_base.specs.Tickets.{ticket_addr}
 use Rattle.sdr_base.specs.declared.account.Acct.{Acct}
 use Rattle.sdr_base.specs.declared.account.Acct.TheVariants as accts
 use Rattle.sdr_base.specs.declared.account.Amounts.{Amounts}
+use Rattle.sdr_base.specs.declared.control.TheConstants.{HEAP_VERSION}
 use Rattle.sdr_base.specs.declared.kind.Space.{Space}
 use Rattle.sdr_base.specs.declared.moves.Move.{Move}
 use Rattle.law_steps.proofs.BarredLemmas.{amount_by, amounts_same}
@@ -62,13 +63,14 @@ others_stay : (w : World) (m : Things) (acct : Acct) (a : AccountWords) (next : 
 others_stay w m accts.Inbound a next others =
     let names = map name_row w.names in
     ap (λ (occupied : Amounts). roots_by
-    (root_words 0 (first_of name_addr 0 names) (last_of name_addr 0 names)
+    (root_words HEAP_VERSION (first_of name_addr 0 names) (last_of name_addr 0 names)
     (base.account_words a.occupied a.maxima a.first a.last) (words_but w accts.Outbound occupied) next))
     (occupies w m accts.Outbound (others accts.Outbound refl))
 others_stay w m accts.Outbound a next others =
     let names = map name_row w.names in
     ap (λ (occupied : Amounts). roots_by
-    (root_words 0 (first_of name_addr 0 names) (last_of name_addr 0 names) (words_but w accts.Inbound occupied)
+    (root_words HEAP_VERSION (first_of name_addr 0 names) (last_of name_addr 0 names)
+    (words_but w accts.Inbound occupied)
     (base.account_words a.occupied a.maxima a.first a.last) next))
     (occupies w m accts.Inbound (others accts.Inbound refl))
 

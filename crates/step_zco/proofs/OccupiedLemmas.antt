@@ -70,7 +70,7 @@ served_alike space m o (t ∷ ts) valid =
 
 -- what the things of a world charge an account
 abbrev pub things_charge : World → Acct → Space → ℕ
-things_charge w acct space = sum_by (λ e. thing_charge w acct space e.1) (finite.entries w.things)
+things_charge w acct space = sum_by (λ e. thing_charge w acct space e.0 e.1) (finite.entries w.things)
 
 -- what is occupied where an account has these tickets
 abbrev pub occupied_with : World → Acct → List Ticket → Amounts

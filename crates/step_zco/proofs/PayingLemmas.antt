@@ -16,7 +16,7 @@ use Rattle.sdr_base.specs.declared.stop.Stop.TheVariants as stops
 use Rattle.law_steps.proofs.BarredLemmas.{amount_by, amounts_same}
 use Rattle.law_steps.proofs.ChargeLemmas.{things_charge}
 use Rattle.law_steps.proofs.ChargeMoves.{MovesCharge}
-use Rattle.law_steps.proofs.ZcoOutcomes.{nothing}
+use Rattle.law_steps.proofs.SourceMoves.{nothing}
 use Rattle.sdr_model.proofs.AmountLemmas.{amount-minus}
 use Rattle.sdr_model.specs.Accounts.{tickets_of}
 use Rattle.sdr_model.specs.Amounts.{amount, amounts_by, minus}

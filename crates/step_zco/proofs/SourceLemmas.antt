@@ -15,6 +15,7 @@ use Rattle.sdr_base.proofs.StandingLemmas.{found}
 use Rattle.sdr_base.specs.Blocks.{IsKind}
 use Rattle.sdr_base.specs.Objects.{Heap}
 use Rattle.sdr_base.specs.Raws.{raw_block}
+use Rattle.sdr_base.specs.declared.account.Acct.{Acct}
 use Rattle.sdr_base.specs.declared.account.Acct.TheVariants as accts
 use Rattle.sdr_base.specs.declared.kind.Kind.TheVariants as kinds
 use Rattle.sdr_model.specs.Fields.{FitsSubject, FitsThing, IsWord}
@@ -27,7 +28,7 @@ use Rattle.sdr_model.specs.declared.things.Thing.TheVariants as things
 use Rattle.sdr_model.specs.declared.zco.Subject.{Subject}
 use Rattle.sdr_model.specs.declared.zco.Subject.TheVariants as subjects
 use Rattle.sdr_model.specs.declared.zco.ZcoSource.{ZcoSource}
-use Rattle.zco_ref.specs.Kept.{CountedSource, KeepsRaw, KeepsSource, KeepsTied, SomeFew, counted_block}
+use Rattle.zco_ref.specs.Kept.{CountedSource, KeepsRaw, KeepsSource, KeepsTied, SomeFew, count_in, counted_block}
 use Rattle.step_zco.proofs.NamedLemmas.{named_at}
 use Rattle.step_zco.proofs.UsesLemmas.{counts_small}
 
@@ -35,6 +36,11 @@ use Rattle.step_zco.proofs.UsesLemmas.{counts_small}
 abbrev pub counted_in : World → ℕ → ZcoSource → CountedSource
 counted_in w addr s =
     record { inbound = count_of w addr accts.Inbound; outbound = count_of w addr accts.Outbound; row = source_row s }
+
+-- it counts in its block as many extents of an account as name it
+pub counts_told : (w : World) (addr : ℕ) (s : ZcoSource) (acct : Acct) → count_in acct (counted_in w addr s) ≡ count_of w addr acct
+counts_told w addr s accts.Inbound = refl
+counts_told w addr s accts.Outbound = refl
 
 -- a source, and its block
 pub record IsSourceAt (heap : Heap) (w : World) (addr : ℕ) : Type 0 where

@@ -1,11 +1,9 @@
 -- How many extents name a source.
-use Rattle.std.proofs.Common.{◌≡◌, ◌≢◌, ℕ, not, true≢false, find, ◌+◌, ◌≤◌, ◌<◌, ◌^◌, ◌==◌, List, [], ◌∷◌, ◌++◌, map, Bool, true, false, cond, Option, Some, None, length, refl, sym, ap, ◌∙◌, arith, length-append}
+use Rattle.std.proofs.Common.{◌≡◌, ℕ, ◌+◌, ◌≤◌, ◌<◌, ◌^◌, ◌==◌, List, [], ◌∷◌, ◌++◌, map, Bool, true, false, cond, Option, Some, None, length, refl, arith, length-append}
 use Rattle.std.specs.Prelude.{sum_by, flat_map, if◌then◌else◌}
 use Rattle.std.specs.FinMap as finite
-use Rattle.std.proofs.lemmas.Bool.{eqb-true, ne_eqb}
 use Rattle.std.proofs.lemmas.List.{length-map}
 use Rattle.std.proofs.lemmas.List.Sums.{sum_by-cons}
-use Rattle.step_things.proofs.EntryLemmas.{found_entry, passes}
 use Rattle.step_things.proofs.ListLemmas.{IsSmall}
 use Rattle.sdr_stands.specs.Rows.{capsule_row, extent_row}
 use Rattle.sdr_stands.specs.Standing.{HeapStandsFor, entries_of, other_entries, thing_entries}
@@ -15,7 +13,8 @@ use Rattle.sdr_base.specs.Objects.{Heap}
 use Rattle.sdr_base.specs.Section.{section}
 use Rattle.sdr_base.specs.ZcoObjects as objects
 use Rattle.sdr_base.specs.declared.account.Acct.{Acct}
-use Rattle.law_steps.proofs.SourceViews.{AllLie, fits_from, source_there, sum_by-with_at}
+use Rattle.law_steps.proofs.ChargeLemmas.{count_none}
+use Rattle.law_steps.proofs.SourceViews.{NoSpare, fits_from, sum_by-with_at}
 use Rattle.sdr_model.proofs.SumLemmas.{counted_at}
 use Rattle.sdr_model.specs.Accounts.{is_same_account}
 use Rattle.sdr_model.specs.Things.{with_at}
@@ -87,61 +86,10 @@ counts_small heap w source acct s small =
     let few = small.few.few (entries_of w) s.blocks in
     let most = small.small in omega (arith, uses, all, few, most)
 
--- no extent names what isn't there
-none_naming : (w : World) (source : ℕ) (es : List Extent) → source_at w source ≡ None → AllLie w.things es → naming source es ≡ 0
-none_naming w source [] none all = refl
-none_naming w source (e ∷ es) none all =
-    let apart : e.source ≢ source =
-    λ same. source_there e (source_at w e.source) all.0 (ap (source_at w) same ∙ none) in
-    let n = naming-cons source e es in
-    let z = ap weight (ne_eqb e.source source apart) in
-    let ih = none_naming w source es none all.1 in omega (arith, n, z, ih)
-
-none_in : (w : World) (source : ℕ) (acct : Acct) (q : ℕ) (thing : Thing) → FitTogether w → source_at w source ≡ None →
-    thing_at w q ≡ Some thing → uses_in source acct thing ≡ 0
-none_in w source acct q (things.Object z) fits none there =
-    by (is_same_account acct z.account)
-  where
-    by : (b : Bool) → cond b (naming source z.extents) 0 ≡ 0
-    by true = none_naming w source z.extents none ((fits_from w fits).inside q z (ap as_object there))
-    by false = refl
-none_in w source acct q thing fits none there = refl
-
--- whether a thing is an object of the account in which extents name the source
-abbrev names_some : ℕ → Acct → Thing → Bool
-names_some source acct thing = not (uses_in source acct thing == 0)
-
--- where no such thing is found, none names it
-sum_unfound : (source : ℕ) (acct : Acct) (es : List (ℕ × Thing)) → find (λ e. names_some source acct e.1) es ≡ None →
-    sum_by (λ e. uses_in source acct e.1) es ≡ 0
-sum_unfound source acct [] none = refl
-sum_unfound source acct (e ∷ es) none = by (uses_in source acct e.1 == 0) refl none (λ rest. sum_unfound source acct es rest)
-  where
-    by : (b : Bool) → (uses_in source acct e.1 == 0) ≡ b →
-        cond (not b) (Some e) (find (λ x. names_some source acct x.1) es) ≡ None →
-        (find (λ x. names_some source acct x.1) es ≡ None → sum_by (λ x. uses_in source acct x.1) es ≡ 0) →
-        sum_by (λ x. uses_in source acct x.1) (e ∷ es) ≡ 0
-    by true is rest others =
-        let s = sum_by-cons (λ (x : ℕ × Thing). uses_in source acct x.1) e es in
-        let here = eqb-true (uses_in source acct e.1) 0 is in
-        let ih = others rest in omega (arith, s, here, ih)
-    by false is rest others = cc
-
--- so no extent names a source that isn't there
+-- no extent names a source that isn't there
 pub none_counted : (w : World) (source : ℕ) (acct : Acct) → FitTogether w → source_at w source ≡ None →
     count_of w source acct ≡ 0
-none_counted w source acct fits none = by (find (λ e. names_some source acct e.1) (finite.entries w.things)) refl
-  where
-    by : (o : Option (ℕ × Thing)) → find (λ e. names_some source acct e.1) (finite.entries w.things) ≡ o →
-        count_of w source acct ≡ 0
-    by None is = sum_unfound source acct (finite.entries w.things) is
-    by (Some e) is =
-        let there : thing_at w e.0 ≡ Some e.1 =
-        finite.get-entries w.things e.0
-        ∙ found_entry (names_some source acct) (finite.entries w.things) (finite.entries_sorted w.things) e is in
-        let zero = none_in w source acct e.0 e.1 fits none there in
-        absurd (true≢false (sym (passes (λ (x : ℕ × Thing). names_some source acct x.1) (finite.entries w.things) e is)
-        ∙ ap (λ n. not (n == 0)) zero))
+none_counted w source acct fits none = count_none NoSpare w.things (fits_from w fits) acct source none
 
 -- what is put at an address, or was there, and is no object, names no source
 pub same_counts : (w : World) (addr : ℕ) (o : Option Thing) (source : ℕ) (acct : Acct) → as_object (thing_at w addr) ≡ None →

@@ -12,6 +12,7 @@ use Rattle.sdr_base.specs.Tickets.{ticket_addr}
 use Rattle.sdr_base.specs.declared.account.Acct.{Acct}
 use Rattle.sdr_base.specs.declared.account.Acct.TheVariants as accts
 use Rattle.sdr_base.specs.declared.account.Amounts.{Amounts}
+use Rattle.sdr_base.specs.declared.control.TheConstants.{HEAP_VERSION}
 use Rattle.sdr_base.specs.declared.kind.Space.{Space}
 use Rattle.sdr_base.specs.declared.kind.Space.TheVariants as spaces
 use Rattle.sdr_model.specs.AccountSteps.{with_amount}
@@ -37,12 +38,13 @@ abbrev pub roots_with : World → Acct → AccountWords → ℕ → ℕ → ℕ
 roots_with w accts.Inbound a next =
     let names = map name_row w.names in
     roots_by
-    (root_words 0 (first_of name_addr 0 names) (last_of name_addr 0 names) (words a)
+    (root_words HEAP_VERSION (first_of name_addr 0 names) (last_of name_addr 0 names) (words a)
     (account_roots w accts.Outbound) next)
 roots_with w accts.Outbound a next =
     let names = map name_row w.names in
     roots_by
-    (root_words 0 (first_of name_addr 0 names) (last_of name_addr 0 names) (account_roots w accts.Inbound) (words a) next)
+    (root_words HEAP_VERSION (first_of name_addr 0 names) (last_of name_addr 0 names) (account_roots w accts.Inbound)
+    (words a) next)
 
 -- those that a world has
 abbrev pub words_of : World → Acct → AccountWords

@@ -25,7 +25,7 @@ use Rattle.law_steps.proofs.BondLaws.{Tracks}
 use Rattle.law_steps.proofs.BondTracks.{tracks_from}
 use Rattle.law_steps.proofs.ChargeMoves.{MovesCharge}
 use Rattle.law_steps.proofs.DistinctLemmas.{absent}
-use Rattle.law_steps.proofs.ZcoOutcomes.{nothing}
+use Rattle.law_steps.proofs.SourceMoves.{nothing}
 use Rattle.law_steps.specs.Fresh.{AreFresh}
 use Rattle.sdr_model.specs.Accounts.{tickets_of}
 use Rattle.sdr_model.specs.Amounts.{amounts_by}

@@ -1,23 +1,22 @@
 -- What a bond charges, by the world and by the blocks, and what the things charge after it.
 use Rattle.std.proofs.Common.{◌≡◌, ◌∙◌, ◌*◌, ◌≤◌, ◌++◌, ℕ, List, [], ◌∷◌, map, Some, length, refl, sym, ap, arith}
 use Rattle.std.proofs.lemmas.List.{map-append}
-use Rattle.std.proofs.lemmas.List.Sums.{sum_by-append, sum_by-cons}
+use Rattle.std.proofs.lemmas.List.Sums.{sum_by-cons}
 use Rattle.std.specs.FinMap as finite
 use Rattle.std.specs.Prelude.{sum_by}
 use Rattle.sdr_stands.specs.Rows.{capsule_row, object_row}
 use Rattle.sdr_base.specs.ZcoObjects.{CapsuleRow}
 use Rattle.sdr_base.specs.declared.kind.Space.TheVariants as spaces
+use Rattle.law_steps.proofs.BondCharges.{bonded_names, bonded_object}
 use Rattle.law_steps.proofs.BondLaws.{Tracks, all_bonded, with_all}
-use Rattle.law_steps.proofs.ChargeMoves.{MovesCharge, after_same, bonded_charge, object_moves}
-use Rattle.law_steps.proofs.OutcomeFits.{bonded_parts}
-use Rattle.law_steps.proofs.SourceViews.{NoSpare, fits_from, fits_more, of}
-use Rattle.law_steps.proofs.ZcoOutcomes.{nothing}
+use Rattle.law_steps.proofs.ChargeMoves.{MovesCharge, after_same, object_moves}
+use Rattle.law_steps.proofs.SourceViews.{NoSpare, fits_from, fits_more}
+use Rattle.law_steps.proofs.SourceMoves.{nothing, sources_firsts}
 use Rattle.law_steps.specs.Fresh.{AreFresh}
 use Rattle.sdr_model.proofs.SumLemmas.{sum_by-map}
 use Rattle.sdr_model.specs.Amounts.{amounts_by}
 use Rattle.sdr_model.specs.BondSteps as bonds
 use Rattle.sdr_model.specs.BondSteps.{bond_charge, bond_moves, bonded, bonded_extents, capsules_of}
-use Rattle.sdr_model.specs.Charges.{capsule_charge, extent_charge}
 use Rattle.sdr_model.specs.Valid.{FitTogether}
 use Rattle.sdr_model.specs.World.{World, thing_at}
 use Rattle.sdr_model.specs.Zco.{naming}
@@ -59,21 +58,11 @@ pub bond_charged : (w : World) (addr : ℕ) (z : ZcoObject) (at : ℕ → ℕ) (
 bond_charged w addr z at used there fits tracks fresh =
     let cs = capsules_of z in
     let mid = with_all w.things at 0 cs in
-    let heads = bonded_extents at 0 z.headers in
-    let tails = bonded_extents at (3 * length z.headers) z.trailers in
     let named : ℕ → Type 0 = λ q. 1 ≤ naming q (bonded_extents at 0 cs) in
     let done = all_bonded w.things used at 0 cs named tracks fresh (λ q some. some)
     (fits_more NoSpare named (λ q spare. absurd spare) (fits_from w fits)) in
     after_same done.charges
     (object_moves mid addr z.account (Some z) (Some (bonded at z)) (bond_charge cs) nothing
     (done.keeps addr (things.Object z) there) refl refl
-    (λ space.
-    omega (
-      arith,
-      bonded_charge mid space at 0 cs done.heap,
-      ap (sum_by (extent_charge (of mid) space)) (bonded_parts at z),
-      sum_by-append (extent_charge (of mid) space) heads tails,
-      sum_by-append (extent_charge (of mid) space) (heads ++ z.extents) tails,
-      sum_by-append (extent_charge (of mid) space) heads z.extents,
-      sum_by-append (capsule_charge space) z.headers z.trailers,
-    )))
+    (sources_firsts mid z.account (Some z) (Some (bonded at z)) (bonded_extents at 0 cs) (bonded_names at z) (done.firsts z.account))
+    (λ space. let rise = bonded_object at z space in omega (arith, rise)))

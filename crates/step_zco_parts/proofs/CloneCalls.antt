@@ -28,6 +28,7 @@ use Rattle.sdr_base.specs.declared.refusal.Refusal.TheVariants as refusals
 use Rattle.sdr_base.specs.declared.stop.Stop.{Stop}
 use Rattle.sdr_base.specs.declared.stop.Stop.TheVariants as stops
 use Rattle.sdr_base.proofs.WorksLemmas.{works_more}
+use Rattle.law_steps.proofs.ExtentLemmas.{placed_names}
 use Rattle.law_steps.proofs.SourceViews.{here_at}
 use Rattle.law_steps.proofs.ThingLemmas.{object_is}
 use Rattle.sdr_machine.proofs.WorkLemmas.{on_false, on_some, on_true}
@@ -70,7 +71,7 @@ use Rattle.zco_part.specs.Cloning.{ClonesPart, CloneAllowed, CloneStops, HasRang
 use Rattle.zco_part.specs.Copying.{takes_extents}
 use Rattle.zco_part.specs.Pieces.{asked, extents_at, whole_row}
 use Rattle.zco_part.specs.Sources.{all_counted}
-use Rattle.step_zco_parts.proofs.CloneCharges.{clone_charge, clone_moves_charge, named_as_often, placed_names, uncut}
+use Rattle.step_zco_parts.proofs.CloneCharges.{clone_charge, clone_moves_charge, named_as_often, uncut}
 use Rattle.step_zco_parts.proofs.CloneTies.{cloned, cloned_first}
 use Rattle.step_zco_parts.proofs.PartFreshLemmas.{clone_distinct, took_clone}
 use Rattle.step_zco_parts.proofs.PartKeptLemmas.{kept_to_clone, rows}
@@ -83,7 +84,7 @@ module _ (old new : Heap) (w : World) (unmoved : old.moves ≡ []) (s : HeapStan
   call = calls.ClonePart addr number offset bytes
 
   abbrev charge_for : ZcoObject → Space → ℕ
-  charge_for x space = object_charge w space (object_of x.account (asked_extents x offset bytes))
+  charge_for x space = object_charge space (object_of x.account (asked_extents x offset bytes))
 
   -- how its row goes on, where the object is there, where the range is one, and where the account is charged
   abbrev making : Outcome → ZcoObject → World → Type 0
@@ -127,10 +128,8 @@ module _ (old new : Heap) (w : World) (unmoved : old.moves ≡ []) (s : HeapStan
     kept = kept_to_clone old w s served small addr z at.there
 
     -- the charge is that of the world
-    same_charge : clone_amounts sources (asked offset bytes (object_row z)) ≡ amounts_by (charge_for z)
-    same_charge =
-        ap (clone_amounts sources) (asked_same z offset bytes)
-        ∙ clone_charge z.extents w mine.sources mine.are.found z.account (z.part.offset + offset) (z.part.offset + offset + bytes)
+    same_charge : clone_amounts (asked offset bytes (object_row z)) ≡ amounts_by (charge_for z)
+    same_charge = ap clone_amounts (asked_same z offset bytes) ∙ clone_charge z.account es
 
     many : length (asked offset bytes (object_row z)) ≡ length es
     many = ap (length {A = ExtentPiece}) (asked_same z offset bytes) ∙ length-map es named
@@ -220,7 +219,8 @@ module _ (old new : Heap) (w : World) (unmoved : old.moves ≡ []) (s : HeapStan
           both_alike w things_with acct (charged tickets number (amounts_by (charge_for z))) own (front ++ counted) rest
           (own_first w addr z at.there served.whole.fits z.extents None (leaves_none z) mine.sources mine.are) first pays.changes in
           paid_stands things_with acct number (charge_for z) moves s
-          (clone_moves_charge w clone acct (spots clone addrs es same) es none) pays changes
+          (clone_moves_charge w clone addr z (spots clone addrs es same) (z.part.offset + offset) (z.part.offset + offset + bytes) at.there none)
+          pays changes
 
     -- it was cloned
     pub clone_answered : (clone : ℕ) → ClonesPart addr number offset bytes old new clone → Answered w call new [] (replies.At clone)
@@ -324,7 +324,7 @@ module _ (old new : Heap) (w : World) (unmoved : old.moves ≡ []) (s : HeapStan
 
     -- or where the account refuses
     unpaid_row : (refusal : Refusal) → HasRange offset bytes (object_row z) →
-        refusal_in old z.account number (clone_amounts sources (asked offset bytes (object_row z))) tickets ≡ Some refusal → new ≡ old →
+        refusal_in old z.account number (clone_amounts (asked offset bytes (object_row z))) tickets ≡ Some refusal → new ≡ old →
         ByRow w (record { moves = new.moves; after = w; reply = replies.Refused refusal }) call
     unpaid_row refusal range some same =
         let o : Outcome = record { moves = []; after = w; reply = replies.Refused refusal } in

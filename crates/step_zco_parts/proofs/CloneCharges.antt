@@ -1,51 +1,39 @@
 -- What a clone charges its account, as the world and the blocks have it.
-use Rattle.std.proofs.Common.{◌≡◌, ◌∙◌, ◌+◌, ◌-◌, ◌==◌, ℕ, suc, List, [], ◌∷◌, Bool, true, false, map, Option, None, Some, refl, sym, ap, arith, if◌then◌else◌}
+use Rattle.std.proofs.Common.{◌≡◌, ◌+◌, ◌-◌, ◌*◌, ◌==◌, ℕ, List, [], ◌∷◌, Bool, true, false, length, map, None, Some, refl, ap, arith, if◌then◌else◌}
+use Rattle.std.proofs.lemmas.List.{length-map}
 use Rattle.std.proofs.lemmas.List.Sums.{sum_by-cons}
 use Rattle.std.specs.FinMap as finite
-use Rattle.std.specs.List.{AllByRecursion, sum_by}
+use Rattle.std.specs.List.{sum_by}
 use Rattle.sdr_base.specs.declared.account.Acct.{Acct}
 use Rattle.sdr_base.specs.declared.kind.Space.{Space}
 use Rattle.sdr_base.specs.declared.kind.Space.TheVariants as spaces
+use Rattle.law_steps.proofs.ChargeLemmas.{count_there}
 use Rattle.law_steps.proofs.ChargeMoves.{MovesCharge, object_moves}
 use Rattle.law_steps.proofs.DistinctLemmas.{weight}
-use Rattle.law_steps.proofs.ExtentLemmas.{placed_charge}
+use Rattle.law_steps.proofs.ExtentLemmas.{cut_names, placed_charge, placed_names}
 use Rattle.law_steps.proofs.HashShapes.{neither}
-use Rattle.law_steps.proofs.SourceViews.{of}
-use Rattle.law_steps.proofs.ZcoOutcomes.{nothing}
+use Rattle.law_steps.proofs.SourceMoves.{nothing, sources_shared}
 use Rattle.sdr_model.proofs.SumLemmas.{sum_by-map}
 use Rattle.sdr_model.specs.Amounts.{amounts_by, in_space}
-use Rattle.sdr_model.specs.Charges.{bytes_charge, extent_charge, object_bytes, object_charge, space_in}
+use Rattle.sdr_model.specs.Charges.{extent_bytes, object_bytes, object_charge}
 use Rattle.sdr_model.specs.Cuts as model
 use Rattle.sdr_model.specs.Cuts.{cut_all}
 use Rattle.sdr_model.specs.Gone.{names_source}
 use Rattle.sdr_model.specs.PartSteps.{object_of}
 use Rattle.sdr_model.specs.World.{World, thing_at}
-use Rattle.sdr_model.specs.Zco.{as_source, naming, source_at}
+use Rattle.sdr_model.specs.Zco.{as_object, naming}
 use Rattle.sdr_model.specs.declared.things.Thing.TheVariants as things
 use Rattle.sdr_model.specs.declared.zco.Extent.{Extent}
-use Rattle.sdr_model.specs.declared.zco.ZcoSource.{ZcoSource}
-use Rattle.step_zco.proofs.AppendLemmas.{same_space}
-use Rattle.step_zco.proofs.GoneUses.{IsFound, UsedSource, itself, named_later, named_of}
-use Rattle.zco_obj.specs.Gone as rows
-use Rattle.zco_obj.specs.Gone.{NamedSource}
+use Rattle.sdr_model.specs.declared.zco.ZcoObject.{ZcoObject}
+use Rattle.step_zco.proofs.HeapAmounts.{in_heap-add}
 use Rattle.zco_obj.specs.declared.extent.ExtentPiece.{ExtentPiece}
-use Rattle.zco_part.specs.Charging.{clone_amounts, piece_charge}
+use Rattle.zco_part.specs.Charging.{clone_amounts}
 use Rattle.zco_part.specs.Sources.{pieces_of}
 use Rattle.step_zco_parts.proofs.PieceLemmas.{named}
 
 -- pieces are of a source as often as the extents that they are of name it, wherever those are
 pub named_as_often : (q : ℕ) (es : List Extent) → pieces_of q (map named es) ≡ naming q es
 named_as_often q es = sum_by-map (λ (p : ExtentPiece). if p.of == q then 1 else 0) named es
-
-pub placed_names : (q : ℕ) (at : ℕ → ℕ) (k : ℕ) (es : List Extent) → naming q (model.placed at k es) ≡ naming q es
-placed_names q at k [] = refl
-placed_names q at k (e ∷ es) =
-    omega (
-      arith,
-      placed_names q at (suc k) es,
-      sum_by-cons (λ (x : Extent). weight (x.source == q)) e es,
-      sum_by-cons (λ (x : Extent). weight (x.source == q)) (record e { block = at k }) (model.placed at (suc k) es),
-    )
 
 -- what no extent names none that is cut names
 pub uncut : (q from to : ℕ) (es : List Extent) → names_source q es ≡ false → naming q (cut_all from to es) ≡ 0
@@ -67,71 +55,36 @@ uncut q from to (e ∷ es) none =
               (cut_all (from - e.length) (to - e.length) es),
         )
 
--- extents that are cut name sources that all do
-module _ (all : List Extent) where
-  abbrev pub IsNamed : Extent → Type 0
-  IsNamed e = names_source e.source all ≡ true
-
-  each_named : (es : List Extent) → ((q : ℕ) → names_source q es ≡ true → names_source q all ≡ true) → AllByRecursion IsNamed es
-  each_named [] part = tt
-  each_named (e ∷ es) part = (part e.source (itself e es), each_named es (λ q some. part q (named_later q e es some)))
-
-  cut_named : (from to : ℕ) (es : List Extent) → AllByRecursion IsNamed es → AllByRecursion IsNamed (cut_all from to es)
-  cut_named from to [] some = tt
-  cut_named from to (e ∷ es) some =
-      by ((model.cut from to e).length == 0) (cut_named (from - e.length) (to - e.length) es some.1)
-    where
-      by : (b : Bool) → AllByRecursion IsNamed (cut_all (from - e.length) (to - e.length) es) →
-          AllByRecursion IsNamed (if b then cut_all (from - e.length) (to - e.length) es
-          else model.cut from to e ∷ cut_all (from - e.length) (to - e.length) es)
-      by true rest = rest
-      by false rest = (some.0, rest)
-
-  pub all_named : (from to : ℕ) → AllByRecursion IsNamed (cut_all from to all)
-  all_named from to = cut_named from to all (each_named all (λ q some. some))
-
-  -- pieces charge what their extents do, where the sources are found
-  module _ (w : World) (us : List (UsedSource w all)) (found : (q : ℕ) → names_source q all ≡ true → IsFound w all us q) where
-    abbrev sources : List NamedSource
-    sources = map (named_of w all) us
-
-    one_charge : (space : Space) (e : Extent) → IsFound w all us e.source →
-        piece_charge sources space (named e) ≡ extent_charge w space e
-    one_charge space e f =
-        ap (λ (o : Option NamedSource). bytes_charge (rows.space_in o) e.length space) f.is
-        ∙ ap (λ (of : Space). bytes_charge of e.length space) (same_space f.used.source.subject)
-        ∙ ap (λ (o : Option ZcoSource). bytes_charge (space_in o) e.length space)
-        (sym (ap (source_at w) (sym f.here) ∙ ap as_source f.used.there))
-
-    pieces_charge : (space : Space) (es : List Extent) → AllByRecursion IsNamed es →
-        sum_by (piece_charge sources space) (map named es) ≡ sum_by (extent_charge w space) es
-    pieces_charge space [] some = refl
-    pieces_charge space (e ∷ es) some =
+-- a clone charges by its pieces what it does by the world, without the sources that its extents name
+pub clone_charge : (acct : Acct) (es : List Extent) →
+    clone_amounts (map named es) ≡ amounts_by (λ space. object_charge space (object_of acct es))
+clone_charge acct es = λ i. amounts_by (λ space. each space i)
+  where
+    each : (space : Space) →
+        in_space spaces.Heap (object_bytes + extent_bytes * length (map named es)) space ≡ object_charge space (object_of acct es)
+    each space =
         omega (
           arith,
-          pieces_charge space es some.1,
-          one_charge space e (found e.source some.0),
-          sum_by-cons (piece_charge sources space) (named e) (map named es),
-          sum_by-cons (extent_charge w space) e es,
+          ap (λ (n : ℕ). in_space spaces.Heap (object_bytes + extent_bytes * n) space) (length-map es named),
+          in_heap-add object_bytes (extent_bytes * length es) space,
         )
 
-    -- so does a clone of them
-    pub clone_charge : (acct : Acct) (from to : ℕ) →
-        clone_amounts sources (map named (cut_all from to all))
-        ≡ amounts_by (λ space. object_charge w space (object_of acct (cut_all from to all)))
-    clone_charge acct from to = λ i. amounts_by (λ space. each space i)
-      where
-        each : (space : Space) →
-            in_space spaces.Heap object_bytes space + sum_by (piece_charge sources space) (map named (cut_all from to all))
-            ≡ object_charge w space (object_of acct (cut_all from to all))
-        each space =
-            let same = pieces_charge space (cut_all from to all) (all_named from to) in omega (arith, same)
-
--- the account is charged for the clone, wherever its blocks are
-pub clone_moves_charge : (w : World) (clone : ℕ) (acct : Acct) (at : ℕ → ℕ) (es : List Extent) → thing_at w clone ≡ None →
-    MovesCharge w.things (finite.insert w.things clone (things.Object (object_of acct (model.placed at 1 es)))) acct
-    (λ space. object_charge w space (object_of acct es)) nothing
-clone_moves_charge w clone acct at es none =
-    object_moves w.things clone acct None (Some (object_of acct (model.placed at 1 es)))
-    (λ space. object_charge w space (object_of acct es)) nothing none tt refl
-    (λ space. let same = placed_charge (of w.things) space at 1 es in omega (arith, same))
+-- the account is charged for a clone of a part, wherever its blocks are: it names the sources already
+pub clone_moves_charge : (w : World) (clone addr : ℕ) (z : ZcoObject) (at : ℕ → ℕ) (from to : ℕ) →
+    thing_at w addr ≡ Some (things.Object z) → thing_at w clone ≡ None →
+    MovesCharge w.things
+    (finite.insert w.things clone (things.Object (object_of z.account (model.placed at 1 (cut_all from to z.extents))))) z.account
+    (λ space. object_charge space (object_of z.account (cut_all from to z.extents))) nothing
+clone_moves_charge w clone addr z at from to there none =
+    let es = cut_all from to z.extents in
+    let new = object_of z.account (model.placed at 1 es) in
+    object_moves w.things clone z.account None (Some new) (λ space. object_charge space (object_of z.account es)) nothing none tt refl
+    (sources_shared w.things z.account None (Some new) (λ q. omega arith)
+    (λ q named. omega (
+      arith,
+      named,
+      placed_names q at 1 es,
+      cut_names q from to z.extents,
+      count_there w.things addr z (ap as_object there) q,
+    )))
+    (λ space. let same = placed_charge space z.account at 1 es in omega (arith, same))

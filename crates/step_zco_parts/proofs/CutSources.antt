@@ -13,7 +13,6 @@ use Rattle.sdr_base.specs.Objects.{Heap}
 use Rattle.sdr_base.specs.ZcoObjects.{ExtentRow}
 use Rattle.sdr_base.specs.declared.account.Acct.{Acct}
 use Rattle.sdr_base.specs.declared.account.Acct.TheVariants as accts
-use Rattle.law_steps.proofs.GoneLemmas.{AreApart}
 use Rattle.law_steps.proofs.SourceViews.{of}
 use Rattle.sdr_model.specs.Accounts.{is_same_account}
 use Rattle.sdr_model.specs.Gone.{names_source}
@@ -28,7 +27,7 @@ use Rattle.sdr_model.specs.declared.zco.ZcoSource.{ZcoSource}
 use Rattle.step_zco.proofs.DestroyKept.{lie, used}
 use Rattle.step_zco.proofs.GoneMoves.{naming_rows}
 use Rattle.step_zco.proofs.GoneTies.{counts_less, leaves_none, lost_world}
-use Rattle.step_zco.proofs.GoneUses.{UsedBy, UsedSource, addresses, itself, named_later, named_of, used_by}
+use Rattle.step_zco.proofs.GoneUses.{UsedBy, UsedSource, itself, named_later, named_of, not_found, used_by}
 use Rattle.step_zco_parts.proofs.CutRows.{out_all}
 use Rattle.zco_obj.specs.Gone as rows
 use Rattle.zco_obj.specs.Gone.{NamedSource}
@@ -66,14 +65,6 @@ kept_found w all out q (u ∷ us) none = by (names_source u.addr out) refl (kept
         same ∙ sym (ap (λ (b : Bool). cond b (Some (named_of w all u)) (rows.source_at q (map (named_of w all) us)))
         (ne_eqb u.addr q away))
     by false named same = ap (λ (o : Option NamedSource). cond (u.addr == q) (Some (named_of w all u)) o) same
-
--- one at another address than theirs isn't found
-not_found : (w : World) (all : List Extent) (q : ℕ) (us : List (UsedSource w all)) → AreApart q (addresses w all us) →
-    rows.source_at q (map (named_of w all) us) ≡ None
-not_found w all q [] apart = refl
-not_found w all q (u ∷ us) apart =
-    ap (λ (b : Bool). cond b (Some (named_of w all u)) (rows.source_at q (map (named_of w all) us))) (ne_eqb u.addr q apart.0)
-    ∙ not_found w all q us apart.1
 
 -- an object of a world
 module _ (w : World) (addr : ℕ) (z : ZcoObject) (fits : FitTogether w) (there : thing_at w addr ≡ Some (things.Object z)) where

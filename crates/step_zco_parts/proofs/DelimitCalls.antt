@@ -1,6 +1,7 @@
 -- The part of an object that is set, as a step.
 use Rattle.std.proofs.Common.{◌≡◌, ◌∙◌, ◌+◌, ◌≤◌, ◌<◌, ℕ, List, [], true, false, inl, nat_lt, Some, refl, ap, subst, arith}
 use Rattle.std.proofs.lemmas.Bool.Decides.{nat_tests}
+use Rattle.std.specs.FinMap as finite
 use Rattle.step_things.proofs.ListLemmas.{IsSmall}
 use Rattle.step_things.proofs.RowLemmas.{Moved, full_refused, marks_none, misnamed_refused, moved_nothing, row_refused, unmoved_answered}
 use Rattle.step_things.specs.Answering.{Aim, Answered, IsRefused, IsReady}
@@ -13,20 +14,24 @@ use Rattle.sdr_stands.specs.Ties.{TieAlike}
 use Rattle.sdr_base.specs.Objects.{Heap}
 use Rattle.sdr_base.specs.ZcoObjects.{ExtentRow}
 use Rattle.sdr_base.specs.declared.account.Acct.{Acct}
+use Rattle.sdr_base.specs.declared.account.Acct.TheVariants as accts
 use Rattle.sdr_base.specs.declared.kind.Kind.TheVariants as kinds
 use Rattle.sdr_base.specs.declared.kind.Space.{Space}
 use Rattle.sdr_base.specs.declared.refusal.Refusal.{Refusal}
 use Rattle.sdr_base.specs.declared.refusal.Refusal.TheVariants as refusals
 use Rattle.sdr_base.specs.declared.stop.Stop.TheVariants as stops
-use Rattle.law_steps.proofs.ChargeLemmas.{charge_at, charge_object}
+use Rattle.law_steps.proofs.ChargeMoves.{MovesCharge, SameCharge, object_moves}
+use Rattle.law_steps.proofs.SourceMoves.{nothing, sources_stay}
 use Rattle.sdr_machine.proofs.WorkLemmas.{on_false, on_some, on_true}
 use Rattle.sdr_model.proofs.SumLemmas.{sum_by-map}
-use Rattle.sdr_model.specs.Charges.{occupancy}
+use Rattle.sdr_model.specs.Accounts.{tickets_of}
+use Rattle.sdr_model.specs.Charges.{left_in, occupancy}
 use Rattle.sdr_model.specs.ObjectSteps.{with_object}
 use Rattle.sdr_model.specs.Rows.{ByRow}
 use Rattle.sdr_model.specs.Steps.{Does, Outcome, RefusedIf}
+use Rattle.sdr_model.specs.Things.{Things}
 use Rattle.sdr_model.specs.World.{World}
-use Rattle.sdr_model.specs.Zco.{as_object, as_source, extents_length, object_at}
+use Rattle.sdr_model.specs.Zco.{as_object, extents_length, object_at}
 use Rattle.sdr_model.specs.declared.answer.Reply.TheVariants as replies
 use Rattle.sdr_model.specs.declared.call.Call.{Call}
 use Rattle.sdr_model.specs.declared.call.Call.TheVariants as calls
@@ -46,6 +51,13 @@ past offset bytes have long = grind (arith, nat_tests)
 -- the rows of an object's extents have the bytes of the extents
 row_length : (z : ZcoObject) → rows.extents_length (object_row z).extents ≡ extents_length z.extents
 row_length z = sum_by-map (λ (r : ExtentRow). r.length) extent_row z.extents
+
+-- no account's charges move where nothing is charged and nothing released
+charges_stay : {m n : Things} (acct : Acct) → MovesCharge m n acct nothing nothing → SameCharge m n
+charges_stay accts.Inbound moves accts.Inbound space = let own = moves.own space in omega (arith, own)
+charges_stay accts.Inbound moves accts.Outbound space = moves.other accts.Outbound refl space
+charges_stay accts.Outbound moves accts.Inbound space = moves.other accts.Inbound refl space
+charges_stay accts.Outbound moves accts.Outbound space = let own = moves.own space in omega (arith, own)
 
 -- a call on a heap that stands for a world in which it is served
 module _ (old new : Heap) (w : World) (unmoved : old.moves ≡ []) (s : HeapStandsFor old w) (served : IsReady w) (small : IsSmall old)
@@ -68,8 +80,10 @@ module _ (old new : Heap) (w : World) (unmoved : old.moves ≡ []) (s : HeapStan
 
     same_occupancy : (acct : Acct) (space : Space) → occupancy (with_object w addr after) acct space ≡ occupancy w acct space
     same_occupancy acct space =
-        let charges = charge_object w.things addr acct space (Some after) (ap as_source at.there) in
-        let was = ap (charge_at w.things acct space) at.there in omega (arith, charges, was)
+        let charges : MovesCharge w.things (finite.insert w.things addr (things.Object after)) z.account nothing nothing =
+        object_moves w.things addr z.account (Some z) (Some after) nothing nothing at.there refl refl
+        (sources_stay w.things z.account (Some z) (Some after) (λ q. refl)) (λ space. refl) in
+        ap (λ (n : ℕ). n + left_in space (tickets_of w.accounts acct)) (charges_stay z.account charges acct space)
 
     same_roots : roots_of (with_object w addr after) ≡ roots_of w
     same_roots = ap (λ (occupied : Acct → Space → ℕ). roots_where w occupied) (λ i acct space. same_occupancy acct space i)

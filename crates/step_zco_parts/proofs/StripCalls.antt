@@ -1,5 +1,5 @@
 -- An object that is cut to its part, as a step.
-use Rattle.std.proofs.Common.{◌≡◌, ◌∙◌, ◌+◌, ◌-◌, ◌*◌, ◌≤◌, ℕ, List, [], ◌++◌, Option, true≢false, length, refl, sym, ap, subst, arith, append_assoc}
+use Rattle.std.proofs.Common.{◌≡◌, ◌∙◌, ◌+◌, ◌-◌, ◌*◌, ◌≤◌, ℕ, List, [], ◌++◌, Option, Some, true≢false, length, refl, sym, ap, subst, arith, append_assoc}
 use Rattle.std.specs.Option.{option_map_or}
 use Rattle.std.specs.Prelude.{All, IfSome}
 use Rattle.step_things.proofs.ListLemmas.{IsSmall}
@@ -18,15 +18,14 @@ use Rattle.sdr_base.specs.declared.refusal.Refusal.{Refusal}
 use Rattle.sdr_base.specs.declared.refusal.Refusal.TheVariants as refusals
 use Rattle.sdr_base.specs.declared.stop.Stop.TheVariants as stops
 use Rattle.law_steps.proofs.ChargeMoves.{MovesCharge}
-use Rattle.law_steps.proofs.SourceViews.{of}
-use Rattle.law_steps.proofs.ZcoOutcomes.{nothing}
+use Rattle.law_steps.proofs.SourceMoves.{nothing}
+use Rattle.law_steps.proofs.ZcoOutcomes.{drop_release}
 use Rattle.law_steps.specs.Fresh.{AreFresh}
 use Rattle.sdr_machine.proofs.WorkLemmas.{on_some}
 use Rattle.sdr_machine.specs.Demand.{grants_between}
 use Rattle.sdr_model.specs.Accounts.{tickets_of}
 use Rattle.sdr_model.specs.Amounts.{amounts_by, minus}
 use Rattle.sdr_model.specs.Blocks.{addresses_of, blocks_of}
-use Rattle.sdr_model.specs.Charges.{object_charge}
 use Rattle.sdr_model.specs.Fields.{IsWord}
 use Rattle.sdr_model.specs.Gone.{gone_blocks as world_blocks, gone_things, without_things}
 use Rattle.sdr_model.specs.ObjectSteps.{with_object}
@@ -125,9 +124,9 @@ module _ (old : Heap) (w : World) (unmoved : old.moves ≡ []) (s : HeapStandsFo
       fits = cut_fields w addr z at.there served.whole.valid served.whole.fits served.fits;
     }
 
-    -- it charges so much less
+    -- it charges so much less, with the sources that no other extent of the account names
     abbrev frees : Space → ℕ
-    frees space = object_charge (of w.things) space z - object_charge (of w.things) space (stripped z)
+    frees = drop_release w z (Some (stripped z)) (outside_part z)
 
     amounts_same : stripped_amounts (object_row z) sources ≡ amounts_by frees
     amounts_same = less_same w addr z served.whole.fits at.there

@@ -10,12 +10,11 @@ use Rattle.law_steps.proofs.GoneLaws.{AllGone}
 use Rattle.law_steps.proofs.ObjectFields as fields
 use Rattle.law_steps.proofs.OutcomeFits.{charged_by, drops_gone}
 use Rattle.law_steps.proofs.OutcomeLemmas.{gone_accounts, object_owes, owes_release}
-use Rattle.law_steps.proofs.SourceViews.{Fits, NoSpare, fits_from, fits_to, of}
-use Rattle.law_steps.proofs.ZcoOutcomes.{AccountChange, Drops, Queued, nothing}
-use Rattle.law_steps.specs.Charged.{charge_less}
+use Rattle.law_steps.proofs.SourceViews.{Fits, NoSpare, fits_from, fits_to}
+use Rattle.law_steps.proofs.SourceMoves.{nothing, sources_gone}
+use Rattle.law_steps.proofs.ZcoOutcomes.{AccountChange, Drops, Queued, drop_release}
 use Rattle.law_steps.specs.Fresh.{AreFresh}
 use Rattle.sdr_model.specs.Blocks.{addresses_of, blocks_of}
-use Rattle.sdr_model.specs.Charges.{object_charge}
 use Rattle.sdr_model.specs.Fields.{FitsFields, FitsThing, IsWord}
 use Rattle.sdr_model.specs.Gone.{gone_blocks, gone_things, without_things}
 use Rattle.sdr_model.specs.ObjectSteps.{with_object}
@@ -76,9 +75,9 @@ module _ (w : World) (addr : ℕ) (z : ZcoObject) (there : thing_at w addr ≡ S
     was = ap as_object there;
     account = refl;
     owes = owes_release (λ b space. refl)
-        (λ b space. object_owes w addr z (λ z. charge_less w z (Some (stripped z))) (ap as_object there) b space)
+        (λ b space. object_owes w addr z (λ z. drop_release w z (Some (stripped z)) (outside_part z)) (ap as_object there) b space)
         (λ b space. refl);
-    less = λ space. omega (arith, cut_charge w space z.part.offset (part_end z) z.extents);
+    less = λ space. cut_charge space z;
     parts = λ source. cut_names source z.part.offset (part_end z) z.extents;
     inside = λ all. cut_inside w z.part.offset (part_end z) z.extents all;
     things = refl;
@@ -114,15 +113,16 @@ module _ (w : World) (addr : ℕ) (z : ZcoObject) (there : thing_at w addr ≡ S
     pub cut_fits : FitTogether (cut_world w addr z)
     cut_fits = fits_to (cut_world w addr z) (subst (λ (m : Things). Fits m NoSpare) things_are all_went.fits)
 
-    -- and its account is charged less by what it charges less
+    -- and its account is charged less by what it charges less, and by the sources that no other extent of it names
     pub cut_charges : MovesCharge w.things (cut_things w addr z) z.account nothing
-        (λ space. object_charge (of w.things) space z - object_charge (of w.things) space (stripped z))
+        (drop_release w z (Some (stripped z)) out)
     unfolding drops
     cut_charges =
-        let frees : Space → ℕ = λ space. object_charge (of w.things) space z - object_charge (of w.things) space (stripped z) in
+        let frees : Space → ℕ = drop_release w z (Some (stripped z)) out in
         let one : MovesCharge w.things (with_at w.things addr (Some (things.Object (stripped z)))) z.account nothing frees =
         object_moves w.things addr z.account (Some z) (Some (stripped z)) nothing frees there refl refl
-        (λ space. omega (arith, cut_charge (of w.things) space z.part.offset (part_end z) z.extents)) in
+        (sources_gone w.things z.account (Some z) (Some (stripped z)) out (λ q. cut_names q z.part.offset (part_end z) z.extents))
+        (λ space. let less = cut_charge space z in omega (arith, less)) in
         let same : SameCharge (with_at w.things addr (Some (things.Object (stripped z)))) (cut_things w addr z) =
         λ acct space. ap (λ (m : Things). things_charge m acct space) (sym things_are) ∙ all_went.charges acct space in
         before_same one same
