@@ -7,12 +7,12 @@ use Rattle.sdr_base.specs.declared.account.Amounts.{Amounts}
 use Rattle.sdr_base.specs.declared.kind.Space.{Space}
 use Rattle.sdr_base.specs.declared.kind.Space.TheVariants as spaces
 use Rattle.sdr_model.specs.BondSteps.{bond_rise}
-use Rattle.mem_parts.specs.Bounds.{EndsInTime}
+use Rattle.mem_parts.specs.Bounds.{EndsInTime, IsShort}
 use Rattle.mem_parts.specs.Capped.{capped, capped_by}
 use Rattle.sdr_model.proofs.AmountLemmas.{same_amounts}
 use Rattle.sdr_model.specs.Amounts.{amount}
 use Rattle.sdr_model.specs.Charges.{capsule_bytes, capsule_charge, object_charge}
-use Rattle.sdr_model.specs.Limits.{longest_source}
+use Rattle.sdr_model.specs.Limits.{longest_capsule, longest_source}
 use Rattle.sdr_model.specs.Zco.{capsules_length, extents_length}
 use Rattle.sdr_model.specs.declared.zco.Capsule.{Capsule}
 use Rattle.sdr_model.specs.declared.zco.Extent.{Extent}
@@ -43,6 +43,13 @@ extents_length-each (e ∷ es) ends =
       extents_length-each es (All-tail EndsInTime e es ends),
       sum_by-cons (λ (e : Extent). e.length) e es,
     )
+
+-- so are short headers or trailers as the longest one
+pub capsules_length-each : (capsules : List Capsule) → All IsShort capsules → capsules_length capsules ≤ longest_capsule * length capsules
+capsules_length-each [] short = omega arith
+capsules_length-each (c ∷ cs) short =
+    let here : length c.text ≤ longest_capsule = All-head IsShort c cs short in
+    omega (arith, here, capsules_length-each cs (All-tail IsShort c cs short), sum_by-cons (λ (c : Capsule). length c.text) c cs)
 
 -- as extents, headers or trailers charge at most three times as much more as they charge
 pub rise-most : (capsules : List Capsule)
