@@ -11,11 +11,11 @@ use Rattle.sdr_model.specs.AccountSteps.{pending_of}
 use Rattle.sdr_model.specs.Accounts.{account_of, most_amount, pending_in, tickets_of}
 use Rattle.sdr_model.specs.BondSteps.{bond_charge, bond_moves, bonded, capsules_of, with_bonded}
 use Rattle.sdr_model.specs.Cuts.{placed}
-use Rattle.sdr_model.specs.Charges.{bytes_charge, capsule_bytes, object_bytes, object_charge, rooms}
+use Rattle.sdr_model.specs.Charges.{bytes_charge, capsule_bytes, object_bytes, object_charge, rooms, use_charge}
 use Rattle.sdr_model.specs.PartSteps.{asked_extents, clone_moves, object_of}
 use Rattle.sdr_base.specs.declared.kind.Space.TheVariants as spaces
 use Rattle.sdr_model.specs.Queue.{barrier}
-use Rattle.sdr_model.specs.Zco.{empty_object, extents_length, object_at, owned_raw, source_at, source_naming, space_of, uses_of}
+use Rattle.sdr_model.specs.Zco.{empty_object, extents_length, object_at, owned_raw, source_at, source_naming, uses_of}
 use Rattle.sdr_model.specs.declared.accounts.Pending.{Pending}
 use Rattle.sdr_model.specs.Rows.{ByRow}
 use Rattle.sdr_model.specs.Step.{Step, Stops, StopsWith}
@@ -204,13 +204,13 @@ module _ (w : World) (o : Outcome) where
   row_fair (calls.AppendExtent addr ticket named offset bytes) h =
       on addr (object_at w addr) h (λ z r. options (source_at w named) r
       (λ q. on named (as_raw (thing_at w named)) q (λ text p. unnamed named _ p (λ s. in_range offset bytes (length text) _ s
-      (λ c. charges z.account ticket (bytes_charge spaces.Heap bytes)
+      (λ c. charges z.account ticket (bytes_charge spaces.Heap (length text))
       (λ used. DoesWith w o object.raw_append_moves
       (λ at. with_object (with_thing used (at 0) (things.Source (new_source (subjects.Heap named) (length text)))) addr
       (object.with_extent z (record { block = at 1; source = at 0; offset = offset; length = bytes })))
       (λ at. replies.Done)) c (λ used h. answers _ refl h.2)))))
       (λ s q. tests s.flagged q (λ f. refuses f refl) (λ p. in_range offset bytes s.length _ p
-      (λ c. charges z.account ticket (bytes_charge (space_of s.subject) bytes)
+      (λ c. charges z.account ticket (use_charge w z.account named s)
       (λ used. Takes w o extent_need
       (λ block. with_object used addr (object.with_extent z (record { block = block; source = named; offset = offset; length = bytes })))
       (λ block. replies.Done)) c (λ used h. takes _ _ _ (λ _. refl) h)))))
@@ -220,7 +220,7 @@ module _ (w : World) (o : Outcome) where
   row_fair (calls.DiscardLastTrailer addr) h = on addr (object_at w addr) h (λ r h. discards addr r (object.last_capsule r.trailers) _ h)
   row_fair (calls.Bond addr ticket) h = on addr (object_at w addr) h (λ r h. charges r.account ticket (bond_charge (capsules_of r))
       (λ used. DoesWith w o (λ at. bond_moves at 0 (capsules_of r)) (λ at. with_object (with_bonded used at 0 (capsules_of r)) addr (bonded at r)) (λ at. replies.Done)) h (λ used h. answers _ refl h.2))
-  row_fair (calls.ClonePart addr ticket offset bytes) h = on addr (object_at w addr) h (λ r h. in_range offset bytes r.part.length _ h (λ h. charges r.account ticket (λ space. object_charge w space (object_of r.account (asked_extents r offset bytes)))
+  row_fair (calls.ClonePart addr ticket offset bytes) h = on addr (object_at w addr) h (λ r h. in_range offset bytes r.part.length _ h (λ h. charges r.account ticket (λ space. object_charge space (object_of r.account (asked_extents r offset bytes)))
       (λ used. DoesWith w o (λ at. clone_moves at (asked_extents r offset bytes))
       (λ at. with_object used (at 0) (object_of r.account (placed at 1 (asked_extents r offset bytes)))) (λ at. replies.At (at 0))) h (λ used h. answers _ refl h.2)))
   row_fair (calls.Delimit addr offset bytes) h = on addr (object_at w addr) h (λ r h. tests (nat_lt (extents_length r.extents) (offset + bytes)) h (λ f. refuses f refl) (λ h. answers _ refl h.2))

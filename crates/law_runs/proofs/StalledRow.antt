@@ -68,7 +68,7 @@ served_by w es = record w {
   accounts =
       with_tickets w.accounts accts.Outbound
       (served (account_of w.accounts accts.Outbound).maxima
-      (amounts_by (λ space. sum_by (λ (e : ℕ × Thing). thing_charge w accts.Outbound space e.1) es + left_in space (tickets_of w.accounts accts.Outbound)))
+      (amounts_by (λ space. sum_by (λ (e : ℕ × Thing). thing_charge w accts.Outbound space e.0 e.1) es + left_in space (tickets_of w.accounts accts.Outbound)))
       (tickets_of w.accounts accts.Outbound));
 }
 

@@ -15,7 +15,7 @@ use Rattle.law_steps.proofs.ThingLemmas.{object_is, raw_is, source_is}
 use Rattle.sdr_model.specs.AccountSteps as account
 use Rattle.sdr_model.specs.Accounts.{account_of, most_amount, tickets_of, with_account, with_tickets}
 use Rattle.sdr_model.specs.Amounts.{first_above, in_space}
-use Rattle.sdr_model.specs.Charges.{bytes_charge, capsule_bytes, object_bytes}
+use Rattle.sdr_model.specs.Charges.{capsule_bytes, object_bytes, use_charge}
 use Rattle.sdr_model.specs.Fields.{AreBytes, FitsCapsule, FitsFields, FitsObject, FitsSubject, FitsThing, FitsTicket, IsWord}
 use Rattle.sdr_model.specs.Gone.{gone_things, without_things}
 use Rattle.sdr_model.specs.Limits.{is_no_capsule, is_no_path, longest_source}
@@ -26,7 +26,7 @@ use Rattle.sdr_model.specs.SourceSteps as source
 use Rattle.sdr_model.specs.Steps.{without_thing}
 use Rattle.sdr_model.specs.Valid.{FitTogether, IsValid}
 use Rattle.sdr_model.specs.World.{World, as_raw, thing_at}
-use Rattle.sdr_model.specs.Zco.{empty_object, extents_length, object_at, owned_raw, source_at, source_naming, space_of, uses_of}
+use Rattle.sdr_model.specs.Zco.{empty_object, extents_length, object_at, owned_raw, source_at, source_naming, uses_of}
 use Rattle.sdr_model.specs.declared.accounts.Accounts.{Accounts}
 use Rattle.sdr_model.specs.declared.accounts.Ticket.{Ticket}
 use Rattle.sdr_model.specs.declared.things.Thing.TheVariants as things
@@ -184,7 +184,7 @@ module _ (w : World) where
       tested s.flagged refused
       (in_test (bytes == 0 || nat_lt s.length (offset + bytes)) refused (λ ranged.
       charges (λ o used. AppendsTo w o addr z named offset bytes used) z.account number
-      (bytes_charge (space_of s.subject) bytes) (λ used like.
+      (use_charge w z.account named s) (λ used like.
       takes_one (λ fits a word.
       let e : Extent = record { block = a; source = named; offset = offset; length = bytes } in
       let its = thing_fits w fits named (things.Source s) (source_is _ _ there) in

@@ -104,7 +104,7 @@ module _ {w : World} {o : Outcome} where
   appends_raw addr number named offset bytes z text is no_source there h =
       on_none (source_naming w named) _ h (λ s. refl) (λ unnamed h.
       on_failed (bytes == 0 || nat_lt (length text) (offset + bytes)) _ h refl (λ ranged h.
-      on_charges z.account number (bytes_charge spaces.Heap bytes) (TakesOver w o addr z named text offset bytes) h
+      on_charges z.account number (bytes_charge spaces.Heap (length text)) (TakesOver w o addr z named text offset bytes) h
       (λ used like d.
       does_with object.raw_append_moves d.0 refl (λ at. ap (λ s. append_moves s at) no_source)
       (taken_over addr named offset bytes z text used like (object_is _ _ is) (raw_is _ _ there)

@@ -115,7 +115,7 @@ served_is_barred w acct keep =
     let ts = tickets_of w.accounts acct in
     let m = (account_of w.accounts acct).maxima in
     let o = occupancies w acct in
-    let base : Space → ℕ = λ space. sum_by (λ e. thing_charge w acct space e.1) (finite.entries w.things) in
+    let base : Space → ℕ = λ space. sum_by (λ e. thing_charge w acct space e.0 e.1) (finite.entries w.things) in
     let front = served_front m o base ts (account_kept w.accounts acct (queues_from w.accounts keep)).queue.valid
     (λ space. amount_by (occupancy w acct) space) in
     subst (λ (us : List Ticket). IfSome (front_waiting us)

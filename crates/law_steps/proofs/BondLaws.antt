@@ -1,5 +1,5 @@
 -- Headers and trailers that become raw objects, sources and extents.
-use Rattle.std.proofs.Common.{◌≡◌, ◌≢◌, inl, ℕ, ◌+◌, ◌*◌, ◌≤◌, ◌==◌, List, [], ◌∷◌, ◌++◌, true, false, true≢false, Some, None, length, nat_eq, refl, sym, ap, ◌∙◌, subst, arith, eqb-true}
+use Rattle.std.proofs.Common.{◌≡◌, ◌≢◌, inl, ℕ, ◌+◌, ◌*◌, ◌≤◌, ◌==◌, List, [], ◌∷◌, ◌++◌, true, false, true≢false, Option, Some, None, length, nat_eq, refl, sym, ap, ◌∙◌, subst, arith, eqb-true}
 use Rattle.std.specs.Cmp.{nat_eq_equiv}
 use Rattle.std.specs.FinMap.{get}
 use Rattle.std.specs.List.{AllByRecursion, count_by, sum_by}
@@ -9,10 +9,9 @@ use Rattle.sdr_base.specs.declared.moves.Move.{Move}
 use Rattle.sdr_base.specs.declared.moves.Move.TheVariants.{Took, Gave}
 use Rattle.sdr_base.specs.declared.account.Acct.{Acct}
 use Rattle.sdr_base.specs.declared.kind.Space.{Space}
-use Rattle.sdr_base.specs.declared.kind.Space.TheVariants as spaces
-use Rattle.sdr_model.specs.Charges.{space_in}
-use Rattle.law_steps.proofs.ChargeLemmas.{charge_plain, charge_source, things_charge}
+use Rattle.law_steps.proofs.ChargeLemmas.{charge_plain, charge_source, count_moves, count_none, things_charge, uses_in_at}
 use Rattle.law_steps.proofs.DistinctLemmas.{absent, count_by-cons, on_test, others, others_counted, weight, weight_of}
+use Rattle.law_steps.proofs.SourceCharges.{AreFirst, bytes_in, counts}
 use Rattle.law_steps.proofs.Effects.{IsNoZco}
 use Rattle.law_steps.proofs.FitChanges.{fits_plain, fits_source}
 use Rattle.law_steps.proofs.SourceViews.{AllLie, Fits, Unnamed, apart_at, by_addr, here_at, of, same_view}
@@ -22,7 +21,7 @@ use Rattle.sdr_model.specs.SourceSteps.{new_source}
 use Rattle.sdr_model.specs.Things.{with_at, Things}
 use Rattle.sdr_model.specs.Valid.{HasBytes, HasSubject, LiesInside}
 use Rattle.sdr_model.specs.World.{World, as_raw}
-use Rattle.sdr_model.specs.Zco.{as_source, is_of_raw, naming, source_at}
+use Rattle.sdr_model.specs.Zco.{as_source, is_of_raw, naming}
 use Rattle.sdr_model.specs.declared.things.Thing.{Thing}
 use Rattle.sdr_model.specs.declared.things.Thing.TheVariants as things
 use Rattle.sdr_model.specs.declared.zco.Capsule.{Capsule}
@@ -63,12 +62,14 @@ pub record Tracks (m : Things) (used : List ℕ) (cs : List Capsule) : Type 0 wh
   pub blocks : (k : ℕ) → 1 ≤ caps k cs → (get m k ≡ None) × (1 ≤ count_by (nat_eq k) used)
   pub few : (k : ℕ) → caps k cs ≤ 1
 
--- what headers and trailers have become: old things stay, each extent lies inside its source, and
--- they charge nothing yet
+-- What headers and trailers have become: old things stay, each extent lies inside its source, is the first to name it and is
+-- all of it, in heap space, and they charge nothing yet.
 pub record Bonded (m n : Things) (at : ℕ → ℕ) (k : ℕ) (cs : List Capsule) (Spare : ℕ → Type 0) : Type 0 where
   pub fits : Fits n Spare
   pub lie : AllLie n (bonded_extents at k cs)
-  pub heap : AllByRecursion (λ e. space_in (source_at (of n) e.source) ≡ spaces.Heap) (bonded_extents at k cs)
+  pub fresh : AllByRecursion (λ e. get m e.source ≡ None) (bonded_extents at k cs)
+  pub firsts : (acct : Acct) → AreFirst n (counts n acct) (bonded_extents at k cs)
+  pub counted : (acct : Acct) (q : ℕ) → counts n acct q ≡ counts m acct q
   pub keeps : (q : ℕ) (t : Thing) → get m q ≡ Some t → get n q ≡ Some t
   pub charges : (acct : Acct) (space : Space) → things_charge n acct space ≡ things_charge m acct space
 
@@ -218,6 +219,24 @@ module _ (m : Things) (used : List ℕ) (c : Capsule) (cs : List Capsule) (raw a
       charge_source (with_at m raw text) addr acct space Spare (mid_fits Spare fits) (capsule_source raw c) addr_none
       ∙ charge_plain m raw acct space text (subst IsNoZco (sym raw_none) tt) tt
 
+  pub one_counts : (acct : Acct) (q : ℕ) → counts n acct q ≡ counts m acct q
+  one_counts acct q =
+      let text = Some (things.Raw c.text) in
+      omega (
+        arith,
+        count_moves m raw text acct q,
+        count_moves (with_at m raw text) addr (Some (things.Source (capsule_source raw c))) acct q,
+        ap (uses_in_at q acct) raw_none,
+        ap (uses_in_at q acct) addr_none,
+      )
+
+  -- the source's address was a fresh one
+  pub addr_fresh : get m addr ≡ None
+  addr_fresh = tracks.known addr (less_used addr (absent addr (raw ∷ used) fresh.2.1))
+
+  pub one_unnamed : (Spare : ℕ → Type 0) → Fits m Spare → (acct : Acct) → counts m acct addr ≡ 0
+  one_unnamed Spare fits acct = count_none Spare m fits acct addr (ap as_source addr_fresh)
+
   pub one_there : get n addr ≡ Some (things.Source (capsule_source raw c))
   one_there = here_at (with_at m raw (Some (things.Raw c.text))) addr (Some (things.Source (capsule_source raw c)))
 
@@ -228,13 +247,46 @@ module _ (m : Things) (used : List ℕ) (c : Capsule) (cs : List Capsule) (raw a
       (let no : Some t ≡ None = sym is ∙ ap (get m) same
       ∙ sym (apart_at m raw (Some (things.Raw c.text)) addr addr_apart) ∙ addr_none in cc)) ∙ is
 
+-- what isn't there wasn't, where what was is there
+not_there : {X : Type 0} (o : Option X) (p : Option X) → ((x : X) → o ≡ Some x → p ≡ Some x) → p ≡ None → o ≡ None
+not_there None p keeps none = refl
+not_there (Some x) p keeps none = let no : Some x ≡ None = sym (keeps x refl) ∙ none in cc
+
+-- extents of sources that aren't there name none that is
+fresh_apart : (m : Things) (q : ℕ) (t : Thing) → get m q ≡ Some t → (es : List Extent)
+    → AllByRecursion (λ e. get m e.source ≡ None) es → naming q es ≡ 0
+fresh_apart m q t there [] fresh = refl
+fresh_apart m q t there (e ∷ es) fresh =
+    omega (
+      arith,
+      sum_by-cons (λ (e : Extent). weight (e.source == q)) e es,
+      fresh_apart m q t there es fresh.1,
+      on_test (e.source == q)
+          (λ same. let no : None ≡ Some t = sym fresh.0 ∙ ap (get m) (eqb-true e.source q same) ∙ there in cc)
+          (λ other. weight_of other),
+    )
+
+still_fresh : (m n : Things) (es : List Extent) → ((q : ℕ) (t : Thing) → get m q ≡ Some t → get n q ≡ Some t)
+    → AllByRecursion (λ e. get n e.source ≡ None) es → AllByRecursion (λ e. get m e.source ≡ None) es
+still_fresh m n [] keeps fresh = tt
+still_fresh m n (e ∷ es) keeps fresh =
+    (not_there (get m e.source) (get n e.source) (keeps e.source) fresh.0, still_fresh m n es keeps fresh.1)
+
 -- each header and trailer becomes a raw object, a source and an extent
 pub all_bonded : (m : Things) (used : List ℕ) (at : ℕ → ℕ) (k : ℕ) (cs : List Capsule) (Spare : ℕ → Type 0)
     → Tracks m used cs → AreFresh used (bond_moves at k cs)
     → ((q : ℕ) → 1 ≤ naming q (bonded_extents at k cs) → Spare q) → Fits m Spare
     → Bonded m (with_all m at k cs) at k cs Spare
 all_bonded m used at k [] Spare tracks fresh covers fits =
-    record { fits = fits; lie = tt; heap = tt; keeps = λ q t is. is; charges = λ acct space. refl }
+    record {
+      fits = fits;
+      lie = tt;
+      fresh = tt;
+      firsts = λ acct. tt;
+      counted = λ acct q. refl;
+      keeps = λ q t is. is;
+      charges = λ acct space. refl;
+    }
 all_bonded m used at k (c ∷ cs) Spare tracks fresh covers fits =
     let raw = at k in
     let addr = at (k + 1) in
@@ -256,10 +308,21 @@ all_bonded m used at k (c ∷ cs) Spare tracks fresh covers fits =
             (one_there m used c cs raw addr block tracks rest fresh)))) (omega arith),
         next.lie,
       );
-      heap = (
-        ap space_in (ap as_source (next.keeps addr _ (one_there m used c cs raw addr block tracks rest fresh))),
-        next.heap,
+      fresh = (
+        addr_fresh m used c cs raw addr block tracks rest fresh,
+        still_fresh m n (bonded_extents at (k + 3) cs)
+            (one_keeps m used c cs raw addr block tracks rest fresh) next.fresh,
       );
+      firsts = λ acct. (
+        next.counted acct addr ∙ one_counts m used c cs raw addr block tracks rest fresh acct addr
+            ∙ one_unnamed m used c cs raw addr block tracks rest fresh Spare fits acct,
+        fresh_apart n addr _ (one_there m used c cs raw addr block tracks rest fresh) (bonded_extents at (k + 3) cs)
+            next.fresh,
+        λ space. ap (λ t. bytes_in space (as_source t))
+            (next.keeps addr _ (one_there m used c cs raw addr block tracks rest fresh)),
+        next.firsts acct,
+      );
+      counted = λ acct q. next.counted acct q ∙ one_counts m used c cs raw addr block tracks rest fresh acct q;
       keeps = λ q t is. next.keeps q t (one_keeps m used c cs raw addr block tracks rest fresh q t is);
       charges = λ acct space. next.charges acct space
           ∙ one_charges m used c cs raw addr block tracks rest fresh Spare fits acct space;

@@ -1,27 +1,29 @@
 -- What things charge moves by what a call charges and releases.
-use Rattle.std.proofs.Common.{◌≡◌, ℕ, ◌*◌, ◌++◌, true, true≢false, Option, Some, None, length, refl, sym, ap, ◌∙◌, subst, arith}
-use Rattle.std.specs.List.{sum_by}
-use Rattle.std.proofs.lemmas.List.Sums.{sum_by-append}
+use Rattle.std.proofs.Common.{◌≡◌, ℕ, ◌==◌, true, true≢false, Option, Some, None, length, refl, sym, ap, ◌∙◌, subst, arith, if◌then◌else◌}
 use Rattle.sdr_base.specs.declared.account.Acct.{Acct}
 use Rattle.sdr_base.specs.declared.account.Acct.TheVariants as accts
 use Rattle.sdr_base.specs.declared.kind.Space.{Space}
 use Rattle.sdr_base.specs.declared.kind.Space.TheVariants as spaces
+use Rattle.law_steps.proofs.BondCharges.{bonded_names, bonded_object}
 use Rattle.law_steps.proofs.BondLaws.{with_all_is}
-use Rattle.law_steps.proofs.ChargeLemmas.{charge_dropped, charge_flagged, charge_plain, charge_source, things_charge}
+use Rattle.law_steps.proofs.ChargeLemmas.{charge_dropped, charge_flagged, charge_plain, charge_source, count_new, things_charge}
 use Rattle.law_steps.proofs.Effects.{IsFresh, IsNoZco, Plain}
 use Rattle.law_steps.proofs.PlainRows.{IsZcoCall, row_change}
-use Rattle.law_steps.proofs.OutcomeFits.{bonded_parts, bonded_things, bonds_done, drops_gone, over_here, over_none, over_source, over_there, over_things}
+use Rattle.law_steps.proofs.OutcomeFits.{bonded_things, bonds_done, drops_gone, over_here, over_none, over_source, over_there, over_things}
 use Rattle.law_steps.proofs.SourceViews.{Fits, NoSpare, fits_from, of}
-use Rattle.law_steps.proofs.ZcoOutcomes.{AccountChange, Bonds, Drops, TakesOver, Owes, ZcoOutcome, nothing}
+use Rattle.law_steps.proofs.SourceCharges.{bytes_in, counts}
+use Rattle.law_steps.proofs.SourceMoves.{sources_firsts, sources_gone, sources_use}
+use Rattle.law_steps.proofs.ZcoOutcomes.{AccountChange, Bonds, Drops, TakesOver, Owes, ZcoOutcome, drop_release, nothing}
 use Rattle.law_steps.proofs.ObjectRows.{extent_charge_more}
 use Rattle.law_steps.proofs.OutcomeLemmas.{owes_none}
 use Rattle.law_steps.proofs.ThingLemmas.{object_is, source_is}
 use Rattle.law_steps.proofs.ZcoRows.{zco_row}
-use Rattle.law_steps.specs.Charged.{charge_less, ticket_of}
+use Rattle.law_steps.specs.Charged.{ticket_of}
 use Rattle.sdr_model.specs.Step.{is_answer}
 use Rattle.sdr_model.specs.declared.call.Call.TheVariants as calls
 use Rattle.sdr_model.specs.BondSteps.{bond_charge, bonded, bonded_extents, capsules_of}
-use Rattle.sdr_model.specs.Charges.{bytes_charge, capsule_charge, extent_charge}
+use Rattle.sdr_model.specs.Charges.{bytes_charge}
+use Rattle.sdr_model.specs.Zco.{source_at}
 use Rattle.sdr_model.specs.ObjectSteps.{with_extent}
 use Rattle.sdr_model.specs.Rows.{ByRow}
 use Rattle.sdr_model.specs.Steps.{Outcome, taken_at}
@@ -31,7 +33,7 @@ use Rattle.sdr_model.specs.World.{World, thing_at}
 use Rattle.sdr_model.specs.declared.call.Call.{Call}
 use Rattle.sdr_model.specs.declared.things.Thing.TheVariants as things
 use Rattle.sdr_model.specs.declared.zco.ZcoObject.{ZcoObject}
-use Rattle.law_steps.proofs.ChargeMoves.{MovesCharge, SameCharge, after_same, at_object, before_same, bonded_charge, object_moves, same_moves, same_things_charge}
+use Rattle.law_steps.proofs.ChargeMoves.{MovesCharge, SameCharge, after_same, at_object, before_same, object_moves, same_moves, same_things_charge}
 
 -- what a call charges or releases: one account's things, and how the accounts are changed
 pub record Moves (w : World) (call : Call) (o : Outcome) : Type 0 where
@@ -69,7 +71,7 @@ module _ {w : World} {o : Outcome} (valid : IsValid w) (fits : Fits w.things NoS
       ∙ charge_plain w.things addr acct space None (subst IsNoZco (sym is) tt) tt)
 
   over_moves : {call : Call} (n : TakesOver w call o) → MovesCharge w.things o.after.things n.old.account
-      (bytes_charge spaces.Heap n.extent.length) nothing
+      (bytes_charge spaces.Heap (length n.text)) nothing
   over_moves n =
       let mid = over_things n in
       let old : Option ZcoObject = Some n.old in
@@ -77,8 +79,16 @@ module _ {w : World} {o : Outcome} (valid : IsValid w) (fits : Fits w.things NoS
       (λ acct space. charge_source w.things (taken_at o.moves 0) acct space NoSpare fits (over_source n)
       (over_none n fresh))
       (object_moves mid n.addr n.old.account (Some n.old) (Some (with_extent n.old n.extent))
-      (bytes_charge spaces.Heap n.extent.length) nothing (over_there n fresh) refl refl
-      (λ space. extent_charge_more (of mid) n.old n.extent (over_source n) (over_here n) space)))
+      (bytes_charge spaces.Heap (length n.text)) nothing (over_there n fresh) refl refl
+      (sources_use mid n.old.account n.old n.extent)
+      (λ space. omega (
+        arith,
+        extent_charge_more n.old n.extent space,
+        ap (λ k. if k == 0 then bytes_in space (source_at (of mid) n.extent.source) else 0)
+            (ap (counts mid n.old.account) n.source
+            ∙ count_new NoSpare w.things fits n.old.account (taken_at o.moves 0) (over_source n) (over_none n fresh)),
+        ap (bytes_in space) (over_here n),
+      ))))
 
   bonds_moves : {call : Call} (n : Bonds w call o)
       → MovesCharge w.things o.after.things n.old.account (bond_charge (capsules_of n.old)) nothing
@@ -91,26 +101,18 @@ module _ {w : World} {o : Outcome} (valid : IsValid w) (fits : Fits w.things NoS
       (with_all_is w at 0 (capsules_of n.old))) (after_same done.charges
       (object_moves mid n.addr n.old.account (Some n.old) (Some (bonded at n.old)) (bond_charge (capsules_of n.old))
       nothing (done.keeps n.addr (things.Object n.old) was) refl refl
-      (λ space.
-      let heads = bonded_extents at 0 n.old.headers in
-      let tails = bonded_extents at (3 * length n.old.headers) n.old.trailers in
-      omega (
-        arith,
-        bonded_charge mid space at 0 (capsules_of n.old) done.heap,
-        ap (sum_by (extent_charge (of mid) space)) (bonded_parts at n.old),
-        sum_by-append (extent_charge (of mid) space) heads tails,
-        sum_by-append (extent_charge (of mid) space) (heads ++ n.old.extents) tails,
-        sum_by-append (extent_charge (of mid) space) heads n.old.extents,
-        sum_by-append (capsule_charge space) n.old.headers n.old.trailers,
-      ))))
+      (sources_firsts mid n.old.account (Some n.old) (Some (bonded at n.old)) (bonded_extents at 0 (capsules_of n.old))
+      (bonded_names at n.old) (done.firsts n.old.account))
+      (λ space. omega (arith, bonded_object at n.old space))))
 
   drops_moves : {call : Call} (n : Drops w call o) → MovesCharge w.things o.after.things n.old.account nothing
-      (charge_less w n.old n.new)
+      (drop_release w n.old n.new n.out)
   drops_moves n =
       let was = object_is (thing_at w n.addr) n.old n.was in
       before_same
       (object_moves w.things n.addr n.old.account (Some n.old) n.new nothing
-      (charge_less w n.old n.new) was refl n.account
+      (drop_release w n.old n.new n.out) was refl n.account
+      (sources_gone w.things n.old.account (Some n.old) n.new n.out n.parts)
       (λ space. omega (arith, n.less space)))
       (drops_gone fits fresh n).charges
 
@@ -123,7 +125,7 @@ module _ {w : World} {o : Outcome} (valid : IsValid w) (fits : Fits w.things NoS
       ∙ charge_source w.things n.addr acct space NoSpare fits n.source (n.fresh fresh))
   zco_moves (ZcoOutcome.drops_source owes addr s was unused things accounts) =
       unmoved (λ answered. owes) accounts (λ acct space. ap (λ m. things_charge m acct space) things
-      ∙ charge_dropped w.things addr acct space NoSpare fits s (source_is (thing_at w addr) s was) unused)
+      ∙ charge_dropped w.things addr acct space s (source_is (thing_at w addr) s was) unused)
   zco_moves (ZcoOutcome.flags_source owes addr s was used things accounts) =
       unmoved (λ answered. owes) accounts (λ acct space. ap (λ m. things_charge m acct space) things
       ∙ charge_flagged w.things addr acct space s (source_is (thing_at w addr) s was))
@@ -144,7 +146,7 @@ module _ {w : World} {o : Outcome} (valid : IsValid w) (fits : Fits w.things NoS
     accounts = n.accounts;
     owes = λ answered. n.owes;
     charge = at_object n.things (object_moves w.things n.addr n.object.account None (Some n.object) n.adds nothing
-        (n.fresh fresh) tt refl (λ space. omega (arith, n.charge space)));
+        (n.fresh fresh) tt refl n.sources (λ space. omega (arith, n.charge space)));
   }
   zco_moves (ZcoOutcome.reshapes n) = record {
     acct = n.old.account;
@@ -154,11 +156,12 @@ module _ {w : World} {o : Outcome} (valid : IsValid w) (fits : Fits w.things NoS
     accounts = n.accounts;
     owes = λ answered. n.owes;
     charge = at_object n.things (object_moves w.things n.addr n.old.account (Some n.old) (Some n.new) n.adds n.frees
-        (object_is (thing_at w n.addr) n.old n.was) refl n.account n.charge);
+        (object_is (thing_at w n.addr) n.old n.was) refl n.account n.sources
+        (λ space. omega (arith, n.charge space)));
   }
   zco_moves (ZcoOutcome.takes_over n) = record {
     acct = n.old.account;
-    adds = bytes_charge spaces.Heap n.extent.length;
+    adds = bytes_charge spaces.Heap (length n.text);
     frees = nothing;
     lost = nothing;
     accounts = n.accounts;
@@ -177,7 +180,7 @@ module _ {w : World} {o : Outcome} (valid : IsValid w) (fits : Fits w.things NoS
   zco_moves (ZcoOutcome.drops n) = record {
     acct = n.old.account;
     adds = nothing;
-    frees = charge_less w n.old n.new;
+    frees = drop_release w n.old n.new n.out;
     lost = nothing;
     accounts = n.accounts;
     owes = λ answered. n.owes;

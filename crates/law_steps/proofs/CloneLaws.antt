@@ -81,7 +81,7 @@ row_takes : (w : World) (o : Outcome) (addr ticket offset bytes : ℕ) → IsFre
 row_takes w o addr ticket offset bytes fresh answered h =
     in_option (object_at w addr) h (λ h. unanswered o _ answered h) (λ z h.
     in_bool (bytes == 0 || nat_lt z.part.length (offset + bytes)) h (λ h. unanswered o _ answered h) (λ h.
-    in_charge w o z.account ticket (λ space. object_charge w space (object_of z.account (asked_extents z offset bytes)))
+    in_charge w o z.account ticket (λ space. object_charge space (object_of z.account (asked_extents z offset bytes)))
     (λ used. DoesWith w o (λ at. clone_moves at (asked_extents z offset bytes))
     (λ at. with_object used (at 0) (object_of z.account (placed at 1 (asked_extents z offset bytes))))
     (λ at. replies.At (at 0))) answered h (λ used same did.

@@ -126,7 +126,7 @@ module _ {w : World} {o : Outcome} where
       on_addr addr (object_at w addr) h (λ z is h.
       on_failed (bytes == 0 || nat_lt z.part.length (offset + bytes)) _ h refl (λ ranged h.
       let extents = part.asked_extents z offset bytes in
-      on_charges z.account number (λ space. object_charge w space (part.object_of z.account extents))
+      on_charges z.account number (λ space. object_charge space (part.object_of z.account extents))
       (Clones w o z extents) h (λ used like d.
       does_with (λ at. part.clone_moves at extents) d.0 refl (λ at. ap (λ z. clone_moves_of z offset bytes at) is)
       (cloned z.account extents used like

@@ -17,7 +17,7 @@ use Rattle.sdr_model.specs.AccountSteps.{pending_of}
 use Rattle.sdr_model.specs.Accounts.{account_of, most_amount}
 use Rattle.sdr_model.specs.Amounts.{first_above, in_space}
 use Rattle.sdr_model.specs.BondSteps.{bond_charge, bond_moves, bonded, capsules_of, with_bonded}
-use Rattle.sdr_model.specs.Charges.{bytes_charge, capsule_bytes, object_bytes, object_charge}
+use Rattle.sdr_model.specs.Charges.{bytes_charge, capsule_bytes, object_bytes, object_charge, use_charge}
 use Rattle.sdr_model.specs.Cuts.{placed}
 use Rattle.sdr_model.specs.Dry.{AreInOrder, StepsDry, addr_after, blocks_taken}
 use Rattle.sdr_model.specs.HashSteps.{as_hash, has_key, is_no_count, is_no_key_length}
@@ -34,7 +34,7 @@ use Rattle.sdr_model.specs.Steps.{On, Outcome, Refuses, with_thing}
 use Rattle.sdr_model.specs.TableSteps.{as_table}
 use Rattle.sdr_model.specs.Wire.{GivesBytes, GivesOf, ToldBytes, headers_part, source_part, trailers_part, wire_part}
 use Rattle.sdr_model.specs.World.{World, as_raw, as_text, block_at, is_marked, misnamed, spot_of, thing_at}
-use Rattle.sdr_model.specs.Zco.{extents_length, object_at, owned_raw, source_at, source_naming, space_of, uses_of}
+use Rattle.sdr_model.specs.Zco.{extents_length, object_at, owned_raw, source_at, source_naming, uses_of}
 use Rattle.sdr_model.specs.declared.answer.Reply.{Reply}
 use Rattle.sdr_model.specs.declared.answer.Reply.TheVariants as replies
 use Rattle.sdr_model.specs.declared.call.Call.{Call}
@@ -66,7 +66,7 @@ appends_source w addr z number named s offset bytes =
     tested s.flagged told
     (tested (bytes == 0 || nat_lt s.length (offset + bytes)) told
     (charges w (λ o used. AppendsTo w o addr z named offset bytes used) z.account number
-    (bytes_charge (space_of s.subject) bytes) (λ used. takes_one)))
+    (use_charge w z.account named s) (λ used. takes_one)))
 
 appends_raw : (w : World) (addr : ℕ) (z : ZcoObject) (number raw : ℕ) (text : List ℕ) (offset bytes : ℕ)
     → IsDecided (λ o. AppendsRaw w o addr z number raw text offset bytes)
@@ -74,7 +74,7 @@ appends_raw w addr z number raw text offset bytes =
     found (source_naming w raw)
     (tested (bytes == 0 || nat_lt (length text) (offset + bytes)) told
     (charges w (λ o used. TakesOver w o addr z raw text offset bytes used) z.account number
-    (bytes_charge spaces.Heap bytes)
+    (bytes_charge spaces.Heap (length text))
     (λ used. does_with w raw_append_moves
     (λ at. with_object (with_thing used (at 0) (things.Source (new_source (subjects.Heap raw) (length text)))) addr
     (with_extent z (record { block = at 1; source = at 0; offset = offset; length = bytes })))
@@ -185,7 +185,7 @@ decided w (calls.ClonePart addr ticket offset bytes) _ =
     let extents = asked_extents z offset bytes in
     tested (bytes == 0 || nat_lt z.part.length (offset + bytes)) told
     (charges w (λ o used. Clones w o z extents used) z.account ticket
-    (λ space. object_charge w space (object_of z.account extents))
+    (λ space. object_charge space (object_of z.account extents))
     (λ used. does_with w (λ at. clone_moves at extents)
     (λ at. with_object used (at 0) (object_of z.account (placed at 1 extents))) (λ at. replies.At (at 0))
     (clone_of_their extents))))

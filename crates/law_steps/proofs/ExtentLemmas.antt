@@ -1,18 +1,23 @@
 -- Extents that are cut and placed, and sums without the first or the last.
-use Rattle.std.proofs.Common.{◌≡◌, ℕ, zero, suc, ◌+◌, ◌-◌, ◌≤◌, ◌==◌, List, [], ◌∷◌, Bool, true, false, cond, Option, Some, None, drop, length, take, refl, ap, arith}
+use Rattle.std.proofs.Common.{◌≡◌, ℕ, zero, suc, ◌+◌, ◌-◌, ◌*◌, ◌≤◌, ◌==◌, ◌++◌, List, [], ◌∷◌, Bool, true, false, cond, Option, Some, None, drop, length, take, refl, ap, arith, length-append}
 use Rattle.std.specs.List.{AllByRecursion, sum_by}
 use Rattle.std.specs.Prelude.{All, slice_get, unwrap_or, if◌then◌else◌}
 use Rattle.std.proofs.lemmas.List.Elements.{All-from_recursion, recursion_from_All}
 use Rattle.std.proofs.lemmas.List.Sums.{sum_by-cons}
+use Rattle.sdr_base.specs.declared.account.Acct.{Acct}
 use Rattle.sdr_base.specs.declared.kind.Space.{Space}
-use Rattle.sdr_model.specs.Amounts.{is_same_space}
+use Rattle.sdr_base.specs.declared.kind.Space.TheVariants as spaces
+use Rattle.sdr_model.proofs.FewLemmas.{length-cut_all, length-placed}
+use Rattle.sdr_model.specs.Amounts.{in_space}
 use Rattle.sdr_model.specs.Cuts.{cut, cut_all, left_out, placed}
 use Rattle.law_steps.proofs.DistinctLemmas.{on_test}
-use Rattle.sdr_model.specs.Charges.{bytes_charge, extent_charge, space_in}
+use Rattle.sdr_model.specs.Charges.{extent_bytes, object_charge}
+use Rattle.sdr_model.specs.PartSteps.{object_of, part_end, stripped}
 use Rattle.sdr_model.specs.Valid.{LiesInside}
 use Rattle.sdr_model.specs.World.{World}
 use Rattle.sdr_model.specs.Zco.{naming, source_at}
 use Rattle.sdr_model.specs.declared.zco.Extent.{Extent}
+use Rattle.sdr_model.specs.declared.zco.ZcoObject.{ZcoObject}
 use Rattle.sdr_model.specs.declared.zco.ZcoSource.{ZcoSource}
 
 -- the sum without the first, and without the last
@@ -76,47 +81,36 @@ module _ (w : World) where
   placed_inside at k es all =
       All-from_recursion lies (placed at k es) (placed_lie at k es (recursion_from_All lies es all))
 
-  pub cut_charge : (space : Space) (from to : ℕ) (es : List Extent)
-      → sum_by (extent_charge w space) (cut_all from to es) ≤ sum_by (extent_charge w space) es
-  cut_charge space from to [] = omega arith
-  cut_charge space from to (e ∷ es) =
-      on_test ((cut from to e).length == 0)
-      (λ none. omega (
-        arith,
-        ap (λ b. sum_by (extent_charge w space)
-            (cond b (cut_all (from - e.length) (to - e.length) es)
-            (cut from to e ∷ cut_all (from - e.length) (to - e.length) es))) none,
-        cut_charge space (from - e.length) (to - e.length) es,
-        sum_by-cons (extent_charge w space) e es,
-      ))
-      (λ some. omega (
-        arith,
-        ap (λ b. sum_by (extent_charge w space)
-            (cond b (cut_all (from - e.length) (to - e.length) es)
-            (cut from to e ∷ cut_all (from - e.length) (to - e.length) es))) some,
-        cut_charge space (from - e.length) (to - e.length) es,
-        sum_by-cons (extent_charge w space) e es,
-        sum_by-cons (extent_charge w space) (cut from to e) (cut_all (from - e.length) (to - e.length) es),
-        shorter (space_in (source_at w e.source)) (cut from to e).length e.length (omega arith),
-      ))
-    where
-      less_in : (b : Bool) (k n : ℕ) → k ≤ n → (if b then k else 0) ≤ (if b then n else 0)
-      less_in true k n h = h
-      less_in false k n h = omega arith
+-- what extents charge for themselves: more where there are more, and together what they charge apart
+extents_fewer : (space : Space) (k n : ℕ) → k ≤ n
+    → in_space spaces.Heap (extent_bytes * k) space ≤ in_space spaces.Heap (extent_bytes * n) space
+extents_fewer spaces.File k n le = omega arith
+extents_fewer spaces.Bulk k n le = omega arith
+extents_fewer spaces.Heap k n le = omega (arith, le)
 
-      shorter : (s : Space) (k n : ℕ) → k ≤ n → bytes_charge s k space ≤ bytes_charge s n space
-      shorter s k n h = let one = less_in (is_same_space s space) k n h in omega (arith, one)
+pub extents_more : (space : Space) (n : ℕ)
+    → in_space spaces.Heap (extent_bytes * suc n) space
+    ≡ in_space spaces.Heap extent_bytes space + in_space spaces.Heap (extent_bytes * n) space
+extents_more spaces.File n = refl
+extents_more spaces.Bulk n = refl
+extents_more spaces.Heap n = omega arith
 
-  pub placed_charge : (space : Space) (at : ℕ → ℕ) (k : ℕ) (es : List Extent)
-      → sum_by (extent_charge w space) (placed at k es) ≡ sum_by (extent_charge w space) es
-  placed_charge space at k [] = refl
-  placed_charge space at k (e ∷ es) =
-      omega (
-        arith,
-        placed_charge space at (suc k) es,
-        sum_by-cons (extent_charge w space) e es,
-        sum_by-cons (extent_charge w space) (record e { block = at k }) (placed at (suc k) es),
-      )
+pub extents_joined : (space : Space) (xs ys : List Extent)
+    → in_space spaces.Heap (extent_bytes * length (xs ++ ys)) space
+    ≡ in_space spaces.Heap (extent_bytes * length xs) space + in_space spaces.Heap (extent_bytes * length ys) space
+extents_joined spaces.File xs ys = refl
+extents_joined spaces.Bulk xs ys = refl
+extents_joined spaces.Heap xs ys = omega (arith, length-append xs ys)
+
+-- an object charges no more once its extents are cut, and the same wherever its extents are
+pub cut_charge : (space : Space) (z : ZcoObject) → object_charge space (stripped z) ≤ object_charge space z
+cut_charge space z =
+    omega (arith, extents_fewer space _ _ (length-cut_all z.part.offset (part_end z) z.extents))
+
+pub placed_charge : (space : Space) (acct : Acct) (at : ℕ → ℕ) (k : ℕ) (es : List Extent)
+    → object_charge space (object_of acct (placed at k es)) ≡ object_charge space (object_of acct es)
+placed_charge space acct at k es =
+    omega (arith, ap (λ n. in_space spaces.Heap (extent_bytes * n) space) (length-placed at k es))
 
 -- whether an extent names a source, as a number
 abbrev names_it : ℕ → Extent → ℕ
@@ -152,3 +146,15 @@ cut_names source from to (e ∷ es) =
           (cond b (e ∷ (left_out (from - e.length) (to - e.length) es))
           (left_out (from - e.length) (to - e.length) es))) some,
     ))
+
+-- extents that are placed name the same sources
+pub placed_names : (source : ℕ) (at : ℕ → ℕ) (k : ℕ) (es : List Extent)
+    → naming source (placed at k es) ≡ naming source es
+placed_names source at k [] = refl
+placed_names source at k (e ∷ es) =
+    omega (
+      arith,
+      placed_names source at (suc k) es,
+      sum_by-cons (names_it source) e es,
+      sum_by-cons (names_it source) (record e { block = at k }) (placed at (suc k) es),
+    )

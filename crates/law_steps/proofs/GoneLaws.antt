@@ -154,7 +154,7 @@ module _ (w : World) (all : List Extent) (total : Acct → Space → ℕ) where
           (source_is (get m e.source) s there),
     );
     charges = λ acct space.
-        charge_dropped m e.source acct space (Spare w all (e ∷ es)) g.fits s (source_is (get m e.source) s there)
+        charge_dropped m e.source acct space s (source_is (get m e.source) s there)
         (omega (arith, last, g.uses e.source)) ∙ g.charges acct space;
   }
     where

@@ -7,6 +7,7 @@ pub mod Alike
 pub mod AppendShapes
 pub mod BarredLemmas
 pub mod BlockLaws
+pub mod BondCharges
 pub mod BondLaws
 pub mod BondLemmas
 pub mod BondRoom
@@ -25,6 +26,7 @@ pub mod DistinctLemmas
 pub mod DryLaws
 pub mod EditLemmas
 pub mod Effects
+pub mod EntrySums
 pub mod ExampleFits
 pub mod Examples
 pub mod ExtentLemmas
@@ -51,6 +53,7 @@ pub mod ObjectLemmas
 pub mod ObjectRows
 pub mod ObjectShapes
 pub mod OccupancyLaws
+pub mod OnceExamples
 pub mod OutcomeFits
 pub mod OutcomeLemmas
 pub mod PartRows
@@ -61,7 +64,9 @@ pub mod QueueOrder
 pub mod RawShapes
 pub mod RowShapes
 pub mod Shapes
+pub mod SourceCharges
 pub mod SourceLaws
+pub mod SourceMoves
 pub mod SourceRows
 pub mod SourceShapes
 pub mod SourceViews

@@ -178,7 +178,7 @@ module _ (w : World) (valid : IsValid w) (fit : FitTogether w) where
       let extents = part.asked_extents z offset bytes in
       tested (bytes == 0 || nat_lt z.part.length (offset + bytes)) refused
       (charges (λ o used. Clones w o z extents used) z.account number
-      (λ space. object_charge w space (part.object_of z.account extents)) (λ used like.
+      (λ space. object_charge space (part.object_of z.account extents)) (λ used like.
       does_with (λ at. part.clone_moves at extents)
       (λ at. object.with_object used (at 0) (part.object_of z.account (placed at 1 extents)))
       (λ at. replies.At (at 0)) (λ fits at words.
@@ -226,7 +226,7 @@ module _ (w : World) (valid : IsValid w) (fit : FitTogether w) where
       found (source_naming w raw)
       (in_test (bytes == 0 || nat_lt (length text) (offset + bytes)) refused (λ ranged.
       charges (λ o used. TakesOver w o addr z raw text offset bytes used) z.account number
-      (bytes_charge spaces.Heap bytes) (λ used like.
+      (bytes_charge spaces.Heap (length text)) (λ used like.
       let source = things.Source (new_source (subjects.Heap raw) (length text)) in
       does_with object.raw_append_moves
       (λ at. object.with_object (with_thing used (at 0) source) addr

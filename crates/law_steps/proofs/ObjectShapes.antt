@@ -16,7 +16,7 @@ use Rattle.law_steps.proofs.ThingChanges.{gains, loses, makes, stays}
 use Rattle.law_steps.proofs.ThingLemmas.{object_is}
 use Rattle.sdr_model.specs.Amounts.{in_space}
 use Rattle.sdr_model.specs.Blocks.{thing_blocks}
-use Rattle.sdr_model.specs.Charges.{bytes_charge, capsule_bytes, object_bytes}
+use Rattle.sdr_model.specs.Charges.{capsule_bytes, object_bytes, use_charge}
 use Rattle.sdr_model.specs.Limits.{is_no_capsule, longest_capsule}
 use Rattle.sdr_model.specs.ObjectSteps as object
 use Rattle.sdr_model.specs.PartSteps as part
@@ -26,7 +26,7 @@ use Rattle.sdr_model.specs.Steps.{Outcome, Takes, gave}
 use Rattle.sdr_model.specs.Things.{block_for_capsule, capsule_need, block_for_extent, extent_need, object_need}
 use Rattle.sdr_model.specs.Valid.{IsValidCapsule, IsValidObject}
 use Rattle.sdr_model.specs.World.{World, thing_at}
-use Rattle.sdr_model.specs.Zco.{empty_object, extents_length, object_at, source_at, space_of}
+use Rattle.sdr_model.specs.Zco.{empty_object, extents_length, object_at, source_at}
 use Rattle.sdr_model.specs.declared.answer.Reply.TheVariants as replies
 use Rattle.sdr_model.specs.declared.call.Call.{Call}
 use Rattle.sdr_model.specs.declared.call.Call.TheVariants as calls
@@ -167,7 +167,7 @@ module _ {w : World} {o : Outcome} where
   appends_source addr number named offset bytes z s is there h =
       on_failed s.flagged _ h refl (λ free h.
       on_failed (bytes == 0 || nat_lt s.length (offset + bytes)) _ h refl (λ ranged h.
-      on_charges z.account number (bytes_charge (space_of s.subject) bytes) (AppendsTo w o addr z named offset bytes) h
+      on_charges z.account number (use_charge w z.account named s) (AppendsTo w o addr z named offset bytes) h
       (λ used like made.
       let e : ℕ → Extent = λ a. record { block = a; source = named; offset = offset; length = bytes } in
       takes_one extent_need _ made refl (λ at. ap (λ s. append_moves s at) there)

@@ -17,7 +17,8 @@ use Rattle.law_steps.proofs.Effects.{IsFresh, IsNoZco, KeepsBytes, Plain}
 use Rattle.law_steps.proofs.GoneLaws.{AllGone, Spare, all_go, change_first, gone_apart, named_once, without_is}
 use Rattle.law_steps.proofs.FitChanges.{fits_object, fits_plain, fits_source}
 use Rattle.law_steps.proofs.SourceViews.{AllLie, Fits, NoSpare, Unnamed, apart_at, fits_more, here_at, of, same_view, uses-with_at, uses_at}
-use Rattle.law_steps.proofs.ZcoOutcomes.{Bonds, Drops, NewObject, NewShape, NewSource, TakesOver, naming_in}
+use Rattle.law_steps.proofs.SourceMoves.{naming_in}
+use Rattle.law_steps.proofs.ZcoOutcomes.{Bonds, Drops, NewObject, NewShape, NewSource, TakesOver}
 use Rattle.law_steps.proofs.OutcomeLemmas.{first_fresh}
 use Rattle.law_steps.proofs.ThingLemmas.{object_is, source_is}
 use Rattle.law_steps.specs.Fresh.{AreFresh}

@@ -1,8 +1,9 @@
 -- The rows that clone a part of an object, set it and cut to it, destroy it and bond it.
 use Rattle.std.proofs.Common.{ℕ, ◌+◌, ◌==◌, ◌||◌, Some, None, nat_lt, refl, ap, ◌∙◌, arith}
 use Rattle.sdr_base.specs.declared.kind.Space.{Space}
-use Rattle.law_steps.proofs.ZcoOutcomes.{AccountChange, Queued, ZcoOutcome, nothing}
-use Rattle.law_steps.specs.Charged.{charge_less}
+use Rattle.law_steps.proofs.ChargeLemmas.{count_there}
+use Rattle.law_steps.proofs.SourceMoves.{sources_shared, sources_stay}
+use Rattle.law_steps.proofs.ZcoOutcomes.{AccountChange, Queued, ZcoOutcome, drop_release, nothing}
 use Rattle.sdr_model.specs.BondSteps as bond
 use Rattle.sdr_model.specs.Cuts.{placed}
 use Rattle.sdr_model.specs.Charges.{object_charge}
@@ -18,7 +19,7 @@ use Rattle.sdr_model.specs.Things.{object_need}
 use Rattle.sdr_model.specs.declared.answer.Reply.TheVariants as replies
 use Rattle.sdr_model.specs.declared.things.Thing.TheVariants as things
 use Rattle.sdr_model.specs.declared.zco.ZcoObject.{ZcoObject}
-use Rattle.law_steps.proofs.ExtentLemmas.{cut_charge, cut_inside, cut_names, placed_charge, placed_inside}
+use Rattle.law_steps.proofs.ExtentLemmas.{cut_charge, cut_inside, cut_names, placed_charge, placed_inside, placed_names}
 use Rattle.law_steps.proofs.OutcomeLemmas.{Comes, bonded_accounts, bonded_things, charged_things, charging, first_fresh, found, gone_accounts, object_inside, object_owes, owes_charge, owes_none, owes_release, refused, tested, told, used_things}
 
 module _ (w : World) where
@@ -27,7 +28,7 @@ module _ (w : World) where
       → Comes w (calls.ClonePart addr number offset bytes) (λ o. part.ClonePart w o addr number offset bytes)
   clones addr number offset bytes = found (object_at w addr) (λ none. refused) (λ z was.
       let es = part.asked_extents z offset bytes in
-      let adds : Space → ℕ = λ space. object_charge w space (part.object_of z.account es) in
+      let adds : Space → ℕ = λ space. object_charge space (part.object_of z.account es) in
       let new : (ℕ → ℕ) → ZcoObject = λ at. part.object_of z.account (placed at 1 es) in
       tested (bytes == 0 || nat_lt z.part.length (offset + bytes)) refused
       (charging (λ used o. DoesWith w o (λ at. part.clone_moves at es)
@@ -41,10 +42,18 @@ module _ (w : World) where
           inside = λ all. placed_inside w (taken_at o.moves) 1 es
               (cut_inside w _ _ z.extents (object_inside w addr z was all));
           owes = owes_charge (λ b space. object_owes w addr z
-              (λ z space. object_charge w space
+              (λ z space. object_charge space
               (part.object_of z.account (part.asked_extents z offset bytes))) was b space)
               (λ b space. refl) (λ b space. refl);
-          charge = λ space. omega (arith, placed_charge w space (taken_at o.moves) 1 es);
+          sources = sources_shared w.things z.account None (Some (new (taken_at o.moves))) (λ q. omega arith)
+              (λ q named. omega (
+                arith,
+                named,
+                placed_names q (taken_at o.moves) 1 es,
+                cut_names q (z.part.offset + offset) (z.part.offset + offset + bytes) z.extents,
+                count_there w.things addr z was q,
+              ));
+          charge = λ space. placed_charge space z.account (taken_at o.moves) 1 es;
           things = ap (λ (v : World). v.things) h.1
               ∙ charged_things (taken_at o.moves 0) (things.Object (new (taken_at o.moves))) c;
           accounts = AccountChange.charged used c refl refl (ap (λ (v : World). v.accounts) h.1);
@@ -61,11 +70,14 @@ module _ (w : World) where
         new = record z { part = record { offset = offset; length = bytes } };
         adds = nothing;
         frees = nothing;
+        more = nothing;
         was = was;
         account = refl;
         inside = λ all. all;
         names = λ source. omega arith;
-        charge = λ space. refl;
+        sources = sources_stay w.things z.account (Some z) (Some (record z { part = record { offset = offset; length = bytes } }))
+            (λ q. refl);
+        charge = λ space. omega arith;
         owes = owes_none (λ b space. refl) (λ b space. refl) (λ b space. refl);
         things = ap (λ (v : World). v.things) after;
         accounts = AccountChange.stays refl refl refl (ap (λ (v : World). v.accounts) after);
@@ -82,9 +94,9 @@ module _ (w : World) where
         was = was;
         account = refl;
         owes = owes_release (λ b space. refl)
-            (λ b space. object_owes w addr z (λ z. charge_less w z (Some (part.stripped z))) was b space)
+            (λ b space. object_owes w addr z (λ z. drop_release w z (Some (part.stripped z)) (part.outside_part z)) was b space)
             (λ b space. refl);
-        less = λ space. omega (arith, cut_charge w space z.part.offset (part.part_end z) z.extents);
+        less = λ space. cut_charge space z;
         parts = λ source. cut_names source z.part.offset (part.part_end z) z.extents;
         inside = λ all. cut_inside w z.part.offset (part.part_end z) z.extents all;
         things = ap (λ (v : World). v.things) after;
@@ -103,7 +115,7 @@ module _ (w : World) where
         new = None;
         was = was;
         account = tt;
-        owes = owes_release (λ b space. refl) (λ b space. object_owes w addr z (λ z. charge_less w z None) was b space)
+        owes = owes_release (λ b space. refl) (λ b space. object_owes w addr z (λ z. drop_release w z None z.extents) was b space)
             (λ b space. refl);
         less = λ space. omega arith;
         parts = λ source. omega arith;

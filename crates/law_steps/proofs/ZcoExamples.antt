@@ -1,9 +1,9 @@
 -- A small world with sources, an object and tickets meets what the laws ask for.
-use Rattle.std.proofs.Common.{lit<, lit≤, ◌<◌, ◌≤◌, ◌≡◌, ◌⊎◌, ⊎_elim, ◌+◌, ◌-◌, ℕ, List, [], ◌∷◌, ◌++◌, Bool, true, false, true≢false, cond, Option, Some, None, inl, inr, nat_eq, refl, sym, ap, ◌∙◌, subst, arith, rules}
+use Rattle.std.proofs.Common.{lit<, lit≤, ◌<◌, ◌≤◌, ◌≡◌, ◌⊎◌, ⊎_elim, ◌+◌, ◌-◌, ◌==◌, ℕ, List, [], ◌∷◌, ◌++◌, Bool, true, false, true≢false, cond, Option, Some, None, inl, inr, nat_eq, refl, sym, ap, ◌∙◌, subst, arith, rules}
 use Rattle.std.specs.FinMap.{entries, entries-from_sorted, get-from_sorted}
 use Rattle.std.specs.List.{IsDistinct, flat_map, sum_by}
 use Rattle.std.specs.Ordering.{eq_by_cmp, nat_cmp}
-use Rattle.std.specs.Prelude.{Contains, IfSome, MatchOption, unwrap_or}
+use Rattle.std.specs.Prelude.{Contains, IfSome, MatchOption, if◌then◌else◌, unwrap_or}
 use Rattle.std.proofs.lemmas.Bool.Decides.{nat_tests}
 use Rattle.std.proofs.lemmas.List.Elements.{All-from_recursion, All-nil}
 use Rattle.sdr_base.specs.declared.account.Acct.{Acct}
@@ -17,12 +17,12 @@ use Rattle.law_steps.specs.Fresh.{AreFresh}
 use Rattle.law_steps.specs.ZcoExample.{file_source, first_ticket, grown_world, raw_source, second_ticket, small_object, small_things, small_world}
 use Rattle.sdr_model.proofs.ThingsLemmas.{same_address}
 use Rattle.sdr_model.specs.Accounts.{ticket_blocks}
-use Rattle.sdr_model.specs.Amounts.{amounts_by, are_within, first_above, no_amounts}
+use Rattle.sdr_model.specs.Amounts.{amounts_by, are_within, first_above, in_space, no_amounts}
 use Rattle.sdr_model.specs.Blocks.{addresses_of, blocks_of, thing_blocks}
-use Rattle.sdr_model.specs.Charges.{bytes_charge, rooms, thing_charge}
+use Rattle.sdr_model.specs.Charges.{bytes_charge, extent_bytes, rooms, thing_charge}
 use Rattle.sdr_base.specs.declared.kind.Space.{Space}
 use Rattle.sdr_base.specs.declared.kind.Space.TheVariants as spaces
-use Rattle.sdr_model.specs.Charging.{no_space, with_covered}
+use Rattle.sdr_model.specs.Charging.{Charges, no_space, with_covered}
 use Rattle.sdr_model.specs.Gone.{is_passing}
 use Rattle.sdr_model.specs.ObjectSteps.{AppendsRaw, AppendsSource, with_extent, with_object}
 use Rattle.sdr_model.specs.Rows.{ByRow}
@@ -30,7 +30,7 @@ use Rattle.sdr_model.specs.Step.{Step}
 use Rattle.sdr_model.specs.Steps.{On, Outcome, Refuses, Takes}
 use Rattle.sdr_model.specs.Valid.{FitTogether, HasBytes, HasSubject, IsBarred, IsValid, IsValidCapsule, IsValidThing, IsValidTicket, KeepQueues, LiesInside}
 use Rattle.sdr_model.specs.World.{as_raw, thing_at}
-use Rattle.sdr_model.specs.Zco.{as_object, as_source, is_of_raw, object_at, source_at, uses_in, uses_of}
+use Rattle.sdr_model.specs.Zco.{as_object, as_source, count_of, is_of_raw, object_at, source_at, uses_in, uses_of}
 use Rattle.sdr_model.specs.declared.answer.Reply.TheVariants as replies
 use Rattle.sdr_model.specs.declared.call.Call.TheVariants as calls
 use Rattle.sdr_model.specs.declared.things.Thing.{Thing}
@@ -156,6 +156,11 @@ raw_used = ap
     sum_by (λ e. uses_in 24 accts.Inbound e.1) es + sum_by (λ e. uses_in 24 accts.Outbound e.1) es)
     (entries-from_sorted nat_cmp small_things tt)
 
+-- so does one the file's
+file_used : count_of small_world 8 accts.Inbound ≡ 1
+file_used = ap (λ (es : List (ℕ × Thing)). sum_by (λ e. uses_in 8 accts.Inbound e.1) es)
+    (entries-from_sorted nat_cmp small_things tt)
+
 pub small_fits : FitTogether small_world
 small_fits = fits_to small_world (record {
   inside = λ q z is. subst (λ (z : ZcoObject). AllLie small_world.things z.extents) (sym (objects q z is)) small_lie;
@@ -202,7 +207,7 @@ pub small_barred : (acct : Acct) → IsBarred small_world acct
 small_barred accts.Outbound = tt
 small_barred accts.Inbound =
     all_above (rooms small_world accts.Inbound).file (rooms small_world accts.Inbound).bulk
-    (sum_by (λ e. thing_charge small_world accts.Inbound spaces.Heap e.1) (entries small_world.things))
+    (sum_by (λ e. thing_charge small_world accts.Inbound spaces.Heap e.0 e.1) (entries small_world.things))
 
 -- nothing is above any room
 none_above : (room : Amounts) → first_above no_amounts room ≡ None
@@ -219,13 +224,18 @@ row_grows =
     (On small_world o 8 (as_raw (thing_at small_world 8))
     (λ text. AppendsRaw small_world o 32 small_object 1 8 text 0 4))
     (λ s. AppendsSource small_world o 32 small_object 1 8 s 0 4)) (sym file_there)
+    (subst (λ (n : ℕ). Charges small_world o accts.Inbound 1
+    (λ space. if n == 0 then bytes_charge spaces.File 10 space else in_space spaces.Heap extent_bytes space)
+    (λ used. Takes small_world o 32 (λ block. with_object used 32
+    (with_extent small_object (record { block = block; source = 8; offset = 0; length = 4 })))
+    (λ block. replies.Done))) (sym file_used)
     (subst (λ (t : Option Space). MatchOption t
     (Takes small_world o 32 (λ block. with_object
     (with_covered small_world (Some (record { acct = accts.Inbound; place = 0; ticket = first_ticket }))
-    (amounts_by (bytes_charge spaces.File 4))) 32
+    (amounts_by (in_space spaces.Heap extent_bytes))) 32
     (with_extent small_object (record { block = block; source = 8; offset = 0; length = 4 }))) (λ block. replies.Done))
     (λ space. Refuses small_world o (no_space small_world accts.Inbound no_amounts space))) (sym (none_above (rooms small_world accts.Inbound)))
-    (refl, (refl, refl))))
+    (refl, (refl, refl)))))
 
 pub small_grows : Step small_world (calls.AppendExtent 32 1 8 0 4) (Took 32 80 ∷ []) grown_world replies.Done
 small_grows = inl row_grows

@@ -8,8 +8,10 @@ use Rattle.sdr_base.specs.declared.account.Amounts.{Amounts}
 use Rattle.sdr_base.specs.declared.kind.Space.{Space}
 use Rattle.sdr_base.specs.declared.kind.Space.TheVariants as spaces
 use Rattle.law_steps.proofs.Effects.{IsFresh}
+use Rattle.law_steps.proofs.SourceMoves.{SourcesMove, naming_in}
+pub use Rattle.law_steps.proofs.SourceMoves.{nothing}
 use Rattle.sdr_base.specs.declared.account.Acct.TheVariants as accts
-use Rattle.law_steps.specs.Charged.{charge_in, charge_less, object_release, of_account, ticket_of, ticket_release, ticket_under, whole_charge}
+use Rattle.law_steps.specs.Charged.{charge_in, charge_less, object_release, of_account, sources_less, ticket_of, ticket_release, ticket_under, whole_charge}
 use Rattle.sdr_model.specs.AccountSteps.{new_ticket, with_maximum}
 use Rattle.sdr_model.specs.Accounts.{account_of, most_amount, pending_in, tickets_of, with_account, with_tickets}
 use Rattle.sdr_model.specs.declared.accounts.Pending.{Pending}
@@ -35,10 +37,6 @@ use Rattle.sdr_model.specs.declared.zco.Extent.{Extent}
 use Rattle.sdr_model.specs.declared.zco.Subject.TheVariants as subjects
 use Rattle.sdr_model.specs.declared.zco.ZcoObject.{ZcoObject}
 use Rattle.sdr_model.specs.declared.zco.ZcoSource.{ZcoSource}
-
--- what is charged or released of each space where nothing is
-abbrev pub nothing : Space → ℕ
-nothing space = 0
 
 -- What the call charges one account is what its ticket covers and what the room has for the rest.
 pub record IsCharged (w : World) (acct : Acct) (number : ℕ) (adds : Space → ℕ) (used : World) : Type 0 where
@@ -84,11 +82,6 @@ pub record Owes (w : World) (call : Call) (acct : Acct) (adds frees lost : Space
   pub release : (b : Acct) (space : Space) → object_release w call b space ≡ of_account acct frees b space
   pub ticket : (b : Acct) (space : Space) → ticket_release w call b space ≡ of_account acct lost b space
 
--- how often the extents of an object name a source, where there is one
-abbrev pub naming_in : ℕ → Option ZcoObject → ℕ
-naming_in source None = 0
-naming_in source (Some z) = naming source z.extents
-
 -- a new source at a fresh address
 pub record NewSource (w : World) (o : Outcome) : Type 0 where
   pub addr : ℕ
@@ -99,30 +92,35 @@ pub record NewSource (w : World) (o : Outcome) : Type 0 where
   pub alone : (raw : ℕ) → is_of_raw raw source.subject ≡ true → source_naming w raw ≡ None
   pub things : o.after.things ≡ finite.insert w.things addr (things.Source source)
 
--- a new object at a fresh address, of extents inside their sources
+-- a new object at a fresh address, of extents inside their sources, which objects of its account name already
 pub record NewObject (w : World) (call : Call) (o : Outcome) : Type 0 where
   pub addr : ℕ
   pub object : ZcoObject
   pub adds : Space → ℕ
   pub fresh : IsFresh w o → thing_at w addr ≡ None
   pub inside : ((a : ℕ) → IfSome (thing_at w a) (AreInside w)) → AreInside w (things.Object object)
-  pub charge : (space : Space) → object_charge w space object ≡ adds space
+  pub sources : SourcesMove w.things object.account None (Some object) nothing nothing
+  pub charge : (space : Space) → object_charge space object ≡ adds space
   pub things : o.after.things ≡ finite.insert w.things addr (things.Object object)
   pub accounts : AccountChange w o.after object.account (ticket_of call) adds nothing nothing
   pub owes : Owes w call object.account adds nothing nothing
 
--- an object is another, of extents inside their sources, which name each source as often or more often
+-- An object is another, of extents inside their sources, which name each source as often or more often: the sources charge
+-- this more.
 pub record NewShape (w : World) (call : Call) (o : Outcome) : Type 0 where
   pub addr : ℕ
   pub old : ZcoObject
   pub new : ZcoObject
   pub adds : Space → ℕ
   pub frees : Space → ℕ
+  pub more : Space → ℕ
   pub was : object_at w addr ≡ Some old
   pub account : new.account ≡ old.account
   pub inside : AreInside w (things.Object old) → AreInside w (things.Object new)
   pub names : (source : ℕ) → naming source old.extents ≤ naming source new.extents
-  pub charge : (space : Space) → object_charge w space new + frees space ≡ object_charge w space old + adds space
+  pub sources : SourcesMove w.things old.account (Some old) (Some new) more nothing
+  pub charge : (space : Space)
+      → object_charge space new + more space + frees space ≡ object_charge space old + adds space
   pub things : o.after.things ≡ finite.insert w.things addr (things.Object new)
   pub accounts : AccountChange w o.after old.account (ticket_of call) adds frees nothing
   pub owes : Owes w call old.account adds frees nothing
@@ -144,9 +142,9 @@ pub record TakesOver (w : World) (call : Call) (o : Outcome) : Type 0 where
       ≡ finite.insert
       (finite.insert w.things (taken_at o.moves 0) (things.Source (new_source (subjects.Heap raw) (length text)))) addr
       (things.Object (with_extent old extent))
-  pub accounts : AccountChange w o.after old.account (ticket_of call) (bytes_charge spaces.Heap extent.length) nothing
+  pub accounts : AccountChange w o.after old.account (ticket_of call) (bytes_charge spaces.Heap (length text)) nothing
       nothing
-  pub owes : Owes w call old.account (bytes_charge spaces.Heap extent.length) nothing nothing
+  pub owes : Owes w call old.account (bytes_charge spaces.Heap (length text)) nothing nothing
 
 -- an object's headers and trailers are extents
 pub record Bonds (w : World) (call : Call) (o : Outcome) : Type 0 where
@@ -160,6 +158,10 @@ pub record Bonds (w : World) (call : Call) (o : Outcome) : Type 0 where
   pub accounts : AccountChange w o.after old.account (ticket_of call) (bond_charge (capsules_of old)) nothing nothing
   pub owes : Owes w call old.account (bond_charge (capsules_of old)) nothing nothing
 
+-- what is released where these extents go from an object, which goes or is another
+abbrev pub drop_release : World → ZcoObject → Option ZcoObject → List Extent → Space → ℕ
+drop_release w old new out space = charge_less old new space + sources_less w old.account out space
+
 -- extents go from an object, which goes or is another, and with them what goes with them; its queue is served
 pub record Drops (w : World) (call : Call) (o : Outcome) : Type 0 where
   pub addr : ℕ
@@ -168,13 +170,13 @@ pub record Drops (w : World) (call : Call) (o : Outcome) : Type 0 where
   pub new : Option ZcoObject
   pub was : object_at w addr ≡ Some old
   pub account : IfSome new (λ z. z.account ≡ old.account)
-  pub less : (space : Space) → charge_in w space new ≤ object_charge w space old
+  pub less : (space : Space) → charge_in space new ≤ object_charge space old
   pub parts : (source : ℕ) → naming source old.extents ≡ naming_in source new + naming source out
   pub inside : AreInside w (things.Object old) → IfSome new (λ z. AreInside w (things.Object z))
   pub things : o.after.things
       ≡ with_at (without_things w (gone_things w out out)).things addr (option_map (λ z. things.Object z) new)
-  pub accounts : AccountChange w o.after old.account (ticket_of call) nothing (charge_less w old new) nothing
-  pub owes : Owes w call old.account nothing (charge_less w old new) nothing
+  pub accounts : AccountChange w o.after old.account (ticket_of call) nothing (drop_release w old new out) nothing
+  pub owes : Owes w call old.account nothing (drop_release w old new out) nothing
 
 -- what such a call comes to
 pub data ZcoOutcome (w : World) (call : Call) (o : Outcome) : Type 0 where

@@ -31,23 +31,23 @@ zco_row w (calls.Create acct ticket) is = (create w acct ticket).comes
 zco_row w (calls.AppendExtent addr ticket named offset bytes) is = (appends w addr ticket named offset bytes).comes
 zco_row w (calls.PrependHeader addr ticket text) is =
     (adds_capsule w (calls.PrependHeader addr ticket text) addr ticket text object.with_header (λ z c. (refl, refl))
-    (header_charge w) refl (λ z was. owes_charge (λ b space. object_owes w addr z
+    header_charge refl (λ z was. owes_charge (λ b space. object_owes w addr z
     (λ z. in_space spaces.Heap (capsule_bytes (length text))) was b space) (λ b space. refl) (λ b space. refl))).comes
 zco_row w (calls.AppendTrailer addr ticket text) is =
     (adds_capsule w (calls.AppendTrailer addr ticket text) addr ticket text object.with_trailer (λ z c. (refl, refl))
-    (trailer_charge w) refl (λ z was. owes_charge (λ b space. object_owes w addr z
+    trailer_charge refl (λ z was. owes_charge (λ b space. object_owes w addr z
     (λ z. in_space spaces.Heap (capsule_bytes (length text))) was b space) (λ b space. refl) (λ b space. refl))).comes
 zco_row w (calls.DiscardFirstHeader addr) is = (found (object_at w addr) (λ none. refused) (λ z was.
     discards w (calls.DiscardFirstHeader addr) addr z (object.without_header z)
-    (slice_get z.headers 0) was refl refl (first_less w z)
+    (slice_get z.headers 0) was refl refl (first_less z)
     (owes_release (λ b space. refl)
-    (λ b space. object_owes w addr z (λ z. charge_less w z (Some (object.without_header z))) was b space)
+    (λ b space. object_owes w addr z (λ z. charge_less z (Some (object.without_header z))) was b space)
     (λ b space. refl)))).comes
 zco_row w (calls.DiscardLastTrailer addr) is = (found (object_at w addr) (λ none. refused) (λ z was.
     discards w (calls.DiscardLastTrailer addr) addr z (object.without_trailer z)
-    (object.last_capsule z.trailers) was refl refl (last_less w z)
+    (object.last_capsule z.trailers) was refl refl (last_less z)
     (owes_release (λ b space. refl)
-    (λ b space. object_owes w addr z (λ z. charge_less w z (Some (object.without_trailer z))) was b space)
+    (λ b space. object_owes w addr z (λ z. charge_less z (Some (object.without_trailer z))) was b space)
     (λ b space. refl)))).comes
 zco_row w (calls.Bond addr ticket) is = (bonding w addr ticket).comes
 zco_row w (calls.ClonePart addr ticket offset bytes) is = (clones w addr ticket offset bytes).comes

@@ -4,6 +4,7 @@ pub mod Example
 pub mod Fresh
 pub mod Marks
 pub mod MovesBlocks
+pub mod OnceExample
 pub mod Payload
 pub mod Refused
 pub mod Shows

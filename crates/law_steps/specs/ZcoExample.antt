@@ -5,8 +5,8 @@ use Rattle.sdr_base.specs.declared.account.Acct.TheVariants as accts
 use Rattle.sdr_base.specs.declared.account.Amounts.{Amounts}
 use Rattle.sdr_base.specs.declared.kind.Space.TheVariants as spaces
 use Rattle.sdr_model.specs.Accounts.{unused_account}
-use Rattle.sdr_model.specs.Amounts.{amounts_by, no_amounts}
-use Rattle.sdr_model.specs.Charges.{bytes_charge}
+use Rattle.sdr_model.specs.Amounts.{amounts_by, in_space, no_amounts}
+use Rattle.sdr_model.specs.Charges.{extent_bytes}
 use Rattle.sdr_model.specs.Charging.{with_covered}
 use Rattle.sdr_model.specs.ObjectSteps.{with_extent, with_object}
 use Rattle.sdr_model.specs.World.{World}
@@ -95,12 +95,13 @@ small_world = record {
 abbrev pub new_extent : Extent
 new_extent = record { block = 80; source = 8; offset = 0; length = 4 }
 
--- the world in which the object has gained it, under the first ticket
+-- the world in which the object has gained it, under the first ticket: it charges itself alone, as the object names the file
+-- already
 abbrev pub grown_world : World
 grown_world =
     record (with_object
     (with_covered small_world (Some (record { acct = accts.Inbound; place = 0; ticket = first_ticket }))
-    (amounts_by (bytes_charge spaces.File 4))) 32 (with_extent small_object new_extent)) {
+    (amounts_by (in_space spaces.Heap extent_bytes))) 32 (with_extent small_object new_extent)) {
       marks = 80 ∷ [];
       shown = [];
     }

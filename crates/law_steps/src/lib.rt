@@ -25,7 +25,8 @@
 //! 15. Both orders of a list's keys are total (`key_orders_are_total`).
 //!
 //! `example_meets_the_laws`, `small_world_meets_the_laws` and `fresh_world_meets_the_laws` show worlds and
-//! steps that meet what the laws ask for.
+//! steps that meet what the laws ask for. `a_source_is_charged_once` tells what objects of both accounts
+//! charge that name one file.
 //!
 //! Proved: laws of every step: a whole world stays whole (`whole_kept`); an extent's source is never gone
 //! (`sources_kept`); queues keep their order (`queues_kept`); blocks change just by the moves (`blocks_move`); a
@@ -63,4 +64,6 @@ pub use reading::reading_shows;
 pub use refused::{refused_leaves, stops_are_no_rows};
 pub use sources::sources_kept;
 pub use validity::{dry_worlds_are_valid, valid_kept, valid_kept_dry, whole_kept};
-pub use zco_example::{fresh_world_meets_the_laws, small_world_meets_the_laws};
+pub use zco_example::{
+    a_source_is_charged_once, fresh_world_meets_the_laws, small_world_meets_the_laws,
+};
