@@ -12,7 +12,6 @@ use Rattle.sdr_model.specs.World.{World}
 use Rattle.sdr_model.specs.Zco.{naming, uses_in}
 use Rattle.sdr_model.specs.declared.things.Thing.{Thing}
 use Rattle.sdr_model.specs.declared.things.Thing.TheVariants as things
-use Rattle.sdr_model.specs.declared.zco.Extent.{Extent}
 use Rattle.mem_store.specs.Charged.{charge_at, own_extents}
 use Rattle.mem_store.specs.Store.{things_in}
 use Rattle.mem_store.specs.declared.place.Place.{Place}

@@ -131,7 +131,7 @@ fn append_raw(world: &mut DraftWorld, asked: &Append) -> Result<Reply, NoMemory>
 }
 
 /// Appends a part of a source, or of a raw object, to an object. It is linear in what is in the object, and goes over
-/// all things.
+/// all things and extents.
 pub fn append_extent(world: &mut DraftWorld, asked: &Append) -> Result<Reply, NoMemory>
     requires may { MayCall world.old.now }
     ensures { CallsMemory (Call.AppendExtent asked.now.object asked.now.ticket asked.now.named

@@ -1,7 +1,6 @@
 use Rattle.std.proofs.Common.{◌≡◌, ◌∙◌, ◌+◌, ◌*◌, ap, arith, length}
 use Rattle.std.specs.List.{sum_by}
 use Rattle.sdr_base.specs.declared.kind.Space.TheVariants as spaces
-use Rattle.sdr_model.specs.Amounts.{amounts_by, in_space}
 use Rattle.sdr_model.specs.Charges.{capsule_charge}
 use Rattle.mem_parts.proofs.BoundsLemmas.{object_charge-parts}
 use Rattle.mem_parts.specs.Capped.{capped}

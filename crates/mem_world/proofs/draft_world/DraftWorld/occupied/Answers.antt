@@ -1,5 +1,4 @@
 use Rattle.std.proofs.Common.{◌≡◌, ◌+◌, ◌∙◌, ap, arith}
-use Rattle.sdr_base.specs.declared.kind.Space.{Space}
 use Rattle.sdr_model.proofs.AmountLemmas.{amount-by, same_amounts}
 use Rattle.sdr_model.specs.Accounts.{tickets_of}
 use Rattle.sdr_model.specs.Amounts.{amount}
