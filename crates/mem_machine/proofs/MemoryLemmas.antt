@@ -147,9 +147,9 @@ reached_may calls w reached = record {
 empty_bound : IsBound empty_world
 empty_bound acct space = omega (arith, none_charged, none_left acct)
   where
-    none_charged : sum_by (λ (e : ℕ × Thing). thing_charge empty_world acct space e.1) (entries empty_world.things) ≡ 0
+    none_charged : sum_by (λ (e : ℕ × Thing). thing_charge empty_world acct space e.0 e.1) (entries empty_world.things) ≡ 0
     none_charged =
-        ap (sum_by (λ (e : ℕ × Thing). thing_charge empty_world acct space e.1))
+        ap (sum_by (λ (e : ℕ × Thing). thing_charge empty_world acct space e.0 e.1))
         (nil_from_length (entries empty_world.things) (sym (len-entries empty_world.things) ∙ len-empty nat_cmp Thing))
 
     none_left : (acct : Acct) → left_in space (tickets_of empty_world.accounts acct) ≡ 0

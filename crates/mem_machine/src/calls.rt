@@ -40,9 +40,10 @@ use std::alloc::Global;
 /// thing begins is linear in the list, hash or object that has or had a block there, and in the catalogue.
 /// Calls on objects are at most linear in what is in them, and those that give bytes take the logarithm of the
 /// world for each extent. Calls that charge an account, give it back or tell what it has occupied go over all things, with
-/// what is in objects, and over its queue. `destroy`, and `strip` where it leaves out extents, go over all of that once more. `free`,
-/// `obj_ref` and an append of a raw object look at each thing for a source, and `count` and `destroy_ref` at each
-/// extent. All others take about the logarithm of the world.
+/// what is in objects, and over its queue, and take the logarithm of the world for each source, and for each extent that has
+/// another source than the one before it. `destroy`, and `strip` where it leaves out extents, go over all of that once more. `free`,
+/// `obj_ref` and an append of a raw object look at each thing for a source, and `count`, `destroy_ref` and an append of a source
+/// at each extent. All others take about the logarithm of the world.
 pub fn apply(alloc: Global, world: &mut DraftWorld, call: &Call) -> Result<Reply, NoMemory>
     requires may { MayCall world.old.now }
     ensures { CallsMemory call.now world.old world.new result }

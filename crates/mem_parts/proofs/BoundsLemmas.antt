@@ -1,15 +1,19 @@
--- Objects whose charges are small are bounded.
-use Rattle.std.proofs.Common.{◌≡◌, ◌∙◌, ap, refl, ◌≤◌, ◌+◌, ◌-◌, ◌*◌, ℕ, List, [], ◌∷◌, length, arith}
+-- Bounds of what is in objects, and what they charge.
+use Rattle.std.proofs.Common.{◌≡◌, refl, ◌≤◌, ◌+◌, ◌-◌, ◌*◌, ℕ, List, [], ◌∷◌, length, arith}
+use Rattle.std.proofs.lemmas.List.Elements.{All-head, All-tail}
 use Rattle.std.proofs.lemmas.List.Sums.{sum_by-cons, sum_by-le-sum_by}
-use Rattle.std.specs.List.{sum_by}
+use Rattle.std.specs.List.{All, sum_by}
 use Rattle.sdr_base.specs.declared.account.Amounts.{Amounts}
 use Rattle.sdr_base.specs.declared.kind.Space.{Space}
 use Rattle.sdr_base.specs.declared.kind.Space.TheVariants as spaces
 use Rattle.sdr_model.specs.BondSteps.{bond_rise}
+use Rattle.mem_parts.specs.Bounds.{EndsInTime, IsShort}
 use Rattle.mem_parts.specs.Capped.{capped, capped_by}
-use Rattle.sdr_model.specs.Charges.{bytes_charge, capsule_bytes, capsule_charge, extent_charge, object_charge, space_in}
-use Rattle.sdr_model.specs.World.{World}
-use Rattle.sdr_model.specs.Zco.{capsules_length, extents_length, source_at}
+use Rattle.sdr_model.proofs.AmountLemmas.{same_amounts}
+use Rattle.sdr_model.specs.Amounts.{amount}
+use Rattle.sdr_model.specs.Charges.{capsule_bytes, capsule_charge, object_charge}
+use Rattle.sdr_model.specs.Limits.{longest_capsule, longest_source}
+use Rattle.sdr_model.specs.Zco.{capsules_length, extents_length}
 use Rattle.sdr_model.specs.declared.zco.Capsule.{Capsule}
 use Rattle.sdr_model.specs.declared.zco.Extent.{Extent}
 use Rattle.sdr_model.specs.declared.zco.ZcoObject.{ZcoObject}
@@ -28,28 +32,24 @@ capsules_length-charged capsules =
     sum_by-le-sum_by (λ (c : Capsule). length c.text) (capsule_charge spaces.Heap) capsules
     (λ c. capsule_bytes-le (length c.text))
 
--- bytes are charged in some space
-pub bytes_charged : (of : Space) (bytes : ℕ) → bytes ≤ bytes_charge of bytes spaces.File + bytes_charge of bytes spaces.Bulk
-    + bytes_charge of bytes spaces.Heap
-bytes_charged spaces.File bytes = omega arith
-bytes_charged spaces.Bulk bytes = omega arith
-bytes_charged spaces.Heap bytes = omega arith
-
--- extents charge at least their bytes
-pub extents_length-charged : (w : World) (extents : List Extent) → extents_length extents
-    ≤ sum_by (extent_charge w spaces.File) extents + sum_by (extent_charge w spaces.Bulk) extents
-    + sum_by (extent_charge w spaces.Heap) extents
-extents_length-charged w [] = omega arith
-extents_length-charged w (e ∷ es) =
+-- extents that end in time are at most as long as the longest source each
+pub extents_length-each : (extents : List Extent) → All EndsInTime extents → extents_length extents ≤ longest_source * length extents
+extents_length-each [] ends = omega arith
+extents_length-each (e ∷ es) ends =
+    let here : e.offset + e.length ≤ longest_source = All-head EndsInTime e es ends in
     omega (
       arith,
-      extents_length-charged w es,
-      bytes_charged (space_in (source_at w e.source)) e.length,
+      here,
+      extents_length-each es (All-tail EndsInTime e es ends),
       sum_by-cons (λ (e : Extent). e.length) e es,
-      sum_by-cons (extent_charge w spaces.File) e es,
-      sum_by-cons (extent_charge w spaces.Bulk) e es,
-      sum_by-cons (extent_charge w spaces.Heap) e es,
     )
+
+-- so are short headers or trailers as the longest one
+pub capsules_length-each : (capsules : List Capsule) → All IsShort capsules → capsules_length capsules ≤ longest_capsule * length capsules
+capsules_length-each [] short = omega arith
+capsules_length-each (c ∷ cs) short =
+    let here : length c.text ≤ longest_capsule = All-head IsShort c cs short in
+    omega (arith, here, capsules_length-each cs (All-tail IsShort c cs short), sum_by-cons (λ (c : Capsule). length c.text) c cs)
 
 -- as extents, headers or trailers charge at most three times as much more as they charge
 pub rise-most : (capsules : List Capsule)
@@ -77,14 +77,12 @@ no_bulk [] = refl
 no_bulk (c ∷ cs) = omega (arith, sum_by-cons (capsule_charge spaces.Bulk) c cs, no_bulk cs)
 
 -- what an object charges, from what is in it, as far as words hold it
-pub object_charge-parts : (w : World) (z : ZcoObject) (file bulk heap : ℕ)
-    → file ≡ capped (sum_by (extent_charge w spaces.File) z.extents) → bulk ≡ capped (sum_by (extent_charge w spaces.Bulk) z.extents)
-    → heap ≡ capped (72 + sum_by (extent_charge w spaces.Heap) z.extents + sum_by (capsule_charge spaces.Heap) z.headers
-    + sum_by (capsule_charge spaces.Heap) z.trailers)
-    → amounts_of file bulk heap ≡ capped_by (λ space. object_charge w space z)
-object_charge-parts w z file bulk heap f b h =
-    ap (λ n. amounts_of n bulk heap)
-    (let same : file ≡ capped (object_charge w spaces.File z) = omega (arith, f, no_file z.headers, no_file z.trailers) in same)
-    ∙ ap (λ n. amounts_of (capped (object_charge w spaces.File z)) n heap)
-    (let same : bulk ≡ capped (object_charge w spaces.Bulk z) = omega (arith, b, no_bulk z.headers, no_bulk z.trailers) in same)
-    ∙ ap (amounts_of (capped (object_charge w spaces.File z)) (capped (object_charge w spaces.Bulk z))) h
+pub object_charge-parts : (z : ZcoObject) (heap : ℕ)
+    → heap ≡ capped (32 * length z.extents + 72 + sum_by (capsule_charge spaces.Heap) z.headers + sum_by (capsule_charge spaces.Heap) z.trailers)
+    → amounts_of 0 0 heap ≡ capped_by (λ space. object_charge space z)
+object_charge-parts z heap is = same_amounts _ _ by
+  where
+    by : (space : Space) → amount (amounts_of 0 0 heap) space ≡ amount (capped_by (λ space. object_charge space z)) space
+    by spaces.File = omega (arith, no_file z.headers, no_file z.trailers)
+    by spaces.Bulk = omega (arith, no_bulk z.headers, no_bulk z.trailers)
+    by spaces.Heap = omega (arith, is)

@@ -16,7 +16,7 @@ IsShort c = length c.text ≤ longest_capsule
 
 -- these extents have few bytes together
 abbrev pub AreFewBytes : List Extent → Type 0
-AreFewBytes extents = extents_length extents ≤ 2 ^ 42
+AreFewBytes extents = extents_length extents ≤ 2 ^ 62
 
 -- these headers or trailers have few bytes together
 abbrev pub AreFewTexts : List Capsule → Type 0

@@ -1,9 +1,5 @@
 -- What is added to an object: an extent, a header or a trailer.
 use Rattle.std.specs.Prelude.{◌≡◌, ℕ, Option, None, Some}
-use Rattle.sdr_base.specs.declared.account.Amounts.{Amounts}
-use Rattle.sdr_base.specs.declared.kind.Space.{Space}
-use Rattle.sdr_model.specs.Amounts.{amounts_by}
-use Rattle.sdr_model.specs.Charges.{capsule_charge, extent_charge}
 use Rattle.sdr_model.specs.ObjectSteps.{with_extent, with_header, with_object, with_trailer}
 use Rattle.mem_parts.specs.Bounds.{EndsInTime, IsShort}
 use Rattle.sdr_model.specs.World.{World}
@@ -22,16 +18,6 @@ abbrev pub block_of : Component → ℕ
 block_of (components.Extent e) = e.block
 block_of (components.Header c) = c.block
 block_of (components.Trailer c) = c.block
-
--- what a component charges of a space
-abbrev pub component_charge : World → Space → Component → ℕ
-component_charge w space (components.Extent e) = extent_charge w space e
-component_charge w space (components.Header c) = capsule_charge space c
-component_charge w space (components.Trailer c) = capsule_charge space c
-
--- what a component charges
-abbrev pub component_charges : World → Component → Amounts
-component_charges w component = amounts_by (λ space. component_charge w space component)
 
 -- the component keeps to the limits
 abbrev pub KeepsLimits : Component → Type 0

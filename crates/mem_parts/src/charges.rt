@@ -1,14 +1,13 @@
-// What extents, headers and trailers charge.
+// What objects and the sources that they name charge.
 ghost use Rattle.std.specs.Prelude.{◌≡◌, ◌≤◌, ◌^◌, sum_by};
 ghost use Rattle.sdr_model.specs.Amounts.{amounts_by, in_space};
 ghost use Rattle.sdr_model.specs.BondSteps.{bond_rise};
-ghost use Rattle.sdr_model.specs.Charges.{bytes_charge, capsule_bytes, capsule_charge};
+ghost use Rattle.sdr_model.specs.Charges.{bytes_charge, capsule_bytes, capsule_charge, object_charge};
 ghost use Rattle.mem_parts.specs.Capped.{capped, capped_by};
 
 use crate::capsules::capsule_bytes;
 use sdr_base::{Amounts, Space};
-use sdr_model::Capsule;
-use sdr_model::amounts::NOTHING;
+use sdr_model::{Capsule, ZcoObject};
 
 /// So many bytes of heap space.
 pub fn heap_charge(bytes: u64) -> Amounts
@@ -21,15 +20,29 @@ pub fn heap_charge(bytes: u64) -> Amounts
     }
 }
 
-/// What an extent of so many bytes charges, where they are in this space, as far as words hold it.
+/// So many bytes of a space.
+pub fn space_charge(of: Space, bytes: u64) -> Amounts
+    ensures { result ≡ capped_by (in_space of bytes) }
+{
+    let mut charge = heap_charge(0);
+    match of {
+        Space::File => charge.file = bytes,
+        Space::Bulk => charge.bulk = bytes,
+        Space::Heap => charge.heap = bytes,
+    }
+    charge
+}
+
+/// What the first extent charges of an account that names a source of so many bytes, where they are in this space.
 pub fn bytes_charge(of: Space, bytes: u64) -> Amounts
-    ensures { result ≡ capped_by (bytes_charge of bytes) }
+    requires small { bytes ≤ 2 ^ 40 }
+    ensures { result ≡ amounts_by (bytes_charge of bytes) }
 {
     let mut charge = heap_charge(32);
     match of {
         Space::File => charge.file = bytes,
         Space::Bulk => charge.bulk = bytes,
-        Space::Heap => charge.heap = bytes.saturating_add(32),
+        Space::Heap => charge.heap = bytes + 32,
     }
     charge
 }
@@ -51,6 +64,21 @@ pub fn capsules_charge(capsules: &[Capsule]) -> u64
         bytes = bytes.saturating_add(text_charge(capsule.text.as_slice().len() as u64));
     }
     bytes
+}
+
+/// What an object charges for itself, its extents, its headers and its trailers, as far as words hold it. It is linear in
+/// the headers and trailers.
+pub fn object_charge(object: &ZcoObject) -> Amounts
+    ensures { result ≡ capped_by (λ space. object_charge space object.now) }
+{
+    let extents = object.extents.len() as u64;
+    heap_charge(
+        extents
+            .saturating_mul(32)
+            .saturating_add(72)
+            .saturating_add(capsules_charge(object.headers.as_slice()))
+            .saturating_add(capsules_charge(object.trailers.as_slice())),
+    )
 }
 
 /// What these headers or trailers charge more of heap space as extents.

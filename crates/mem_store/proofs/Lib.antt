@@ -1,4 +1,5 @@
 pub mod BlocksLemmas
+pub mod ChargedLemmas
 pub mod NamesLemmas
 pub mod OwnersLemmas
 pub mod PlacesLemmas

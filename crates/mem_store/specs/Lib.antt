@@ -1,4 +1,5 @@
 pub mod Catalogue
+pub mod Charged
 pub mod Draft
 pub mod Entries
 pub mod Ledger

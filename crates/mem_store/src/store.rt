@@ -2,11 +2,14 @@
 ghost use Rattle.std.specs.Prelude.{◌≡◌, ℕ, IfOk, OnOk, OnErr, IsSome, Some, None, Contains, []};
 ghost use Rattle.std.specs.FinMap as map;
 ghost use Rattle.std.specs.Option.{option_copied};
+ghost use Rattle.mem_parts.specs.Capped.{capped_by};
 ghost use Rattle.sdr_model.specs.Things.{with_at};
+ghost use Rattle.mem_store.specs.Charged.{charged, is_used, world_of};
 ghost use Rattle.mem_store.specs.Store.{things_in, things_of};
 
+use crate::charged::{charged, is_used, mark_used};
 use crate::place::{Place, Stays, is_saved, save, settle, swap};
-use sdr_base::{Addr, NoMemory};
+use sdr_base::{Acct, Addr, Amounts, NoMemory};
 use sdr_model::Thing;
 use std::alloc::Global;
 use std::collections::BTreeMap;
@@ -21,6 +24,8 @@ pub struct Store {
     places: BTreeMap<u64, Place>,
     /// The addresses that were touched since the begin.
     touched: Vec<Addr>,
+    /// A mark for each address that was ever touched, by which `charged` notes which sources are named. Contracts don't see it.
+    marks: BTreeMap<u64, bool>,
 }
 
 impl Model for Store {
@@ -58,6 +63,7 @@ impl Store {
             alloc,
             places: BTreeMap::new(alloc),
             touched: Vec::new(alloc),
+            marks: BTreeMap::new(alloc),
         }
     }
 
@@ -76,6 +82,25 @@ impl Store {
         self.places.iter()
     }
 
+    /// Whether an extent of an account's objects names the source at an address. It goes over all things and extents, until
+    /// one does.
+    pub fn is_used(&self, source: Addr, acct: Acct) -> bool
+        ensures { result ≡ is_used (world_of self.now.now) source acct }
+    {
+        is_used(&self.places, source, acct)
+    }
+
+    /// What the objects of an account, and the sources that they name, charge it, as far as words hold it. It goes over all
+    /// things, and is linear in those, in the extents of the account's objects and in their headers and trailers, times
+    /// the logarithm of the things where an extent has another source than the one before it. It takes no memory.
+    pub fn charged(&mut self, acct: Acct) -> Amounts
+        ensures value { result ≡ capped_by (charged (world_of self.old.now) acct) }
+        ensures same { self.new ≡ self.old }
+    {
+        mark_used(&mut self.marks, &self.places, acct);
+        charged(&self.marks, &self.places, acct)
+    }
+
     /// Takes note that an address is touched, and copies what is there. Where it was touched before, this takes
     /// no memory.
     pub fn touch(&mut self, addr: Addr) -> Result<(), NoMemory>
@@ -89,6 +114,7 @@ impl Store {
             return Ok(());
         }
         self.touched.reserve(1)?;
+        self.marks.insert(addr, false)?;
         let begun = copied(self.alloc, self.get(addr))?;
         save(&mut self.places, addr, begun)?;
         self.touched.push_reserved(addr);

@@ -4,6 +4,7 @@ use Rattle.std.proofs.lemmas.List.{map-append}
 use Rattle.std.proofs.lemmas.List.Elements.{All-append, All-cons, All-head, All-nil, All-tail}
 use Rattle.std.specs.List.{All}
 use Rattle.std.specs.Prelude.{Result, IfErr, IfOk, IfSome}
+use Rattle.sdr_base.specs.declared.account.Amounts.{Amounts}
 use Rattle.sdr_base.specs.declared.refusal.Refusal.{Refusal}
 use Rattle.mem_world.specs.Allowed.{MayCharge, RefusesCharge}
 use Rattle.sdr_model.specs.Charging.{with_covered}
@@ -16,7 +17,7 @@ use Rattle.sdr_model.specs.declared.accounts.Pending.{Pending}
 use Rattle.sdr_model.specs.declared.things.UsedBlock.{UsedBlock}
 use Rattle.sdr_model.specs.declared.things.Thing.TheVariants as things
 use Rattle.sdr_model.specs.declared.zco.ZcoObject.{ZcoObject}
-use Rattle.mem_parts.specs.Components.{Grows, block_of, component_charges, with_component}
+use Rattle.mem_parts.specs.Components.{Grows, block_of, with_component}
 use Rattle.mem_parts.specs.declared.component.Component.{Component}
 use Rattle.mem_parts.specs.declared.component.Component.TheVariants as components
 use Rattle.mem_store.proofs.OwnersLemmas.{OwnsInside-raised}
@@ -74,37 +75,34 @@ owned-component owners next more k z component higher owns here = record { below
 
 -- what is told of a call that adds a component, where only notes were taken before it
 module _ (w wt : World) (k number count : ℕ) (z : ZcoObject) (component made : Component)
-    (same : wt ≡ w) (there : object_at w k ≡ Some z) (is : component ≡ made) where
+    (amounts : Amounts) (same : wt ≡ w) (there : object_at w k ≡ Some z) (is : component ≡ made) where
   -- the account refuses it
   pub refused_at : (r : Result (Option Pending) Refusal) (refusal : Refusal) → r ≡ Err refusal
-      → IfErr r (λ refusal. IfSome (object_at wt k) (λ z. RefusesCharge wt z.account number (component_charges wt component) refusal))
-      → RefusesCharge w z.account number (component_charges w made) refusal
+      → IfErr r (λ refusal. IfSome (object_at wt k) (λ z. RefusesCharge wt z.account number amounts refusal))
+      → RefusesCharge w z.account number amounts refusal
   refused_at r refusal err refused =
-      subst (λ o. IfSome o (λ z. RefusesCharge w z.account number (component_charges w made) refusal)) there
-      (subst (λ v. IfSome (object_at v k) (λ z. RefusesCharge v z.account number (component_charges v made) refusal)) same
-      (subst (λ m. IfSome (object_at wt k) (λ z. RefusesCharge wt z.account number (component_charges wt m) refusal)) is
-      (subst (λ r. IfErr r (λ refusal. IfSome (object_at wt k) (λ z. RefusesCharge wt z.account number (component_charges wt component) refusal)))
-      err refused)))
+      subst (λ o. IfSome o (λ z. RefusesCharge w z.account number amounts refusal)) there
+      (subst (λ v. IfSome (object_at v k) (λ z. RefusesCharge v z.account number amounts refusal)) same
+      (subst (λ r. IfErr r (λ refusal. IfSome (object_at wt k) (λ z. RefusesCharge wt z.account number amounts refusal)))
+      err refused))
 
   -- it may be charged
   pub allowed_at : (r : Result (Option Pending) Refusal) (p : Option Pending) → r ≡ Ok p
-      → IfOk r (λ p. IfSome (object_at wt k) (λ z. MayCharge wt z.account number (component_charges wt component) p))
-      → MayCharge w z.account number (component_charges w made) p
+      → IfOk r (λ p. IfSome (object_at wt k) (λ z. MayCharge wt z.account number amounts p))
+      → MayCharge w z.account number amounts p
   allowed_at r p ok allowed =
-      subst (λ o. IfSome o (λ z. MayCharge w z.account number (component_charges w made) p)) there
-      (subst (λ v. IfSome (object_at v k) (λ z. MayCharge v z.account number (component_charges v made) p)) same
-      (subst (λ m. IfSome (object_at wt k) (λ z. MayCharge wt z.account number (component_charges wt m) p)) is
-      (subst (λ r. IfOk r (λ p. IfSome (object_at wt k) (λ z. MayCharge wt z.account number (component_charges wt component) p)))
-      ok allowed)))
+      subst (λ o. IfSome o (λ z. MayCharge w z.account number amounts p)) there
+      (subst (λ v. IfSome (object_at v k) (λ z. MayCharge v z.account number amounts p)) same
+      (subst (λ r. IfOk r (λ p. IfSome (object_at wt k) (λ z. MayCharge wt z.account number amounts p)))
+      ok allowed))
 
   -- the object has it
   pub grown_at : (w' : World) (r : Result (Option Pending) Refusal) (p : Option Pending) → r ≡ Ok p
-      → IfOk r (λ p. Grows (object_at wt k) k component (with_blocks (with_covered wt p (component_charges wt component)) count) w')
-      → w' ≡ with_object (with_blocks (with_covered w p (component_charges w made)) count) k (with_component z made)
+      → IfOk r (λ p. Grows (object_at wt k) k component (with_blocks (with_covered wt p amounts) count) w')
+      → w' ≡ with_object (with_blocks (with_covered w p amounts) count) k (with_component z made)
   grown_at w' r p ok grows =
-      subst (λ o. Grows o k made (with_blocks (with_covered w p (component_charges w made)) count) w') there
-      (subst (λ v. Grows (object_at v k) k made (with_blocks (with_covered v p (component_charges v made)) count) w')
-      same
-      (subst (λ m. Grows (object_at wt k) k m (with_blocks (with_covered wt p (component_charges wt m)) count) w') is
-      (subst (λ r. IfOk r (λ p. Grows (object_at wt k) k component (with_blocks (with_covered wt p (component_charges wt component)) count) w'))
+      subst (λ o. Grows o k made (with_blocks (with_covered w p amounts) count) w') there
+      (subst (λ v. Grows (object_at v k) k made (with_blocks (with_covered v p amounts) count) w') same
+      (subst (λ m. Grows (object_at wt k) k m (with_blocks (with_covered wt p amounts) count) w') is
+      (subst (λ r. IfOk r (λ p. Grows (object_at wt k) k component (with_blocks (with_covered wt p amounts) count) w'))
       ok grows)))

@@ -5,5 +5,4 @@ pub mod ChargeLemmas
 pub mod KeepsLemmas
 pub mod NamedLemmas
 pub mod PassLemmas
-pub mod RunLemmas
 pub mod SumBounds

@@ -4,7 +4,7 @@ ghost use Rattle.sdr_model.specs.Charging.{with_covered};
 ghost use Rattle.sdr_model.specs.Dry.{addr_after, next_addr, with_blocks};
 ghost use Rattle.sdr_model.specs.Zco.{object_at};
 ghost use Rattle.mem_parts.specs.Bounds.{IsBounded};
-ghost use Rattle.mem_parts.specs.Components.{Grows, KeepsLimits, block_of, component_charges};
+ghost use Rattle.mem_parts.specs.Components.{Grows, KeepsLimits, block_of};
 ghost use Rattle.mem_world.specs.Allowed.{MayCharge, RefusesCharge};
 ghost use Rattle.mem_world.specs.Calling.{IsBound};
 ghost use Rattle.mem_world.specs.Keeps.{SameBegin, StayTouched};
@@ -12,23 +12,9 @@ ghost use Rattle.mem_store.specs.Owners.{IsOwned};
 
 use crate::DraftWorld;
 use crate::charging::charge_account;
-use mem_parts::charges::{bytes_charge, heap_charge, text_charge};
 use mem_parts::component::{Component, add};
 use sdr_base::{Addr, Amounts, NoMemory, Refusal};
 use sdr_model::{Pending, Thing};
-
-// What a component charges.
-fn component_charges(world: &DraftWorld, component: &Component) -> Amounts
-    requires limits { KeepsLimits component.now }
-    ensures { result ≡ component_charges world.now.now component.now }
-{
-    match component {
-        Component::Extent(extent) => bytes_charge(world.space_of(extent.source), extent.length),
-        Component::Header(capsule) | Component::Trailer(capsule) => {
-            heap_charge(text_charge(capsule.text.as_slice().len() as u64))
-        }
-    }
-}
 
 // Adds a component to the object at an address, and counts so many blocks that were taken, of which it has one, with no
 // bytes shown. Want of memory leaves the world as before.
@@ -96,13 +82,14 @@ fn take_component(
     }
 }
 
-/// Charges the account of the object at an address by a ticket, 0 for none, for a component, takes the
-/// next blocks, so many and one more, and adds the component in the last of them. Where this is
-/// refused or finds no memory, the world is as before.
+/// Charges the account of the object at an address this by a ticket, 0 for none, takes the next blocks,
+/// so many and one more, and adds a component in the last of them. Where this is refused or finds no
+/// memory, the world is as before.
 pub fn add_component(
     world: &mut DraftWorld,
     addr: Addr,
     number: u64,
+    charge: &Amounts,
     component: Component,
     before: u64,
 ) -> Result<Result<Option<Pending>, Refusal>, NoMemory>
@@ -113,17 +100,15 @@ pub fn add_component(
     requires limits { KeepsLimits component }
     requires block { block_of component ≡ addr_after world.old.now.taken before }
     ensures allowed { IfOk result (λ r. IfOk r (λ p. IfSome (object_at world.old.now addr) (λ z.
-        MayCharge world.old.now z.account number
-        (component_charges world.old.now component) p))) }
+        MayCharge world.old.now z.account number charge.now p))) }
     ensures added { IfOk result (λ r. IfOk r (λ p.
         Grows (object_at world.old.now addr) addr component
-        (with_blocks (with_covered world.old.now p (component_charges world.old.now component))
-        (before + 1)) world.new.now)) }
+        (with_blocks (with_covered world.old.now p charge.now) (before + 1)) world.new.now)) }
     ensures touched { StayTouched world.old world.new }
     ensures keeps { SameBegin world.old world.new }
     ensures refused { IfOk result (λ r. IfErr r (λ refusal.
-        IfSome (object_at world.old.now addr) (λ z. RefusesCharge world.old.now z.account number
-        (component_charges world.old.now component) refusal))) }
+        IfSome (object_at world.old.now addr) (λ z.
+        RefusesCharge world.old.now z.account number charge.now refusal))) }
     ensures same { IfOk result (λ r. OnErr r (world.new.now ≡ world.old.now)) }
     ensures err { OnErr result (world.new.now ≡ world.old.now) }
 {
@@ -131,8 +116,7 @@ pub fn add_component(
         unreachable!()
     };
     let acct = object.account;
-    let charge = component_charges(world, &component);
-    let granted = match charge_account(world, acct, number, &charge)? {
+    let granted = match charge_account(world, acct, number, charge)? {
         Ok(granted) => granted,
         Err(refusal) => return Ok(Err(refusal)),
     };

@@ -7,7 +7,7 @@
 //! 3. Sums over all things and what names a source or a raw object are found where they are asked for, in one pass.
 //!
 //! Proved: by the invariant of `DraftWorld` things own the blocks inside them (`AllOwnInside`). Blocks, charges,
-//! rooms, uses and the source of a raw object are found as defined (`block`, `charged`, `room`, `uses`,
+//! rooms, uses and the source of a raw object are found as defined (`block`, `occupied`, `room`, `uses`,
 //! `source_naming`). `roll_back` gives the world at begin. A charge is allowed or refused as the account says, and given back
 //! where nothing comes of it (`allowed`, `refused`, `same`, `err`). Requests, components and what goes with extents are as defined.
 #![tactic(auto)]

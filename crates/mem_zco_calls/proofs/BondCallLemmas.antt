@@ -6,18 +6,18 @@ use Rattle.std.proofs.lemmas.List.Sums.{sum_by-append, sum_by-cons}
 use Rattle.std.specs.FinMap.{get}
 use Rattle.std.specs.List.{All, sum_by}
 use Rattle.sdr_base.specs.declared.account.Amounts.{Amounts}
-use Rattle.sdr_base.specs.declared.kind.Space.{Space}
 use Rattle.sdr_base.specs.declared.kind.Space.TheVariants as spaces
 use Rattle.mem_world.proofs.SumBounds.{object_charge-small}
-use Rattle.mem_world.specs.Calling.{IsBound}
+use Rattle.mem_world.proofs.CallingLemmas.{bounded_object, valid_object}
+use Rattle.mem_world.specs.Calling.{IsBound, MayCall}
 use Rattle.sdr_model.proofs.FewLemmas.{few_of_object, object_is}
-use Rattle.sdr_model.specs.Accounts.{most_amount}
 use Rattle.sdr_model.specs.Amounts.{amounts_by, in_space}
 use Rattle.sdr_model.specs.BondSteps.{bond_charge, bond_extents, bond_rise, bonded, bonded_extents, capsules_of}
-use Rattle.sdr_model.specs.Charges.{capsule_charge, object_charge}
+use Rattle.sdr_model.specs.Charges.{capsule_charge}
 use Rattle.sdr_model.specs.Few.{HasFewPieces, most_pieces}
 use Rattle.sdr_model.specs.ObjectSteps.{wire_length}
 use Rattle.sdr_model.specs.Things.{Owners, block_for_extent, inner_blocks}
+use Rattle.sdr_model.specs.Valid.{IsValidCapsule, IsValidObject}
 use Rattle.sdr_model.specs.World.{World, thing_at}
 use Rattle.sdr_model.specs.Zco.{capsules_length, extents_length, object_at}
 use Rattle.sdr_model.specs.declared.things.UsedBlock.{UsedBlock}
@@ -25,7 +25,8 @@ use Rattle.sdr_model.specs.declared.things.Thing.TheVariants as things
 use Rattle.sdr_model.specs.declared.zco.Capsule.{Capsule}
 use Rattle.sdr_model.specs.declared.zco.Extent.{Extent}
 use Rattle.sdr_model.specs.declared.zco.ZcoObject.{ZcoObject}
-use Rattle.mem_parts.proofs.BoundsLemmas.{capsules_length-charged, extents_length-charged}
+use Rattle.mem_parts.proofs.BoundsLemmas.{capsules_length-each, extents_length-each}
+use Rattle.mem_parts.specs.Bounds.{IsShort}
 use Rattle.mem_store.specs.Owners.{IsOwned, Owns, OwnsInside}
 use Rattle.mem_zco_calls.proofs.InsideLemmas.{all_blocks, extents_of}
 
@@ -67,25 +68,27 @@ extents_length-bond at z =
       extents_length-bonded at (3 * length z.headers) z.trailers,
     )
 
--- the bytes of an object are few, and so is what its headers and trailers charge
-module _ (w : World) (bound : IsBound w) (addr : ℕ) (z : ZcoObject) (is : object_at w addr ≡ Some z) where
-  small : (space : Space) → object_charge w space z ≤ most_amount
-  small = object_charge-small w bound addr z (object_is (thing_at w addr) z is)
+-- the bytes of an object are few
+pub wire-small : (w : World) (may : MayCall w) (addr : ℕ) (z : ZcoObject) → object_at w addr ≡ Some z → wire_length z ≤ 2 ^ 62
+wire-small w may addr z is =
+    let valid : IsValidObject z = valid_object w may addr z is in
+    omega (
+      arith,
+      capsules_length-each z.headers (All-weaker IsValidCapsule IsShort (λ c short. short.1) z.headers valid.headers),
+      extents_length-each z.extents (bounded_object w may addr z is).ends,
+      capsules_length-each z.trailers (All-weaker IsValidCapsule IsShort (λ c short. short.1) z.trailers valid.trailers),
+      few_of_object most_pieces w addr z may.few is,
+    )
 
-  pub wire-small : wire_length z ≤ 2 ^ 42
-  wire-small =
-      omega (
-        arith,
-        capsules_length-charged z.headers,
-        capsules_length-charged z.trailers,
-        extents_length-charged w z.extents,
-        small spaces.File,
-        small spaces.Bulk,
-        small spaces.Heap,
-      )
-
-  pub capsules-small : sum_by (capsule_charge spaces.Heap) (capsules_of z) ≤ 2 ^ 41
-  capsules-small = omega (arith, small spaces.Heap, sum_by-append (capsule_charge spaces.Heap) z.headers z.trailers)
+-- so is what its headers and trailers charge
+pub capsules-small : (w : World) (addr : ℕ) (z : ZcoObject) → IsBound w → object_at w addr ≡ Some z
+    → sum_by (capsule_charge spaces.Heap) (capsules_of z) ≤ 2 ^ 41
+capsules-small w addr z bound is =
+    omega (
+      arith,
+      object_charge-small w bound addr z (object_is (thing_at w addr) z is) spaces.Heap,
+      sum_by-append (capsule_charge spaces.Heap) z.headers z.trailers,
+    )
 
 -- they are few
 pub capsules-few : (w : World) (addr : ℕ) (z : ZcoObject) → HasFewPieces most_pieces w.things → object_at w addr ≡ Some z

@@ -2,8 +2,11 @@
 use Rattle.std.proofs.Common.{◌≡◌, ◌≤◌, ◌∷◌, [], ℕ, List, Some, false, ◌||◌, ap, sym, ◌∙◌, refl, subst, length}
 use Rattle.std.proofs.lemmas.Bool.{le-ltb}
 use Rattle.std.specs.Prelude.{MatchBool, nat_lt}
+use Rattle.sdr_base.specs.declared.kind.Space.TheVariants as spaces
 use Rattle.sdr_base.specs.declared.moves.Move.TheVariants.{Took}
 use Rattle.sdr_base.specs.declared.refusal.Refusal.TheVariants as refusals
+use Rattle.sdr_model.specs.Amounts.{in_space}
+use Rattle.sdr_model.specs.Charges.{capsule_bytes}
 use Rattle.sdr_model.specs.Dry.{dry_moves, next_addr}
 use Rattle.sdr_model.specs.Limits.{is_no_capsule, longest_capsule}
 use Rattle.sdr_model.specs.Rows.{ByRow}
@@ -31,7 +34,7 @@ module _ (side : Side) (w : World) (k number : ℕ) (text : List ℕ) where
 
   -- the row of the call that adds it, where the text may be one
   pub capsule-row : (z : ZcoObject) → object_at w k ≡ Some z → is_no_capsule (length text) ≡ false → (o : Outcome)
-      → ChargesComponent w k number (capsule_need (length text)) z capsule_in o
+      → ChargesComponent w k number (capsule_need (length text)) (in_space spaces.Heap (capsule_bytes (length text))) z capsule_in o
       → ByRow w o (capsule_call side k number text)
   capsule-row z there some o charges = by side charges
     where
@@ -44,7 +47,7 @@ module _ (side : Side) (w : World) (k number : ℕ) (text : List ℕ) where
 
       Charged : Side → ZcoObject → Type 0
       Charged side z =
-          ChargesComponent w k number (capsule_need (length text)) z
+          ChargesComponent w k number (capsule_need (length text)) (in_space spaces.Heap (capsule_bytes (length text))) z
           (λ block. component_on side (record { block = block; text = text })) o
 
       by : (side : Side) → Charged side z → ByRow w o (capsule_call side k number text)

@@ -11,8 +11,8 @@ use Rattle.sdr_base.specs.declared.kind.Space.TheVariants as spaces
 use Rattle.sdr_base.specs.declared.refusal.Refusal.{Refusal}
 use Rattle.sdr_model.specs.Accounts.{most_amount}
 use Rattle.sdr_model.specs.declared.accounts.Pending.{Pending}
-use Rattle.sdr_model.specs.Amounts.{amounts_by}
-use Rattle.sdr_model.specs.Charges.{object_charge}
+use Rattle.sdr_model.specs.Amounts.{amounts_by, in_space}
+use Rattle.sdr_model.specs.Charges.{extent_bytes, object_bytes, object_charge}
 use Rattle.sdr_model.specs.Charging.{Charges, with_covered}
 use Rattle.sdr_model.specs.Cuts.{cut_all, placed}
 use Rattle.sdr_model.specs.Dry.{StepsDry, addr_after, dry_moves, next_addr, with_blocks}
@@ -34,12 +34,11 @@ use Rattle.sdr_model.specs.declared.zco.ZcoObject.{ZcoObject}
 use Rattle.mem_world.proofs.SumBounds.{object_charge-small}
 use Rattle.mem_world.specs.Calling.{IsBound}
 use Rattle.sdr_model.proofs.Cases.{on_false}
-use Rattle.sdr_model.proofs.FewLemmas.{length-placed, object_is}
+use Rattle.sdr_model.proofs.FewLemmas.{length-cut_all, length-placed, object_is}
 use Rattle.mem_parts.proofs.CappedLemmas.{capped-small}
 use Rattle.mem_parts.specs.Capped.{capped_by}
 use Rattle.mem_store.proofs.TakenLemmas.{Agree, addr_after-next, clone-agree, clone-blocks, clone-in_order, clone-taken, placed-agree, run}
 use Rattle.mem_zco_calls.proofs.BlockCallLemmas.{IsAllowed, IsRefused, IsTaken, allowed-at, blocks-step, blocks-used, counted-at, owned-at, refused-at, same-at, taken-at, taken-used}
-use Rattle.mem_zco_calls.proofs.CutLemmas.{cut_all-charge, placed-charge}
 use Rattle.mem_zco_calls.proofs.ObjectCallLemmas.{charged-refused}
 use Rattle.mem_zco_calls.proofs.InsideLemmas.{all_blocks}
 
@@ -52,19 +51,20 @@ placed-next taken next es is =
     (let same : next + 8 * i ≡ next_addr (taken + i) = omega (arith, is) in same) ∙ sym (addr_after-next taken i))
 
 -- a clone charges what its extents do, wherever their blocks are, which is no more than what it is a part of charges
-clone-charge : (w : World) (acct : Acct) (at : ℕ → ℕ) (from to : ℕ) (z : ZcoObject)
-    → ((space : Space) → object_charge w space z ≤ most_amount)
-    → capped_by (λ space. object_charge w space (object_of acct (placed at 1 (cut_all from to z.extents))))
-    ≡ amounts_by (λ space. object_charge w space (object_of acct (cut_all from to z.extents)))
-clone-charge w acct at from to z small =
+clone-charge : (acct : Acct) (at : ℕ → ℕ) (from to : ℕ) (z : ZcoObject) → ((space : Space) → object_charge space z ≤ most_amount)
+    → capped_by (λ space. object_charge space (object_of acct (placed at 1 (cut_all from to z.extents))))
+    ≡ amounts_by (λ space. object_charge space (object_of acct (cut_all from to z.extents)))
+clone-charge acct at from to z small =
     let es = cut_all from to z.extents in
-    capped-small (λ space. object_charge w space (object_of acct (placed at 1 es)))
-    (λ space. omega (arith, small space, placed-charge w space at 1 es, cut_all-charge w space from to z.extents))
-    ∙ λ i. record { file = same spaces.File i; bulk = same spaces.Bulk i; heap = same spaces.Heap i }
+    capped-small (λ space. object_charge space (object_of acct (placed at 1 es))) most
+    ∙ ap (λ n. amounts_by (λ space. in_space spaces.Heap object_bytes space + in_space spaces.Heap (extent_bytes * n) space + 0 + 0))
+    (length-placed at 1 es)
   where
-    same : (space : Space) → let es = cut_all from to z.extents in
-        object_charge w space (object_of acct (placed at 1 es)) ≡ object_charge w space (object_of acct es)
-    same space = omega (arith, placed-charge w space at 1 (cut_all from to z.extents))
+    most : (space : Space) → object_charge space (object_of acct (placed at 1 (cut_all from to z.extents))) ≤ 9223372036854775808
+    most spaces.File = omega arith
+    most spaces.Bulk = omega arith
+    most spaces.Heap =
+        omega (arith, small spaces.Heap, length-placed at 1 (cut_all from to z.extents), length-cut_all from to z.extents)
 
 -- extents whose blocks are owned
 owns-placed : (owners : Owners) (next owner k end : ℕ) (at : ℕ → ℕ) (es : List Extent) → k + length es ≤ end
@@ -83,7 +83,7 @@ module _ (w wn wb : World) (r : Result (Option Pending) Refusal) (same : wn ≡ 
     (here : made ≡ next_addr w.taken)
     (made_so : clone ≡ object_of z.account (placed (λ i. made + 8 * i) 1 (asked_extents z offset bytes)))
     (size : n ≡ 1 + length clone.extents)
-    (charged : amounts ≡ capped_by (λ space. object_charge w space clone)) where
+    (charged : amounts ≡ capped_by (λ space. object_charge space clone)) where
   abbrev call : Call
   call = calls.ClonePart k number offset bytes
 
@@ -91,7 +91,7 @@ module _ (w wn wb : World) (r : Result (Option Pending) Refusal) (same : wn ≡ 
   extents = asked_extents z offset bytes
 
   abbrev charge : Space → ℕ
-  charge space = object_charge w space (object_of z.account extents)
+  charge space = object_charge space (object_of z.account extents)
 
   abbrev with_clone : World → (ℕ → ℕ) → World
   with_clone used at = with_object used (at 0) (object_of z.account (placed at 1 extents))
@@ -104,8 +104,8 @@ module _ (w wn wb : World) (r : Result (Option Pending) Refusal) (same : wn ≡ 
 
   is : amounts ≡ amounts_by charge
   is =
-      charged ∙ ap (λ y. capped_by (λ space. object_charge w space y)) object
-      ∙ clone-charge w z.account (addr_after w.taken) (z.part.offset + offset) (z.part.offset + offset + bytes) z
+      charged ∙ ap (λ y. capped_by (λ space. object_charge space y)) object
+      ∙ clone-charge z.account (addr_after w.taken) (z.part.offset + offset) (z.part.offset + offset + bytes) z
       (object_charge-small w bound k z (object_is (thing_at w k) z (sym there)))
 
   row : (o : Outcome)
@@ -114,7 +114,7 @@ module _ (w wn wb : World) (r : Result (Option Pending) Refusal) (same : wn ≡ 
   row o charges =
       subst (λ t. On w o k t (λ z. InRange w o offset bytes z.part.length
       (let extents = asked_extents z offset bytes in
-      Charges w o z.account number (λ space. object_charge w space (object_of z.account extents)) (λ used.
+      Charges w o z.account number (λ space. object_charge space (object_of z.account extents)) (λ used.
       DoesWith w o (λ at. clone_moves at extents)
       (λ at. with_object used (at 0) (object_of z.account (placed at 1 extents)))
       (λ at. replies.At (at 0)))))) there

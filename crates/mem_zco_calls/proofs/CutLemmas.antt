@@ -2,14 +2,10 @@
 use Rattle.std.proofs.Common.{◌≡◌, ◌≤◌, ◌+◌, ◌-◌, ◌==◌, ℕ, suc, List, [], ◌∷◌, Bool, true, false, ap, sym, ◌∙◌, refl, cond, arith, map}
 use Rattle.std.proofs.lemmas.List.Elements.{All-cons, All-head, All-nil, All-tail}
 use Rattle.std.proofs.lemmas.List.Sums.{sum_by-cons}
-use Rattle.std.specs.List.{All, sum_by}
-use Rattle.sdr_base.specs.declared.kind.Space.{Space}
-use Rattle.sdr_base.specs.declared.kind.Space.TheVariants as spaces
-use Rattle.sdr_model.specs.Charges.{bytes_charge, extent_charge, space_in}
+use Rattle.std.specs.List.{All}
 use Rattle.sdr_model.specs.Cuts.{cut, cut_all, left_out, placed}
 use Rattle.sdr_model.specs.Things.{block_for_extent}
-use Rattle.sdr_model.specs.World.{World}
-use Rattle.sdr_model.specs.Zco.{extents_length, naming, source_at}
+use Rattle.sdr_model.specs.Zco.{extents_length, naming}
 use Rattle.sdr_model.specs.declared.things.UsedBlock.{UsedBlock}
 use Rattle.sdr_model.specs.declared.zco.Extent.{Extent}
 
@@ -71,48 +67,7 @@ length-cut from to (e ∷ es) =
           sum_by-cons (λ (x : Extent). x.length) (cut from to e) rest,
         )
 
--- fewer bytes charge no more
-bytes_charge-less : (of space : Space) (less more : ℕ) → less ≤ more → bytes_charge of less space ≤ bytes_charge of more space
-bytes_charge-less spaces.File spaces.File less more le = omega (arith, le)
-bytes_charge-less spaces.File spaces.Bulk less more le = omega arith
-bytes_charge-less spaces.File spaces.Heap less more le = omega arith
-bytes_charge-less spaces.Bulk spaces.File less more le = omega arith
-bytes_charge-less spaces.Bulk spaces.Bulk less more le = omega (arith, le)
-bytes_charge-less spaces.Bulk spaces.Heap less more le = omega arith
-bytes_charge-less spaces.Heap spaces.File less more le = omega arith
-bytes_charge-less spaces.Heap spaces.Bulk less more le = omega arith
-bytes_charge-less spaces.Heap spaces.Heap less more le = omega (arith, le)
-
--- cut extents charge no more
-pub cut_all-charge : (w : World) (space : Space) (from to : ℕ) (es : List Extent)
-    → sum_by (extent_charge w space) (cut_all from to es) ≤ sum_by (extent_charge w space) es
-cut_all-charge w space from to [] = omega arith
-cut_all-charge w space from to (e ∷ es) =
-    kept ((cut from to e).length == 0) (cut_all-charge w space (from - e.length) (to - e.length) es)
-  where
-    kept : (b : Bool) → sum_by (extent_charge w space) (cut_all (from - e.length) (to - e.length) es) ≤ sum_by (extent_charge w space) es
-        → sum_by (extent_charge w space)
-        (cond b (cut_all (from - e.length) (to - e.length) es) (cut from to e ∷ cut_all (from - e.length) (to - e.length) es))
-        ≤ sum_by (extent_charge w space) (e ∷ es)
-    kept true rest = omega (arith, rest, sum_by-cons (extent_charge w space) e es)
-    kept false rest =
-        omega (
-          arith,
-          rest,
-          sum_by-cons (extent_charge w space) e es,
-          sum_by-cons (extent_charge w space) (cut from to e) (cut_all (from - e.length) (to - e.length) es),
-          bytes_charge-less (space_in (source_at w e.source)) space (cut from to e).length e.length (omega arith),
-        )
-
--- extents in blocks of their own charge the same, and have as many bytes
-pub placed-charge : (w : World) (space : Space) (at : ℕ → ℕ) (k : ℕ) (es : List Extent)
-    → sum_by (extent_charge w space) (placed at k es) ≡ sum_by (extent_charge w space) es
-placed-charge w space at k [] = refl
-placed-charge w space at k (e ∷ es) =
-    sum_by-cons (extent_charge w space) (record e { block = at k }) (placed at (suc k) es)
-    ∙ ap (λ n. extent_charge w space e + n) (placed-charge w space at (suc k) es)
-    ∙ sym (sum_by-cons (extent_charge w space) e es)
-
+-- extents in blocks of their own have as many bytes
 pub placed-length : (at : ℕ → ℕ) (k : ℕ) (es : List Extent) → extents_length (placed at k es) ≡ extents_length es
 placed-length at k [] = refl
 placed-length at k (e ∷ es) =

@@ -1,8 +1,8 @@
 -- Objects that get an extent of a source.
-use Rattle.std.proofs.Common.{◌≡◌, ◌+◌, ◌==◌, ℕ, Some, false, ◌||◌, Option, sym, subst}
+use Rattle.std.proofs.Common.{◌≡◌, ◌+◌, ◌==◌, ℕ, Some, false, ◌||◌, sym, subst}
 use Rattle.std.specs.Prelude.{MatchBool, MatchOption, nat_lt}
 use Rattle.sdr_base.specs.declared.refusal.Refusal.TheVariants as refusals
-use Rattle.sdr_model.specs.Charges.{bytes_charge, space_in}
+use Rattle.sdr_model.specs.Charges.{use_charge}
 use Rattle.sdr_model.specs.Charging.{Charges}
 use Rattle.sdr_model.specs.ObjectSteps.{AppendsRaw, AppendsSource, InRange, with_extent, with_object}
 use Rattle.sdr_model.specs.Rows.{ByRow}
@@ -26,7 +26,7 @@ module _ (w : World) (k number named offset bytes : ℕ) where
   -- the row of an append of a part of a source that isn't flagged, where the range is within it
   pub append-row : (z : ZcoObject) (s : ZcoSource) → object_at w k ≡ Some z → source_at w named ≡ Some s → s.flagged ≡ false
       → (bytes == 0 || nat_lt s.length (offset + bytes)) ≡ false → (o : Outcome)
-      → ChargesComponent w k number extent_need z extent_in o
+      → ChargesComponent w k number extent_need (use_charge w z.account named s) z extent_in o
       → ByRow w o (calls.AppendExtent k number named offset bytes)
   append-row z s there source kept inside o charges =
       subst (λ t. On w o k t (λ z. MatchOption (source_at w named)
@@ -36,14 +36,11 @@ module _ (w : World) (k number named offset bytes : ℕ) where
       (λ s. AppendsSource w o k z number named s offset bytes)) (sym source)
       (subst (λ b. MatchBool b (Refuses w o refusals.NotFound) (InRange w o offset bytes s.length goes)) (sym kept)
       (subst (λ b. MatchBool b (Refuses w o (refusals.BadRange offset bytes s.length)) goes) (sym inside)
-      (subst Goes source charges))))
+      charges)))
     where
-      Goes : Option ZcoSource → Type 0
-      Goes t =
-          Charges w o z.account number (bytes_charge (space_in t) bytes) (λ used.
+      goes : Type 0
+      goes =
+          Charges w o z.account number (use_charge w z.account named s) (λ used.
           Takes w o extent_need
           (λ block. with_object used k (with_extent z (record { block = block; source = named; offset = offset; length = bytes })))
           (λ block. replies.Done))
-
-      goes : Type 0
-      goes = Goes (Some s)

@@ -23,7 +23,7 @@ use Rattle.sdr_model.specs.declared.answer.Reply.{Reply}
 use Rattle.sdr_model.specs.declared.answer.Reply.TheVariants as replies
 use Rattle.sdr_model.specs.declared.call.Call.{Call}
 use Rattle.sdr_model.specs.declared.zco.ZcoObject.{ZcoObject}
-use Rattle.mem_parts.specs.Components.{Grows, component_charge, component_charges, with_component}
+use Rattle.mem_parts.specs.Components.{Grows, with_component}
 use Rattle.mem_parts.specs.declared.component.Component.{Component}
 
 -- a charge and blocks leave the things
@@ -86,34 +86,33 @@ one-step w w' call acct number need charge amounts at object reply row is p may 
     (refl, (ap (λ (v : World). record v { taken = w.taken }) put ∙ put_one w p amounts (at addr) (object addr), refl))
 
 -- what a call charges that puts one more component in an object, which has a block of its own
-abbrev pub ChargesComponent : World → ℕ → ℕ → ℕ → ZcoObject → (ℕ → Component) → Outcome → Type 0
-ChargesComponent w k number need z made o =
-    Charges w o z.account number (λ space. component_charge w space (made (next_addr w.taken))) (λ used.
+abbrev pub ChargesComponent : World → ℕ → ℕ → ℕ → (Space → ℕ) → ZcoObject → (ℕ → Component) → Outcome → Type 0
+ChargesComponent w k number need charge z made o =
+    Charges w o z.account number charge (λ used.
     Takes w o need (λ block. with_object used k (with_component z (made block))) (λ block. replies.Done))
 
 -- such a call
-module _ (w w' : World) (call : Call) (k number need : ℕ) (z : ZcoObject) (made : ℕ → Component) (component : Component)
-    (row : (o : Outcome) → ChargesComponent w k number need z made o → ByRow w o call) (there : object_at w k ≡ Some z)
-    (is : component ≡ made (next_addr w.taken)) where
+module _ (w w' : World) (call : Call) (k number need : ℕ) (charge : Space → ℕ) (amounts : Amounts) (z : ZcoObject)
+    (made : ℕ → Component) (component : Component)
+    (row : (o : Outcome) → ChargesComponent w k number need charge z made o → ByRow w o call) (sum : amounts ≡ amounts_by charge)
+    (there : object_at w k ≡ Some z) (is : component ≡ made (next_addr w.taken)) where
   -- the account refuses it
   pub component-refused : (r : Result (Option Pending) Refusal) (refusal : Refusal) → r ≡ Err refusal
-      → IfErr r (λ refusal. IfSome (object_at w k) (λ z. RefusesCharge w z.account number (component_charges w component) refusal))
+      → IfErr r (λ refusal. IfSome (object_at w k) (λ z. RefusesCharge w z.account number amounts refusal))
       → OnErr r (w' ≡ w) → StepsDry w call [] w' (replies.Refused refusal)
   component-refused r refusal err refuses same =
-      let of : Component = made (next_addr w.taken) in
-      charged-refused w w' call z.account number (λ space. component_charge w space of) (component_charges w of)
-      (λ o used. Takes w o need (λ block. with_object used k (with_component z (made block))) (λ block. replies.Done)) row refl refusal
-      (refused_at w w k number 1 z component of refl there is r refusal err refuses)
+      charged-refused w w' call z.account number charge amounts
+      (λ o used. Takes w o need (λ block. with_object used k (with_component z (made block))) (λ block. replies.Done)) row sum refusal
+      (refused_at w w k number 1 z component (made (next_addr w.taken)) amounts refl there is r refusal err refuses)
       (subst (λ r. OnErr r (w' ≡ w)) err same)
 
   -- it is charged
   pub component-step : (r : Result (Option Pending) Refusal) (p : Option Pending) → r ≡ Ok p
-      → IfOk r (λ p. IfSome (object_at w k) (λ z. MayCharge w z.account number (component_charges w component) p))
-      → IfOk r (λ p. Grows (object_at w k) k component (with_blocks (with_covered w p (component_charges w component)) 1) w')
+      → IfOk r (λ p. IfSome (object_at w k) (λ z. MayCharge w z.account number amounts p))
+      → IfOk r (λ p. Grows (object_at w k) k component (with_blocks (with_covered w p amounts) 1) w')
       → StepsDry w call (Took need (next_addr w.taken) ∷ []) w' replies.Done
   component-step r p ok may added =
-      let of : Component = made (next_addr w.taken) in
-      one-step w w' call z.account number need (λ space. component_charge w space of) (component_charges w of)
-      (λ block. k) (λ block. with_component z (made block)) (λ block. replies.Done) row refl p
-      (allowed_at w w k number 1 z component of refl there is r p ok may)
-      (grown_at w w k number 1 z component of refl there is w' r p ok added)
+      one-step w w' call z.account number need charge amounts
+      (λ block. k) (λ block. with_component z (made block)) (λ block. replies.Done) row sum p
+      (allowed_at w w k number 1 z component (made (next_addr w.taken)) amounts refl there is r p ok may)
+      (grown_at w w k number 1 z component (made (next_addr w.taken)) amounts refl there is w' r p ok added)

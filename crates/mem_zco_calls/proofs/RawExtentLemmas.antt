@@ -83,10 +83,10 @@ module _ (w : World) (k number named offset bytes : ℕ) (z : ZcoObject) (text :
   module _ (there : object_at w k ≡ Some z) (none : source_at w named ≡ None) (raw : as_raw (thing_at w named) ≡ Some text)
       (unnamed : source_naming w named ≡ None) (inside : (bytes == 0 || nat_lt (length text) (offset + bytes)) ≡ false) where
     -- its row
-    pub raw-row : (o : Outcome) → Charges w o z.account number (bytes_charge spaces.Heap bytes) (AppendsAt o)
+    pub raw-row : (o : Outcome) → Charges w o z.account number (bytes_charge spaces.Heap (length text)) (AppendsAt o)
         → ByRow w o (calls.AppendExtent k number named offset bytes)
     raw-row o charges =
-        let goes : Type 0 = Charges w o z.account number (bytes_charge spaces.Heap bytes) (AppendsAt o) in
+        let goes : Type 0 = Charges w o z.account number (bytes_charge spaces.Heap (length text)) (AppendsAt o) in
         subst (λ t. On w o k t (λ z. MatchOption (source_at w named)
         (On w o named (as_raw (thing_at w named)) (λ text. AppendsRaw w o k z number named text offset bytes))
         (λ s. AppendsSource w o k z number named s offset bytes))) (sym there)
@@ -98,7 +98,7 @@ module _ (w : World) (k number named offset bytes : ℕ) (z : ZcoObject) (text :
         (subst (λ b. MatchBool b (Refuses w o (refusals.BadRange offset bytes (length text))) goes) (sym inside) charges))))
 
     -- it is charged, and the source is put behind the object
-    pub raw-step : (w' : World) (p : Option Pending) (amounts : Amounts) → amounts ≡ amounts_by (bytes_charge spaces.Heap bytes)
+    pub raw-step : (w' : World) (p : Option Pending) (amounts : Amounts) → amounts ≡ amounts_by (bytes_charge spaces.Heap (length text))
         → MayCharge w z.account number amounts p
         → let src = next_addr w.taken in get w.things src ≡ None
         → w' ≡ with_thing (with_object (with_blocks (with_covered w p amounts) 2) k (extended src (next_addr (w.taken + 1)))) src taking
@@ -114,7 +114,7 @@ module _ (w : World) (k number named offset bytes : ℕ) (z : ZcoObject) (text :
         ∙ made_behind charged k src z object taking (ap as_object (thing_at-blocks w p amounts 2 k) ∙ there)
         (thing_at-blocks w p amounts 2 src ∙ fresh) in
         subst (λ moves. StepsDry w call moves w' replies.Done) (sym (ap (λ t. append_moves t (addr_after w.taken)) none))
-        (charged-step w w' call z.account number (bytes_charge spaces.Heap bytes) amounts AppendsAt raw-row is p
+        (charged-step w w' call z.account number (bytes_charge spaces.Heap (length text)) amounts AppendsAt raw-row is p
         (raw_append_moves (addr_after w.taken)) replies.Done may (refl, (refl, tt))
         (ap (λ (v : World). v.taken) after ∙ taken_two w p amounts k src object taking)
         (refl, ap (λ (v : World). record v { taken = w.taken }) after ∙ put_two w p amounts k src object taking, refl))

@@ -7,10 +7,11 @@ ghost use Rattle.mem_parts.specs.declared.component.Component.TheVariants as com
 
 use crate::object_calls::object;
 use mem_calls::raw_calls::{exceeds, in_use, misnamed};
+use mem_parts::charges::bytes_charge;
 use mem_parts::component::Component;
 use mem_world::DraftWorld;
 use mem_world::growing::add_component;
-use sdr_base::{Addr, NoMemory, Refusal};
+use sdr_base::{Addr, NoMemory, Refusal, Space};
 use sdr_model::{Call, Extent, Reply, Subject, Thing, ZcoSource};
 
 /// An append that is asked.
@@ -81,8 +82,12 @@ fn append_source(world: &mut DraftWorld, asked: &Append) -> Result<Reply, NoMemo
     if is_outside(asked.offset, asked.bytes, source.length) {
         return Ok(asked.bad_range(source.length));
     }
+    let Some(object) = world.object(asked.object) else {
+        unreachable!()
+    };
+    let charge = world.use_charge(object.account, asked.named, source);
     let extent = asked.extent(world.next(), asked.named);
-    match add_component(world, asked.object, asked.ticket, extent, 0)? {
+    match add_component(world, asked.object, asked.ticket, &charge, extent, 0)? {
         Ok(_) => Ok(Reply::Done),
         Err(refusal) => Ok(Reply::Refused(refusal)),
     }
@@ -115,7 +120,8 @@ fn append_raw(world: &mut DraftWorld, asked: &Append) -> Result<Reply, NoMemory>
         length,
         flagged: false,
     };
-    match add_component(world, asked.object, asked.ticket, extent, 1)? {
+    let charge = bytes_charge(Space::Heap, length);
+    match add_component(world, asked.object, asked.ticket, &charge, extent, 1)? {
         Ok(_) => {
             world.put(source, Thing::Source(taking));
             Ok(Reply::Done)
@@ -125,7 +131,7 @@ fn append_raw(world: &mut DraftWorld, asked: &Append) -> Result<Reply, NoMemory>
 }
 
 /// Appends a part of a source, or of a raw object, to an object. It is linear in what is in the object, and goes over
-/// all things.
+/// all things and extents.
 pub fn append_extent(world: &mut DraftWorld, asked: &Append) -> Result<Reply, NoMemory>
     requires may { MayCall world.old.now }
     ensures { CallsMemory (Call.AppendExtent asked.now.object asked.now.ticket asked.now.named

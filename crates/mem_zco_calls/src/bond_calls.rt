@@ -79,7 +79,7 @@ fn add_extents(extents: &mut Items<Extent>, more: &[Extent]) -> Result<(), NoMem
 // The object with its headers and trailers as extents, where the first of their blocks is at an address.
 fn bonded(alloc: Global, object: &ZcoObject, first: Addr) -> Result<ZcoObject, NoMemory>
     requires first { first + 24 * pieces object.now < 2 ^ 63 + 2 ^ 62 }
-    requires small { wire_length object.now ≤ 2 ^ 42 }
+    requires small { wire_length object.now ≤ 2 ^ 62 }
     ensures { IfOk result (λ after. after ≡ bonded (λ k. first + 8 * k) object.now) }
 {
     let mut extents = Items::new(alloc);

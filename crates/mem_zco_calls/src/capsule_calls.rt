@@ -7,6 +7,8 @@ ghost use Rattle.mem_parts.specs.Sides.{capsule_call};
 use crate::object_calls::object;
 use mem_calls::raw_calls::{bad_length, misnamed};
 use mem_parts::Side;
+use mem_parts::capsules::capsule_bytes;
+use mem_parts::charges::heap_charge;
 use mem_world::DraftWorld;
 use mem_world::growing::add_component;
 use sdr_base::limits::LONGEST_CAPSULE;
@@ -36,7 +38,8 @@ fn add_capsule(
     let text = Bytes::copied(alloc, text.as_slice())?;
     let block = world.next();
     let capsule = side.component(Capsule { block, text });
-    match add_component(world, addr, number, capsule, 0)? {
+    let charge = heap_charge(capsule_bytes(length));
+    match add_component(world, addr, number, &charge, capsule, 0)? {
         Ok(_) => Ok(Reply::Done),
         Err(refusal) => Ok(Reply::Refused(refusal)),
     }

@@ -9,6 +9,7 @@ ghost use Rattle.mem_parts.specs.Bounds.{IsBounded};
 use crate::append_calls::is_outside;
 use crate::object_calls::object;
 use mem_calls::raw_calls::misnamed;
+use mem_parts::charges::object_charge;
 use mem_parts::object::{asked_extents, object_of};
 use mem_world::DraftWorld;
 use mem_world::taking::charge_blocks;
@@ -57,8 +58,8 @@ fn cloned(
 }
 
 /// Makes an object of a part of another's part, in the same account. It has extents of the same sources, and
-/// no header or trailer. No byte is copied. It is linear in the object, times the
-/// logarithm of the world, and goes over all things for the charge.
+/// no header or trailer. No byte is copied. It is linear in the object, takes the logarithm of the world for
+/// each extent, and goes over all things for the charge.
 pub fn clone_part(
     alloc: Global,
     world: &mut DraftWorld,
@@ -85,7 +86,7 @@ pub fn clone_part(
     let acct = object.account;
     let made = world.next();
     let clone = cloned(alloc, object, made, offset, bytes)?;
-    let charge = world.object_charge(&clone);
+    let charge = object_charge(&clone);
     let blocks = 1 + clone.extents.len() as u64;
     world.touch(made)?;
     let _granted = match charge_blocks(world, acct, number, &charge, made, blocks)? {

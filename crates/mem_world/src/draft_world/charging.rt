@@ -58,12 +58,14 @@ impl DraftWorld {
     }
 
     /// Why an account refuses amounts that no grant covers.
-    pub fn refusal(&self, acct: Acct, uncovered: &Amounts) -> Option<Refusal>
-        requires bound { IsBound self.now.now }
-        ensures { result ≡ refusal_of self.now.now acct uncovered.now }
+    pub fn refusal(&mut self, acct: Acct, uncovered: &Amounts) -> Option<Refusal>
+        requires bound { IsBound self.old.now }
+        ensures value { result ≡ refusal_of self.old.now acct uncovered.now }
+        ensures same { self.new ≡ self.old }
     {
+        let occupied = self.occupied(acct);
         let account = self.accounts.now().account(acct);
-        refusal(account, &self.occupied(acct), uncovered)
+        refusal(account, &occupied, uncovered)
     }
 
     /// The grant of a ticket covers of these amounts what it can.

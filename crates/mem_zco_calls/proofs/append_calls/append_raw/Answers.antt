@@ -5,18 +5,18 @@ use Rattle.mem_world.proofs.ComponentLemmas.{allowed_at, grown_at, refused_at}
 use Rattle.mem_world.proofs.CallingLemmas.{bounded_object}
 use Rattle.sdr_model.proofs.Cases.{some_is}
 use Rattle.sdr_model.specs.Amounts.{amounts_by}
-use Rattle.sdr_model.specs.Charges.{bytes_charge, space_in}
+use Rattle.sdr_model.specs.Charges.{bytes_charge}
 use Rattle.sdr_model.specs.Charging.{with_covered}
 use Rattle.sdr_model.specs.Dry.{next_addr, with_blocks}
 use Rattle.sdr_model.specs.ObjectSteps.{with_object}
 use Rattle.sdr_model.specs.SourceSteps.{new_source}
 use Rattle.sdr_model.specs.Steps.{with_thing}
-use Rattle.sdr_model.specs.Zco.{as_source, object_at}
+use Rattle.sdr_model.specs.Zco.{object_at}
 use Rattle.sdr_model.specs.declared.call.Call.TheVariants as calls
 use Rattle.sdr_model.specs.declared.things.Thing.TheVariants as things
 use Rattle.sdr_model.specs.declared.zco.Subject.TheVariants as subjects
 use Rattle.mem_parts.specs.Bounds.{IsBounded}
-use Rattle.mem_parts.specs.Components.{component_charges, with_component}
+use Rattle.mem_parts.specs.Components.{with_component}
 use Rattle.mem_parts.specs.declared.component.Component.{Component}
 use Rattle.mem_parts.specs.declared.component.Component.TheVariants as components
 use Rattle.mem_zco_calls.proofs.ObjectCallLemmas.{charged-refused}
@@ -41,17 +41,17 @@ returns-in-Err c =
     let made : Component = components.Extent (record { block = src + 8; source = src; offset = a.offset; length = a.bytes }) in
     let inside : (a.bytes == 0 || nat_lt (length text) (a.offset + a.bytes)) ≡ false =
     ap (λ n. a.bytes == 0 || nat_lt n (a.offset + a.bytes)) (sym c.len-length.ensures) ∙ sym c.is_outside.ensures ∙ c.if-is_outside.false in
-    let is : component_charges w made ≡ amounts_by (bytes_charge spaces.Heap a.bytes) =
-    ap (λ t. amounts_by (bytes_charge (space_in (as_source t)) a.bytes)) (c.next-source.ensures.fresh src (omega arith)) in
+    let is : c.bytes_charge-charge.result ≡ amounts_by (bytes_charge spaces.Heap (length text)) =
+    c.bytes_charge-charge.ensures ∙ ap (λ n. amounts_by (bytes_charge spaces.Heap n)) c.len-length.ensures in
     record {
       step = charged-refused w c.add_component.new.world.now (calls.AppendExtent a.object a.ticket a.named a.offset a.bytes)
-          z.0.account a.ticket (bytes_charge spaces.Heap a.bytes) (component_charges w made)
+          z.0.account a.ticket (bytes_charge spaces.Heap (length text)) c.bytes_charge-charge.result
           (AppendsAt w a.object a.ticket a.named a.offset a.bytes z.0 text)
           (raw-row w a.object a.ticket a.named a.offset a.bytes z.0 text z.1 c.requires.no_source (sym c.in-Some.ensures)
           (sym c.in_default-source_on.ensures) inside)
           is c.in-Err.refusal
-          (refused_at w c.touch.new.self.now a.object a.ticket 2 z.0 c.extent-extent.result made c.touch.ensures.now z.1
-          c.extent-extent.ensures _ c.in-Err.refusal c.in-Err.is c.in_ok-add_component.ensures.refused)
+          (refused_at w c.touch.new.self.now a.object a.ticket 2 z.0 c.extent-extent.result made
+          c.bytes_charge-charge.result c.touch.ensures.now z.1 c.extent-extent.ensures _ c.in-Err.refusal c.in-Err.is c.in_ok-add_component.ensures.refused)
           (subst (λ r. OnErr r (c.add_component.new.world.now ≡ c.touch.new.self.now)) c.in-Err.is c.in_ok-add_component.ensures.same
           ∙ c.touch.ensures.now);
       begun = c.add_component.ensures.keeps.begun ∙ c.touch.ensures.keeps.begun;
@@ -73,16 +73,16 @@ returns-in-Ok c =
     let inside : (a.bytes == 0 || nat_lt (length text) (a.offset + a.bytes)) ≡ false =
     ap (λ n. a.bytes == 0 || nat_lt n (a.offset + a.bytes)) (sym c.len-length.ensures) ∙ sym c.is_outside.ensures ∙ c.if-is_outside.false in
     let fresh = c.next-source.ensures.fresh src (omega (arith, c.next-source.ensures.value)) in
-    let charges = component_charges w made in
+    let charges = c.bytes_charge-charge.result in
     let taking = λ (n : ℕ). things.Source (new_source (subjects.Heap a.named) n) in
     let grown = with_object (with_blocks (with_covered w p charges) 2) a.object (with_component z.0 made) in
-    let put = grown_at w c.touch.new.self.now a.object a.ticket 2 z.0 c.extent-extent.result made c.touch.ensures.now z.1 component
+    let put = grown_at w c.touch.new.self.now a.object a.ticket 2 z.0 c.extent-extent.result made charges c.touch.ensures.now z.1 component
     c.add_component.new.world.now _ p c.in-Ok.is c.in_ok-add_component.ensures.added in
     record {
       step = raw-step w a.object a.ticket a.named a.offset a.bytes z.0 text z.1 c.requires.no_source (sym c.in-Some.ensures)
           (sym c.in_default-source_on.ensures) inside c.put.new.self.now p charges
-          (ap (λ t. amounts_by (bytes_charge (space_in (as_source t)) a.bytes)) fresh)
-          (allowed_at w c.touch.new.self.now a.object a.ticket 2 z.0 c.extent-extent.result made c.touch.ensures.now z.1 component
+          (c.bytes_charge-charge.ensures ∙ ap (λ n. amounts_by (bytes_charge spaces.Heap n)) c.len-length.ensures)
+          (allowed_at w c.touch.new.self.now a.object a.ticket 2 z.0 c.extent-extent.result made charges c.touch.ensures.now z.1 component
           _ p c.in-Ok.is c.in_ok-add_component.ensures.allowed)
           fresh
           (c.put.ensures.put ∙ ap (λ v. with_thing v c.next-source.result (taking c.len-length.result)) put

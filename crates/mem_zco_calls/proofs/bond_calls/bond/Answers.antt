@@ -18,12 +18,12 @@ use Rattle.mem_zco_calls.proofs.bond_calls.bond.Goals as goal
 
 pub bonded-requires-clause-small : goal.bonded-requires-clause-small
 bonded-requires-clause-small c =
-    wire-small c.args.world.now.now c.requires.may.bound c.args.addr c.in-Some.object.now (sym c.in-Some.ensures.is)
+    wire-small c.args.world.now.now c.requires.may c.args.addr c.in-Some.object.now (sym c.in-Some.ensures.is)
 
 pub bond_charge-charge-requires : goal.bond_charge-charge-requires
 bond_charge-charge-requires c = record {
   small = subst (λ cs. sum_by (capsule_charge spaces.Heap) cs ≤ 2 ^ 41) (sym (c.as_slice.ensures.value ∙ c.in_ok-capsules.ensures))
-      (capsules-small c.args.world.now.now c.requires.may.bound c.args.addr c.in-Some.object.now (sym c.in-Some.ensures.is));
+      (capsules-small c.args.world.now.now c.args.addr c.in-Some.object.now c.requires.may.bound (sym c.in-Some.ensures.is));
 }
 
 pub touch_next-requires : goal.touch_next-requires

@@ -14,10 +14,11 @@ returns c =
     let acct = c.args.acct in
     let inside = c.self.inside in
     let w = (the_view inside).now in
+    let same = c.self.view_is ∙ c.room-room.ensures.same in
     let tickets = tickets_of w.accounts acct in
     let served = ap (λ room. served_in room tickets)
-    (c.room-room.ensures ∙ ap (λ (d : Draft). rooms d.now acct) (sym c.self.view_is))
+    (c.room-room.ensures.value ∙ ap (λ (d : Draft). rooms d.now acct) (sym same))
     ∙ sym (served-room (account_of w.accounts acct).maxima (occupancies w acct) tickets) in
     ap (λ (l : Ledger). the_view (record inside { accounts = l }))
     (c.serve.ensures ∙ ap (λ ts. record inside.accounts { now = with_tickets w.accounts acct ts }) served)
-    ∙ ap (λ (d : Draft). record d { now = with_served d.now acct }) c.self.view_is
+    ∙ ap (λ (d : Draft). record d { now = with_served d.now acct }) same
