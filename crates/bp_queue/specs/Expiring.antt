@@ -89,7 +89,7 @@ pub record SomeOverdue (heap : Heap) (q : Queues) (now : ℕ) : Type 0 where
   pub keeps : KeepsOverdue heap.blocks q now next rows object_at sources rest
   pub room : length (expiry_of now rows object_at sources rest heap).gone ≤ heap.spare
 
--- Those that were overdue are gone, with their items, and so are their objects; what these charged was given back, and all else
+-- Those that were overdue are gone, with their items, and so are their objects; what is charged less was given back, and all else
 -- stays. All other extents that named the sources name those that stay, which count them.
 pub record Expired (q : Queues) (now next : ℕ) (rows : List Row) (object_at : ℕ → ObjectRow) (sources : List NamedSource) (e : Expiry)
     (old new : Heap) (count : ℕ) : Type 0 where
@@ -117,7 +117,7 @@ abbrev pub ExpireStops : Queues → ℕ → Heap → Heap → Stop → Type 0
 ExpireStops q now old new (Refused (refusals.LogFull lines room)) = ExpiresSome q now old new
 ExpireStops q now old new stop = OnlyFault stop
 
--- The first row that is overdue is gone with its item, and its object with its parts; what it charged was given back. All other
+-- The first row that is overdue is gone with its item, and its object with its parts; what is charged less was given back. All other
 -- extents that named the sources name those that stay, which count them.
 pub record FirstGone (r : Row) (q : Queues) (now next : ℕ) (rows : List Row) (object_at : ℕ → ObjectRow) (sources : List NamedSource)
     (rest : Entries) (old new : Heap) : Type 0 where

@@ -17,7 +17,7 @@ use sdr_base::{Addr, Objects, Stop, word};
 use zco_obj::destroy;
 
 /// Removes every item whose deadline is at most `now`, the earliest first, and destroys its object,
-/// whose account is given back what it charged; the account's queue isn't served. It answers how
+/// whose account is given back what is charged less; the account's queue isn't served. It answers how
 /// many they were, and takes a step for each of them.
 pub fn expire<O: Objects>(o: &mut O, q: &Queues, now: u64) -> Result<u64, Stop>
     requires kept { KeepsSome (O.keeps o.old) }
