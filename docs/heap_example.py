@@ -47,7 +47,7 @@ BLOCKS = [
 ]
 
 MAXIMA = [2**40, 2**40, 32 * LINES]
-ROOTS = [AT[NAME], AT[NAME], 0]
+ROOTS = [AT[NAME], AT[NAME], 2]
 ROOTS += [0, 0, 0] + MAXIMA + [0, 0]
 ROOTS += [10, 0, 72 + 32 + 8 * 2] + MAXIMA + [0, 0]
 ROOTS += [1] + [0] * 19

@@ -28,7 +28,7 @@ use Rattle.sdr_model.specs.Charges.{capsule_bytes, capsule_charge, extent_bytes,
 use Rattle.sdr_model.specs.Zco as model
 use Rattle.sdr_model.specs.declared.accounts.Ticket.{Ticket}
 use Rattle.sdr_model.specs.declared.things.Thing.{Thing}
-use Rattle.audit_owners.specs.Chains.{ChainGoes, first_link, is_member, next_of}
+use Rattle.audit_owners.specs.Chains.{ChainGoes, is_member, next_of}
 use Rattle.audit_owners.specs.Reading.{behind_words}
 use Rattle.audit_owners.specs.Rules.{IsKept}
 use Rattle.audit_owners.specs.View.{View, is_kind, length_of, word_of}
@@ -115,23 +115,24 @@ module _ (heap : View) (words : ℕ) (a : IsAudited heap words) where
       ≡ in_space spaces.Heap (extent_bytes * length (members heap words (owners.Extents addr))) space
   extents_same space addr = ap (λ (n : ℕ). in_space spaces.Heap (extent_bytes * n) space) (length-map (members heap words (owners.Extents addr)) (extent_told heap))
 
+  -- what the block at an address charges, by whether it is an object, and a source
+  abbrev charge_by : Acct → Space → ℕ → Bool → Bool → ℕ
+  charge_by account space addr object source =
+      cond (object && word_of (heap.blocks addr) 0 == account_number account) (heaps.object_charge_at heap words space addr)
+      (cond source (heaps.source_charge_at heap account space addr) 0)
+
   -- what the thing at an address charges, where each source tells its counts
   charge_same : ((addr : ℕ) → keeps_counts heap words addr ≡ true) → (account : Acct) (space : Space) (addr : ℕ) →
       option_map_or (thing_charge (world_told heap words) account space addr) (thing_told heap words addr) 0 ≡ heaps.charge_at heap words account space addr
   charge_same counted account space addr =
       thing_cases heap words (λ (o : Option Thing). option_map_or (thing_charge (world_told heap words) account space addr) o 0 ≡ heaps.charge_at heap words account space addr) addr
-      (λ at. sym (ap (λ (o : Option Block). by_tests (is_kind kinds.Object o) (is_kind kinds.Source o)) at))
+      (λ at. sym (ap (λ (o : Option Block). charge_by account space addr (is_kind kinds.Object o) (is_kind kinds.Source o)) at))
       by_kind
     where
-      abbrev by_tests : Bool → Bool → ℕ
-      by_tests object source =
-          cond (object && word_of (heap.blocks addr) 0 == account_number account) (heaps.object_charge_at heap words space addr)
-          (cond source (heaps.source_charge_at heap account space addr) 0)
-
       other : (kind : Kind) → is_kind kind (heap.blocks addr) ≡ true → (kind_number kind == 10) ≡ false → (kind_number kind == 9) ≡ false →
           0 ≡ heaps.charge_at heap words account space addr
       other kind is no_object no_source =
-          sym (λ i. by_tests (kind_apart kind kinds.Object (heap.blocks addr) is no_object i) (kind_apart kind kinds.Source (heap.blocks addr) is no_source i))
+          sym (λ i. charge_by account space addr (kind_apart kind kinds.Object (heap.blocks addr) is no_object i) (kind_apart kind kinds.Source (heap.blocks addr) is no_source i))
 
       by_kind : (kind : Kind) → is_kind kind (heap.blocks addr) ≡ true →
           option_map_or (thing_charge (world_told heap words) account space addr) (thing_of_kind kind heap words addr) 0 ≡ heaps.charge_at heap words account space addr
@@ -145,11 +146,11 @@ module _ (heap : View) (words : ℕ) (a : IsAudited heap words) where
       by_kind kinds.Name is = other kinds.Name is refl refl
       by_kind kinds.Source is =
           source_same counted account space addr is
-          ∙ sym (λ i. by_tests (kind_apart kinds.Source kinds.Object (heap.blocks addr) is refl i) (is i))
+          ∙ sym (λ i. charge_by account space addr (kind_apart kinds.Source kinds.Object (heap.blocks addr) is refl i) (is i))
       by_kind kinds.Object is =
           (λ i. cond (account_same account (word_of (heap.blocks addr) 0) (object_account heap words a addr is) i)
           (in_space spaces.Heap object_bytes space + extents_same space addr i + capsules_same space (owners.Headers addr) i + capsules_same space (owners.Trailers addr) i) 0)
-          ∙ sym (λ i. by_tests (is i) (kind_apart kinds.Object kinds.Source (heap.blocks addr) is refl i))
+          ∙ sym (λ i. charge_by account space addr (is i) (kind_apart kinds.Object kinds.Source (heap.blocks addr) is refl i))
       by_kind kinds.Extent is = other kinds.Extent is refl refl
       by_kind kinds.Capsule is = other kinds.Capsule is refl refl
       by_kind kinds.Ticket is = other kinds.Ticket is refl refl

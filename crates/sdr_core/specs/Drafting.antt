@@ -5,12 +5,10 @@ use Rattle.sdr_model.specs.declared.journal.Said.{Said}
 use Rattle.sdr_core.specs.declared.draft.Draft.{Draft}
 use Rattle.sdr_machine.specs.declared.tells.Room.{Room}
 
--- Nothing stands in the draft yet, and there is room for the first two that are said in a transaction.
+-- Nothing stands in the draft yet.
 pub record IsBlank (draft : Draft) : Type 0 where
   pub moves : draft.moves.items ≡ []
   pub bytes : draft.bytes.items ≡ []
-  pub first : draft.first.items ≡ []
-  pub begins : 2 ≤ vec_capacity draft.first
 
 -- There is room in the draft for the moves and the bytes of what was said.
 pub record FitsIn (draft : Draft) (said : Said) : Type 0 where

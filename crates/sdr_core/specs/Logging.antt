@@ -20,10 +20,13 @@ use Rattle.sdr_core.specs.declared.noted.Noted.{Noted}
 abbrev pub log_of : Keeper → Log
 log_of k = record { works = works_of k.works.items; journal = k.journal.items }
 
--- There is room for two more that the daemon says, for one more transaction, and for one more entry.
+-- There is room for two more that the daemon says, for one more transaction with the first two that are said in it, and for one more
+-- entry.
 pub record HasRoom (k : Keeper) (daemon : ℕ) : Type 0 where
   pub works : vec_len k.works < vec_capacity k.works
   pub said : MaySay 2 k.works.items daemon
+  pub blank : k.first.items ≡ []
+  pub begins : 2 ≤ vec_capacity k.first
   pub journal : vec_len k.journal < vec_capacity k.journal
 
 -- There is room for so many more entries, and in each open transaction for one more that is said.

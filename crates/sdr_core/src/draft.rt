@@ -19,8 +19,6 @@ pub struct Draft {
     pub moves: Vec<Move>,
     /// Room for the bytes that its call gives.
     pub bytes: Vec<u8>,
-    /// Room for the first that is said in a transaction, and for a leave behind it.
-    pub first: Vec<Said>,
 }
 
 // The moves of the call that was made, if one was. Room that it has left is given back.
@@ -74,24 +72,21 @@ impl Draft {
             event: copy_of(alloc, event)?,
             moves: Vec::with_capacity(alloc, room.moves)?,
             bytes: Vec::with_capacity(alloc, room.bytes)?,
-            first: Vec::with_capacity(alloc, 2)?,
         })
     }
 
-    /// What was said in the event, and room for the first that is said in a transaction. It takes no memory.
-    pub fn said(self, noted: &Noted, moves: &[Move], shown: &[u8]) -> (Said, Vec<Said>)
+    /// What was said in the event. It takes no memory.
+    pub fn said(self, noted: &Noted, moves: &[Move], shown: &[u8]) -> Said
         requires blank { IsBlank self }
         requires fit { FitsIn self (said_noted noted.now self.event moves.now shown.now) }
-        ensures said { result.0 ≡ said_noted noted.now self.event moves.now shown.now }
-        ensures first { result.1 ≡ self.first }
+        ensures { result ≡ said_noted noted.now self.event moves.now shown.now }
     {
-        let said = Said {
+        Said {
             line: noted.line,
             event: self.event,
             answer: noted.came.answer,
             bytes: bytes_of(self.bytes, noted.came, shown),
             moves: moves_of(self.moves, noted.came, moves),
-        };
-        (said, self.first)
+        }
     }
 }

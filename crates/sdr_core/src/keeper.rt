@@ -13,11 +13,17 @@ use crate::{Draft, Noted, Spoken};
 use sdr_base::{Bytes, Items, Move, NoMemory};
 use sdr_model::{Close, Entry, Event, Journal, Leave, Said, What};
 use std::alloc::Global;
+use std::mem;
+
+/// A transaction has room for so many that are said in it before it takes more memory.
+const FIRST_ROOM: usize = 6;
 
 /// What each daemon has said in its open transaction, and the journal so far.
 #[derive(Drop)]
 pub struct Keeper {
     works: Vec<Spoken>,
+    /// Room for the first that are said in the transaction that begins next.
+    first: Vec<Said>,
     journal: Vec<Entry>,
     alloc: Global,
 }
@@ -44,6 +50,7 @@ impl Keeper {
     {
         Ok(Keeper {
             works: Vec::with_capacity(alloc, daemons)?,
+            first: Vec::new(alloc),
             journal: Vec::with_capacity(alloc, 2 * daemons)?,
             alloc,
         })
@@ -59,21 +66,22 @@ impl Keeper {
         ensures stays { (n : ℕ) → HasRoomFor n self.old → HasRoomFor n self.new }
     {
         self.works.reserve(1)?;
+        self.first.clear();
+        self.first.reserve(FIRST_ROOM)?;
         self.journal.reserve(1 + 2 * daemons)?;
         reserve_said(&mut self.works, daemon)
     }
 
     // A daemon has said this too in its transaction, or this first.
-    fn keep(&mut self, daemon: u8, said: Said, mut first: Vec<Said>)
+    fn keep(&mut self, daemon: u8, said: Said)
         requires room { HasRoom self.old daemon }
-        requires blank { first.items ≡ [] }
-        requires begins { 2 ≤ vec_capacity first }
         ensures works { works_of self.new.works.items ≡ with_said (works_of self.old.works.items)
             daemon said }
         ensures journal { self.new.journal ≡ self.old.journal }
         ensures spacious { AreSpacious self.old.works.items → AreSpacious self.new.works.items }
     {
         if let Some(said) = say(&mut self.works, daemon, said) {
+            let mut first = mem::replace(&mut self.first, Vec::new(self.alloc));
             first.push_reserved(said);
             self.works.push_reserved(Spoken {
                 daemon,
@@ -124,10 +132,8 @@ impl Keeper {
     }
 
     // Notes what closes no transaction.
-    fn go_on(&mut self, noted: &Noted, said: Said, first: Vec<Said>)
+    fn go_on(&mut self, noted: &Noted, said: Said)
         requires room { HasRoom self.old noted.now.daemon }
-        requires blank { first.items ≡ [] }
-        requires begins { 2 ≤ vec_capacity first }
         requires answer { said.answer ≡ noted.now.came.answer }
         ensures goes_on { GoesOn noted.now said (log_of self.old) (log_of self.new) }
         ensures room { AddsSome self.old.journal self.new.journal }
@@ -135,7 +141,7 @@ impl Keeper {
     {
         let what = what_added(&noted.under, &said.event, noted.came.answer);
         if !was_outside(&said.event, noted.came.answer) {
-            self.keep(noted.daemon, said, first);
+            self.keep(noted.daemon, said);
         }
         if let Some(what) = what {
             self.add(noted, what);
@@ -155,11 +161,11 @@ impl Keeper {
         ensures room { AddsSome self.old.journal self.new.journal }
         ensures spacious { AreSpacious self.old.works.items → AreSpacious self.new.works.items }
     {
-        let (said, first) = draft.said(noted, moves, shown);
+        let said = draft.said(noted, moves, shown);
         match closed_by(noted.came.answer) {
-            None => self.go_on(noted, said, first),
+            None => self.go_on(noted, said),
             Some(close) => {
-                self.keep(noted.daemon, said, first);
+                self.keep(noted.daemon, said);
                 self.close(noted, close);
             }
         }

@@ -108,12 +108,12 @@ fn answer(line: &mut Line, answer: &Answer)
 }
 
 // Writes the front of a line, bytes, and the end of the line.
-fn write_bytes<K: Sink>(out: &mut K, mut front: Line, bytes: &[u8]) -> Result<(), SinkFault>
-    requires { length front ≤ 500 }
+fn write_bytes<K: Sink>(out: &mut K, front: &mut Line, bytes: &[u8]) -> Result<(), SinkFault>
+    requires { length front.old ≤ 500 }
     ensures ok { OnOk result (Appends (K.taken out.old) (K.taken out.new)
-        (front ++ bytes_text bytes.now ++ codes "\n")) }
+        (front.old ++ bytes_text bytes.now ++ codes "\n")) }
     ensures err { OnErr result (AppendsPart (K.taken out.old) (K.taken out.new)
-        (front ++ bytes_text bytes.now ++ codes "\n")) }
+        (front.old ++ bytes_text bytes.now ++ codes "\n")) }
     ensures cause { HasCause (K.faults out.old) (K.faults out.new) result }
 {
     front.push(b"x");
@@ -154,22 +154,24 @@ fn write_entry<K: Sink>(
 // Writes the rest of a line behind its front: an answer, with the bytes that its call gave.
 pub fn write_behind<K: Sink>(
     out: &mut K,
-    mut text: Line,
+    text: &mut Line,
     given: &Answer,
     bytes: &[u8],
 ) -> Result<(), SinkFault>
-    requires { length text ≤ 300 }
+    requires { length text.old ≤ 300 }
     ensures ok { OnOk result (Appends (K.taken out.old) (K.taken out.new)
-        (answer_text text given.now bytes.now ++ codes "\n")) }
+        (answer_text text.old given.now bytes.now ++ codes "\n")) }
     ensures err { OnErr result (AppendsPart (K.taken out.old) (K.taken out.new)
-        (answer_text text given.now bytes.now ++ codes "\n")) }
+        (answer_text text.old given.now bytes.now ++ codes "\n")) }
     ensures cause { HasCause (K.faults out.old) (K.faults out.new) result }
 {
-    answer(&mut text, given);
+    answer(text, given);
     match given {
         Answer::Reply(Reply::Bytes { .. }) => write_bytes(out, text, bytes),
         Answer::Reply(Reply::Named { kind, addr, .. }) => {
-            write_entry(out, text, bytes, *kind, *addr)
+            let mut front = Line::new();
+            front.push(text.as_slice());
+            write_entry(out, front, bytes, *kind, *addr)
         }
         _ => {
             text.push(b"\n");
@@ -197,5 +199,5 @@ pub fn write_answer<K: Sink>(
     text.number(line);
     text.field(u64::from(daemon));
     text.push(b" ");
-    write_behind(out, text, given, bytes)
+    write_behind(out, &mut text, given, bytes)
 }

@@ -75,7 +75,7 @@ fn write_said<K: Sink>(out: &mut K, said: &Said) -> Result<(), SinkFault>
 {
     let mut front = Line::new();
     front.push(b"  ");
-    write_behind(out, front, &said.answer, said.bytes.as_slice())
+    write_behind(out, &mut front, &said.answer, said.bytes.as_slice())
 }
 
 // Writes the lines of answers in a transaction.

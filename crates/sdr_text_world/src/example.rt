@@ -24,7 +24,7 @@ pub fn bundle_is_printed_so()
 pub fn mixed_world_is_printed_so()
     ensures { world_text mixed_world mixed_census
         ≡ codes "heap 65536 low 2768 high 63488\n"
-        ++ codes "account in file 0 1 bulk 5 2 heap 557 3\n"
+        ++ codes "account in file 0 1 bulk 5 2 heap 555 3\n"
         ++ codes "account out file 0 4 bulk 0 5 heap 0 6\n"
         ++ codes "ticket 1 in 1 0 granted 0 5 450\n"
         ++ codes "ticket 4 out 0 255 waiting 7 0 600\n"

@@ -3,8 +3,8 @@
 //! 1. A line is built in place and goes out in one write; a line that shows bytes, a text or
 //!    elements goes out in pieces.
 //! 2. What a line tells of other things (the source that names a raw object, the extents that name
-//!    a source) is counted over the world once (`Tied`). That alone takes memory, and comes before
-//!    anything is written.
+//!    a source, the sources that an account is charged) is counted over the world once (`Tied`). That
+//!    alone takes memory, and comes before anything is written.
 //! 3. Where the sink fails, a part of the text from its front was written.
 //!
 //! Proved: `write_world` writes `world_text` of a world and a census, whole (`ok`), or a part from the front if

@@ -88,7 +88,13 @@ fn write_blocks<K: Sink>(out: &mut K, census: &Census) -> Result<(), SinkFault>
 }
 
 // Writes the line of an account of a world.
-fn write_account_of<K: Sink>(out: &mut K, world: &World, acct: Acct) -> Result<(), SinkFault>
+fn write_account_of<K: Sink>(
+    out: &mut K,
+    world: &World,
+    tied: &Tied,
+    acct: Acct,
+) -> Result<(), SinkFault>
+    requires tied { TellsTies world.now tied.now }
     requires small { HasSmallSums world.now }
     ensures ok { OnOk result (Appends (K.taken out.old) (K.taken out.new)
         (account_text world.now acct)) }
@@ -96,13 +102,19 @@ fn write_account_of<K: Sink>(out: &mut K, world: &World, acct: Acct) -> Result<(
         (account_text world.now acct)) }
     ensures cause { HasCause (K.faults out.old) (K.faults out.new) result }
 {
-    let occupied = occupancies(world, acct);
+    let occupied = occupancies(world, tied, acct);
     write_account(out, acct, &occupied, &world.accounts().account(acct).maxima)
 }
 
 // Writes the lines of the heap and of both accounts.
 #[tactic(auto, using(sdr_text::proofs::TextLemmas::parts))]
-fn write_front<K: Sink>(out: &mut K, world: &World, census: &Census) -> Result<(), SinkFault>
+fn write_front<K: Sink>(
+    out: &mut K,
+    world: &World,
+    tied: &Tied,
+    census: &Census,
+) -> Result<(), SinkFault>
+    requires tied { TellsTies world.now tied.now }
     requires small { HasSmallSums world.now }
     ensures ok { OnOk result (Appends (K.taken out.old) (K.taken out.new)
         (front_text world.now census.now)) }
@@ -111,8 +123,8 @@ fn write_front<K: Sink>(out: &mut K, world: &World, census: &Census) -> Result<(
     ensures cause { HasCause (K.faults out.old) (K.faults out.new) result }
 {
     write_heap(out, census)?;
-    write_account_of(out, world, Acct::Inbound)?;
-    write_account_of(out, world, Acct::Outbound)
+    write_account_of(out, world, tied, Acct::Inbound)?;
+    write_account_of(out, world, tied, Acct::Outbound)
 }
 
 // Writes the lines of the inbound and the outbound tickets, and of the catalogue.
@@ -163,7 +175,7 @@ fn write_counted<K: Sink>(
         (world_text world.now census.now)) }
     ensures cause { HasCause (K.faults out.old) (K.faults out.new) result }
 {
-    write_front(out, world, census)?;
+    write_front(out, world, tied, census)?;
     write_queues(out, world)?;
     write_things(out, world, tied)?;
     write_blocks(out, census)

@@ -88,7 +88,7 @@ impl<'a> Draft<'a> {
         if !name.is_empty() {
             self.binders.insert(Binder { daemon, name })?;
         }
-        self.steps.push(step)?;
+        self.steps.push_reserved(step);
         self.next += 1;
         Ok(())
     }

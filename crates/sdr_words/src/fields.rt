@@ -1,10 +1,9 @@
 // The fields of a line.
 ghost use Rattle.std.specs.Prelude.{◌≡◌, ◌≢◌, slice_index, MatchOption, [], ◌∷◌, ◌==◌};
 ghost use Rattle.std.specs.List.{list_all};
+ghost use Rattle.bstr.specs.Find.{IsFirstByte, is_byte};
 ghost use Rattle.sdr_words.specs.Fields.{fields_of};
 ghost use Rattle.sdr_words.specs.Script.{is_line_byte, is_skipped};
-
-use bstr::ByteSlice;
 
 // What stands behind the spaces at the front.
 fn past_spaces(line: &[u8]) -> &[u8]
@@ -18,6 +17,18 @@ fn past_spaces(line: &[u8]) -> &[u8]
     rest
 }
 
+// The place of the first space. A field is short, so its bytes are looked at one by one.
+fn first_space(rest: &[u8]) -> Option<usize>
+    ensures { IsFirstByte (is_byte 32) rest.now result }
+{
+    for (at, byte) in rest.iter().enumerate() {
+        if *byte == b' ' {
+            return Some(at);
+        }
+    }
+    None
+}
+
 /// The first field of a part of a line, and what stands behind it.
 #[tactic(auto, using(crate::proofs::FieldsLemmas::cutting))]
 pub fn cut_field(line: &[u8]) -> Option<(&[u8], &[u8])>
@@ -28,7 +39,7 @@ pub fn cut_field(line: &[u8]) -> Option<(&[u8], &[u8])>
     if rest.is_empty() {
         return None;
     }
-    match rest.find_byte(b' ') {
+    match first_space(rest) {
         Some(end) => Some((&rest[..end], &rest[end..])),
         None => Some((rest, &[])),
     }
@@ -38,7 +49,12 @@ pub fn cut_field(line: &[u8]) -> Option<(&[u8], &[u8])>
 pub fn are_line_bytes(line: &[u8]) -> bool
     ensures { result ≡ list_all is_line_byte line.now }
 {
-    line.iter().all(|b| (32..=126).contains(b))
+    for byte in line {
+        if !(32..=126).contains(byte) {
+            return false;
+        }
+    }
+    true
 }
 
 fn are_spaces(line: &[u8]) -> bool

@@ -29,8 +29,8 @@ fn is_decimal(bytes: &[u8]) -> bool
     !bytes.is_empty() && are_digits(bytes) && (bytes.len() == 1 || bytes[0] != b'0')
 }
 
-/// The number that a field is.
-pub fn number_of(field: &[u8]) -> Option<u64>
+// The number that a field of any length is.
+fn long_number_of(field: &[u8]) -> Option<u64>
     ensures { result ≡ as_number field.now }
 {
     if !is_decimal(field) {
@@ -40,6 +40,16 @@ pub fn number_of(field: &[u8]) -> Option<u64>
         return None;
     };
     digits.parse().ok()
+}
+
+/// The number that a field is. One digit is told without a parse.
+pub fn number_of(field: &[u8]) -> Option<u64>
+    ensures { result ≡ as_number field.now }
+{
+    match field {
+        [digit @ b'0'..=b'9'] => Some(u64::from(*digit - b'0')),
+        _ => long_number_of(field),
+    }
 }
 
 fn is_name_byte(byte: u8) -> bool

@@ -9,7 +9,7 @@ use sdr_base::{Sink, write_all};
 use sdr_shell::{DONE, OUTPUT_FAULT};
 use std::rc::RcStr;
 
-pub const VERSION: &str = "sdrtool 0.1.0 (disk format 1, script format 1)\n";
+pub const VERSION: &str = "sdrtool 0.1.0 (disk format 2, script format 1)\n";
 
 pub const HELP: &str = "\
 sdrtool formats a heap on a disk, runs the script of its daemons on it, and

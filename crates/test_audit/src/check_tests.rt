@@ -10,11 +10,12 @@ type Row = (&'static [Word], u64, Check);
 
 // The string hello at 2,056; a list at 2,072 with the element at 2,112; the list's name mail at 2,152; a source of ten bytes of a file
 // at 2,216; and an outbound object at 2,280 with an extent of all of them at 2,360, and with a header of three bytes at 2,400.
-const MAIL: [Word; 44] = [
+const MAIL: [Word; 45] = [
     (16, 2416),
     (712, 2152),
     (720, 2152),
-    // The maxima of both accounts, what is occupied outbound, and the number of the next ticket.
+    // The version; the maxima of both accounts, what is occupied outbound, and the number of the next ticket.
+    (728, 2),
     (760, 0x100_0000_0000),
     (768, 0x100_0000_0000),
     (776, 32768),
@@ -59,8 +60,10 @@ const MAIL: [Word; 44] = [
     (2408, 0x4831_3a00_0000_0000),
 ];
 
-const WRONG: [Row; 7] = [
+const WRONG: [Row; 8] = [
     (&[(0, 65535)], 0, Check::Control),
+    // A heap of the first version.
+    (&[(728, 0)], 728, Check::Control),
     (&[(2048, 0x0e00_0001_0000_0006)], 2048, Check::Block),
     (&[(1056, 0xa108_0808_0212_0000)], 1061, Check::Bits),
     (&[(32, 2056)], 32, Check::Free),

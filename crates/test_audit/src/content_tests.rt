@@ -15,6 +15,7 @@ fn words_of(alloc: Global, leader: u64, words: &[u64]) -> Option<Vec<Word>>
     let low = 1096 + 8 * words.len() as u64;
     let mut placed = Vec::new(alloc);
     placed.push((16, low)).ok()?;
+    placed.push((728, 2)).ok()?;
     placed.push((864, 1)).ok()?;
     placed.push((1040, 0x0080_0000_0000_0000)).ok()?;
     placed.push((1088, leader)).ok()?;

@@ -17,11 +17,12 @@ fn wrong_row(alloc: Global, words: &[Word], why: Check, rows: &[Row]) -> Option<
     None
 }
 
-// A source at 2,056 of the raw object at 2,112, an outbound object at 2,136 with an extent of all its 8 bytes at 2,216, and in the
+// In a heap of version 2 a source at 2,056 of the raw object at 2,112, an outbound object at 2,136 with an extent of all its 8 bytes at 2,216, and in the
 // outbound queue a granted ticket at 2,256 and a waiting one at 2,360. Of heap space 72 + 32 + 8 + 40 bytes of 1,000 are occupied
 // outbound, 40 of them left of the granted ticket, and the waiting one asks 900.
-pub const BUNDLE: [Word; 35] = [
+pub const BUNDLE: [Word; 36] = [
     (16, 2456),
+    (728, 2),
     (816, 152),
     (840, 1000),
     (848, 2256),
@@ -59,7 +60,7 @@ pub const BUNDLE: [Word; 35] = [
     (2408, 900),
 ];
 
-const COUNTS_WRONG: [Row; 13] = [
+const COUNTS_WRONG: [Row; 14] = [
     // Too high, too low, and that of the other account.
     (&[(2080, 2)], 2056),
     (&[(2080, 0)], 2056),
@@ -72,6 +73,8 @@ const COUNTS_WRONG: [Row; 13] = [
     (&[(816, 151)], 816),
     (&[(816, 112)], 816),
     (&[(816, 40)], 816),
+    // The extent is a part of the source, and only its own bytes are occupied.
+    (&[(2200, 3), (2232, 3), (816, 147)], 816),
     // So it is in another space, and in the other account, which is told first.
     (&[(808, 1)], 808),
     (&[(800, 8)], 800),
@@ -83,6 +86,9 @@ const COUNTS_WRONG: [Row; 13] = [
 #[test]
 fn wrong_counts_are_told(rt: HostRuntime) {
     assert_eq!(rt; checked(rt.alloc(), &BUNDLE, &[]), Some(Ok(())));
+    // The whole source is occupied, of which the extent is a part.
+    let part = [(2200, 3), (2232, 3)];
+    assert_eq!(rt; checked(rt.alloc(), &BUNDLE, &part), Some(Ok(())));
     assert_eq!(rt;
         wrong_row(rt.alloc(), &BUNDLE, Check::Count, &COUNTS_WRONG),
         None

@@ -28,7 +28,7 @@ fn a_heap_with_lists_of_both_pools_passes(rt: HostRuntime) {
     assert_eq!(rt; audited(rt.alloc(), LINES, &HEAP, &[]), Some(Ok(())));
 }
 
-const CONTROL: [Row; 24] = [
+const CONTROL: [Row; 27] = [
     (&[(0, 2047)], 0),
     (&[(8, 1096)], 8),
     // The unassigned space begins before the first block, inside of a word, behind the region, or behind its end.
@@ -50,13 +50,17 @@ const CONTROL: [Row; 24] = [
     // The next ticket would have the number 0, or one above 2^40.
     (&[(864, 0)], 864),
     (&[(864, 0x100_0000_0001)], 864),
-    // The words that are always 0.
+    // The version is another, an older and a later one.
+    (&[(728, 0)], 728),
     (&[(728, 1)], 728),
+    (&[(728, 3)], 728),
+    // The words that are always 0.
     (&[(872, 1)], 872),
     (&[(1016, 1)], 1016),
     // The lowest of two is told, before anything else.
     (&[(872, 1), (1016, 1)], 872),
-    (&[(864, 0), (728, 1)], 728),
+    (&[(864, 0), (728, 0)], 728),
+    (&[(24, 2056), (728, 0)], 24),
     (&[(0, 2040), (8, 1096)], 0),
     (&[(1016, 1), (1088, 0)], 1016),
 ];
@@ -199,7 +203,8 @@ fn lists_of_free_blocks_are_checked_after_that(rt: HostRuntime) {
 }
 
 // The control words of a fresh heap of 1,024 lines.
-const FRESH: [Word; 7] = [
+const FRESH: [Word; 8] = [
+    (728, 2),
     (760, 0x100_0000_0000),
     (768, 0x100_0000_0000),
     (776, 32_768),
@@ -277,8 +282,9 @@ fn large_blocks_are_told_by_their_begin_and_by_their_address(rt: HostRuntime) {
 }
 
 // A heap of 64 lines with one large block in use, a raw object of 520 bytes from 3,536 to the end. It holds zeros and a small number.
-const ONE_LARGE: [Word; 12] = [
+const ONE_LARGE: [Word; 13] = [
     (24, 3536),
+    (728, 2),
     (760, 0x100_0000_0000),
     (768, 0x100_0000_0000),
     (776, 2048),

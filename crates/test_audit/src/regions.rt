@@ -69,13 +69,14 @@ pub fn audited(
 pub const LINES: u64 = 32;
 
 /// A small heap, in a region of 2,048 bytes: small blocks from 1,088 to 1,216, and large ones from 1,704 on.
-pub const HEAP: [Word; 31] = [
+pub const HEAP: [Word; 32] = [
     (16, 1216),
     (24, 1704),
     // The fronts of the lists of free small blocks of 3 words, and of free large ones of order 3.
     (48, 1120),
     (568, 1896),
-    // The maxima of both accounts, and the number of the next ticket.
+    // The version; the maxima of both accounts, and the number of the next ticket.
+    (728, 2),
     (760, 0x100_0000_0000),
     (768, 0x100_0000_0000),
     (776, 1024),

@@ -1,7 +1,7 @@
 use Rattle.std.proofs.Common.{◌∙◌, sym, subst, List, ℕ}
 use Rattle.std.specs.Str.Parse.{ParsesUnsigned}
 use Rattle.sdr_words.proofs.WordsLemmas.{decimal_is_text, parsed-decimal}
-use Rattle.sdr_words.proofs.words.number_of.Goals as goal
+use Rattle.sdr_words.proofs.words.long_number_of.Goals as goal
 
 pub returns-in_default : goal.returns-in_default
 returns-in_default c = absurd (c.in_default.ensures.cases.0 (decimal_is_text _ (sym c.if-not-is_decimal.ensures)))
