@@ -1,5 +1,5 @@
 -- A raw object or a string that is given back, as a step.
-use Rattle.std.proofs.Common.{◌≡◌, ◌∙◌, ℕ, List, [], ◌∷◌, inl, inr, Option, Some, None, refl, sym, ap, arith, subst}
+use Rattle.std.proofs.Common.{◌≡◌, ◌∙◌, ℕ, List, [], ◌∷◌, inl, inr, Option, Some, None, refl, sym, ap, subst}
 use Rattle.sdr_stands.specs.Shape.{shape_of}
 use Rattle.sdr_stands.specs.Standing.{HeapStandsFor, thing_entries, with_taken_marked}
 use Rattle.sdr_stands.specs.Ties.{IsUntied, ties_of}

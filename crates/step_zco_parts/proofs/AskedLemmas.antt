@@ -1,5 +1,5 @@
 -- How often media were asked, in words of the world.
-use Rattle.std.proofs.Common.{◌≡◌, ◌∙◌, ℕ, List, Option, None, Some, refl, sym, ap, subst, arith}
+use Rattle.std.proofs.Common.{◌≡◌, ◌∙◌, List, Option, None, Some, refl, sym, ap, subst, arith}
 use Rattle.step_things.proofs.ListLemmas.{IsSmall}
 use Rattle.step_things.specs.Answering.{IsReady}
 use Rattle.sdr_stands.specs.Rows.{object_row}

@@ -1,5 +1,5 @@
 -- What sources, extents and charges come to where an object is cut to its part, and what goes with the extents outside.
-use Rattle.std.proofs.Common.{◌≡◌, ◌∙◌, ◌-◌, ℕ, List, [], Option, Some, refl, sym, ap, subst, arith}
+use Rattle.std.proofs.Common.{◌≡◌, ◌∙◌, ℕ, List, [], Option, Some, refl, sym, ap, subst, arith}
 use Rattle.std.specs.Prelude.{IfSome}
 use Rattle.step_things.proofs.RowLemmas.{gave_fresh}
 use Rattle.sdr_base.specs.declared.kind.Space.{Space}
