@@ -7,6 +7,7 @@ pub mod DraftLemmas
 pub mod EventLemmas
 pub mod FieldsLemmas
 pub mod InputLemmas
+pub mod NumbersLemmas
 pub mod ReadSteps
 pub mod ReadingLemmas
 mod ScriptExamples

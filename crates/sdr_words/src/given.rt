@@ -4,14 +4,15 @@ ghost use Rattle.sdr_words.specs.Events.{nothing_given, given_number};
 ghost use Rattle.sdr_words.specs.Bindings.{with_arg};
 
 use crate::Bindings;
-use sdr_base::{Acct, Bytes, Items, NoMemory, Space};
+use crate::numbers::Numbers;
+use sdr_base::{Acct, Bytes, NoMemory, Space};
 use sdr_model::{Arg, Keys};
 use std::alloc::Global;
 
 /// What arguments give: their numbers in order, and the last of each other kind.
 #[derive(Drop)]
 pub struct Given {
-    pub numbers: Items<u64>,
+    pub numbers: Numbers,
     pub text: Bytes,
     pub account: Acct,
     pub space: Space,
@@ -24,19 +25,12 @@ impl Given {
         ensures { result ≡ nothing_given }
     {
         Given {
-            numbers: Items::new(alloc),
+            numbers: Numbers::new(alloc),
             text: Bytes::new(alloc),
             account: Acct::Inbound,
             space: Space::File,
             order: Keys::ByBytes,
         }
-    }
-
-    // The number at a place among the numbers.
-    fn number(&self, place: usize) -> u64
-        ensures { result ≡ given_number self.now place }
-    {
-        self.numbers.as_slice().get(place).copied().unwrap_or(0)
     }
 
     /// The first five numbers, 0 where there are no more.
@@ -45,11 +39,11 @@ impl Given {
             ∷ given_number self.now 3 ∷ given_number self.now 4 ∷ [] }
     {
         [
-            self.number(0),
-            self.number(1),
-            self.number(2),
-            self.number(3),
-            self.number(4),
+            self.numbers.at(0),
+            self.numbers.at(1),
+            self.numbers.at(2),
+            self.numbers.at(3),
+            self.numbers.at(4),
         ]
     }
 

@@ -25,6 +25,7 @@ mod fields;
 mod given;
 mod lines;
 mod literals;
+mod numbers;
 mod read;
 mod verb;
 mod words;
