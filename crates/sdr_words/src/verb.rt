@@ -1,5 +1,6 @@
 // The verbs of scripts: the one table by which they are read, which is the grammar's.
-ghost use Rattle.std.specs.Prelude.{◌≡◌, [], map, slice_get, unwrap_or};
+ghost use Rattle.std.specs.Prelude.{◌≡◌, [], map, nat_eq, slice_get, unwrap_or};
+ghost use Rattle.std.specs.Cmp.Lexicographic.{pointwise};
 ghost use Rattle.sdr_words.specs.Verbs.{verb_names, place_among, verb_place, shapes, shapes_at, verb_at, verbs};
 
 /// What an argument of a verb may be.
@@ -228,11 +229,27 @@ static VERBS: [Row; 78] = [
     (Verb::Shred, b"shred", &[Value]),
 ];
 
+// Whether two names are the same. They are short, so their bytes are looked at one by one.
+fn is_same(one: &[u8], other: &[u8]) -> bool
+    ensures { result ≡ pointwise nat_eq one.now other.now }
+{
+    let mut front = one;
+    let mut behind = other;
+    while let ([a, more @ ..], [b, after @ ..]) = (front, behind) {
+        if a != b {
+            return false;
+        }
+        front = more;
+        behind = after;
+    }
+    front.is_empty() && behind.is_empty()
+}
+
 // The place of the row with this name.
 fn place_among(rows: &[Row], name: &[u8]) -> Option<usize>
     ensures { result ≡ place_among (map (λ row. row.1.now) rows.now) name.now }
 {
-    rows.iter().position(|row| row.1 == name)
+    rows.iter().position(|row| is_same(row.1, name))
 }
 
 // The shapes in the row at a place.
