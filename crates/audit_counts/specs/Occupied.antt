@@ -64,8 +64,8 @@ left_field spaces.Heap = ticket.LEFT_HEAP
 abbrev pub left_at : View → Space → ℕ → ℕ
 left_at heap space addr = word_of (heap.blocks addr) (left_field space)
 
--- what is occupied of a space in an account: what its objects and the sources charge that they name, and what is left of its
--- tickets
+-- what is occupied of a space in an account: what its objects charge, what the sources charge that they name, and what is left
+-- of its tickets
 abbrev pub occupancy_in : View → ℕ → Acct → Space → ℕ
 occupancy_in heap words account space =
     sum_by (charge_at heap words account space) (places words)

@@ -19,7 +19,7 @@ abbrev pub byte_object : Acct → ℕ → ℕ → ℕ × Thing
 byte_object acct addr block =
     (addr, things.Object (object_of acct (record { block = block; source = 8; offset = 1; length = 1 } ∷ [])))
 
--- a world of these things, of which no ticket asks for space
+-- a world of these things, in which no ticket asks for space
 abbrev pub world_of : List (ℕ × Thing) → World
 world_of things = record {
   things = finite.from_sorted things;

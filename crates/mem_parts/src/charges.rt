@@ -33,7 +33,7 @@ pub fn space_charge(of: Space, bytes: u64) -> Amounts
     charge
 }
 
-/// What the first extent charges of an account that names a source of so many bytes, where they are in this space.
+/// What an extent charges that is the first of an account's to name a source of so many bytes, which are in this space.
 pub fn bytes_charge(of: Space, bytes: u64) -> Amounts
     requires small { bytes ≤ 2 ^ 40 }
     ensures { result ≡ amounts_by (bytes_charge of bytes) }

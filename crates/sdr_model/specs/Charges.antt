@@ -20,8 +20,8 @@ use Rattle.sdr_model.specs.declared.zco.ZcoSource.{ZcoSource}
 abbrev pub extent_bytes : ℕ
 extent_bytes = 32
 
--- What the first extent charges of an account that names a source of so many bytes: these in the space where they are, and
--- itself.
+-- What an extent charges that is the first of an account's to name a source of so many bytes: these, in the space where they
+-- are, and itself.
 abbrev pub bytes_charge : Space → ℕ → Space → ℕ
 bytes_charge of bytes space = in_space of bytes space + in_space spaces.Heap extent_bytes space
 

@@ -17,9 +17,9 @@ fn wrong_row(alloc: Global, words: &[Word], why: Check, rows: &[Row]) -> Option<
     None
 }
 
-// In a heap of version 2 a source at 2,056 of the raw object at 2,112, an outbound object at 2,136 with an extent of all its 8 bytes at 2,216, and in the
-// outbound queue a granted ticket at 2,256 and a waiting one at 2,360. Of heap space 72 + 32 + 8 + 40 bytes of 1,000 are occupied
-// outbound, 40 of them left of the granted ticket, and the waiting one asks 900.
+// In a heap of version 2 a source at 2,056 of the raw object at 2,112, an outbound object at 2,136 with an extent of all its
+// 8 bytes at 2,216, and in the outbound queue a granted ticket at 2,256 and a waiting one at 2,360. Of heap space
+// 72 + 32 + 8 + 40 bytes of 1,000 are occupied outbound, 40 of them left of the granted ticket, and the waiting one asks 900.
 pub const BUNDLE: [Word; 36] = [
     (16, 2456),
     (728, 2),

@@ -1,5 +1,5 @@
--- What is occupied is the sum of what is charged and of what is left of grants, before and after each charge and each release.
--- The laws hold whatever charges it.
+-- What is occupied is the sum of what is charged and of what is left of grants, before and after each charge.
+-- They hold whatever is charged.
 use Rattle.std.proofs.Common.{◌≡◌, ◌+◌, ◌-◌, ℕ, List, [], ◌∷◌, true, false, cond, Some, None, refl, arith}
 use Rattle.std.specs.Prelude.{◌==◌, find, if◌then◌else◌}
 use Rattle.std.proofs.lemmas.List.Sums.{sum_by-cons}
@@ -75,9 +75,3 @@ pub occupied_charged : (heap : Heap) (acct : Acct) (number : ℕ) (amounts : Amo
 occupied_charged heap acct number amounts ts space charges e =
     let o = occupied_by heap acct number amounts ts space in
     let l = left_charged number amounts space ts in omega (arith, e, o, l)
-
--- a release: so much less is charged
-pub occupied_released : (occupied amounts : Amounts) (space : Space) (charges left : ℕ) →
-    amount occupied space ≡ (charges + amount amounts space) + left → amount (minus occupied amounts) space ≡ charges + left
-occupied_released occupied amounts space charges left e =
-    let m = amount-minus occupied amounts space in omega (arith, e, m)

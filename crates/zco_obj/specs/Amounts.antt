@@ -32,11 +32,11 @@ medium_space medium = spaces.Heap
 abbrev pub source_space : CountedSource → Space
 source_space source = medium_space source.row.medium
 
--- what the first extent charges of an account that names a source of so many bytes, which are in this space
+-- what an extent charges that is the first of an account's to name a source of so many bytes, which are in this space
 abbrev pub extent_amounts : Space → ℕ → Amounts
 extent_amounts of bytes = amounts_by (bytes_charge of bytes)
 
--- what an extent charges, which is the only one of the account that names a source, or isn't: itself alone where it isn't
+-- what an extent charges that names a source: itself, and the source's bytes where it is the only one of the account to do so
 abbrev pub naming_amounts : Bool → CountedSource → Amounts
 naming_amounts only source =
     if only then extent_amounts (source_space source) source.row.length else heap_amounts extent_bytes

@@ -29,8 +29,8 @@ pub fn heap_amounts(bytes: u64) -> Amounts
     }
 }
 
-/// What the first extent charges of an account that names a source of so many bytes, which are in this
-/// space: these, and its own block.
+/// What an extent charges that is the first of an account's to name a source of so many bytes, which are
+/// in this space: these, and its own block.
 pub fn extent_amounts(space: Space, bytes: u64) -> Amounts
     requires short { bytes ≤ longest_source }
     ensures { result ≡ extent_amounts space bytes }
