@@ -15,36 +15,40 @@ use sdr_base::Bytes;
 use sdr_model::{Args, ScriptStep};
 use std::alloc::Global;
 
-/// The name that the rest of a line behind its daemon binds, and what stands behind it.
-fn name_and_rest(rest: &[u8]) -> Option<(&[u8], &[u8])>
+/// A part of a line cut behind its first field, where it has one.
+type Cut<'a> = Option<(&'a [u8], &'a [u8])>;
+
+/// The name that the rest of a line behind its daemon binds, and what stands behind it, cut behind the verb.
+fn name_and_rest(rest: &[u8]) -> Option<(&[u8], Cut<'_>)>
     ensures { let given = name_and_rest (fields_of rest.now) in
         MatchOption result (given ≡ None)
-        (λ named. given ≡ Some (named.0.now, fields_of named.1.now)) }
+        (λ named. MatchOption named.1 (given ≡ Some (named.0.now, []))
+        (λ cut. given ≡ Some (named.0.now, cut.0.now ∷ fields_of cut.1.now))) }
 {
     let (first, behind) = cut_field(rest)?;
     match cut_field(behind) {
         Some((equals, after)) if equals == b"=".as_slice() => {
             if is_name(first) {
-                Some((first, after))
+                Some((first, cut_field(after)))
             } else {
                 None
             }
         }
-        _ => Some((&[], rest)),
+        _ => Some((&[], Some((first, behind)))),
     }
 }
 
-/// The verb's place and the arguments of the rest of a line of this daemon, which begins with a verb.
+/// The verb's place and the arguments of a line of this daemon: the verb is cut off the front of what stands behind it.
 fn verb_and_args(
     alloc: Global,
     draft: &Draft<'_>,
     daemon: u8,
-    rest: &[u8],
+    verb: &[u8],
+    arguments: &[u8],
 ) -> Result<(u64, Args), LineError>
     ensures { GivesOr result (verb_and_args (is_bound_by draft.now.steps daemon)
-        (fields_of rest.now)) }
+        (verb.now ∷ fields_of arguments.now)) }
 {
-    let (verb, arguments) = cut_field(rest).ok_or(LineError::Refused)?;
     let place = place_of(verb).ok_or(LineError::Refused)?;
     let args = args_of(alloc, draft, daemon, shapes_at(place), arguments)?;
     Ok((place as u64, args))
@@ -59,8 +63,9 @@ fn read_step<'a>(alloc: Global, draft: &mut Draft<'a>, line: &'a [u8]) -> Result
 {
     let (first, rest) = cut_field(line).ok_or(LineError::Refused)?;
     let daemon = daemon_of(first).ok_or(LineError::Refused)?;
-    let (name, rest) = name_and_rest(rest).ok_or(LineError::Refused)?;
-    let (verb, args) = verb_and_args(alloc, draft, daemon, rest)?;
+    let (name, cut) = name_and_rest(rest).ok_or(LineError::Refused)?;
+    let (verb, arguments) = cut.ok_or(LineError::Refused)?;
+    let (verb, args) = verb_and_args(alloc, draft, daemon, verb, arguments)?;
     let step = ScriptStep {
         line: draft.next_line(),
         daemon,
