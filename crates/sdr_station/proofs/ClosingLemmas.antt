@@ -17,7 +17,7 @@ use Rattle.sdr_image.specs.Opened.{Opened, Rests, transaction_of}
 use Rattle.sdr_machine.specs.Crash.{LeavesBefore, LeavesEither, LeavesOr}
 use Rattle.sdr_machine.specs.Demand.{most_lines}
 use Rattle.sdr_machine.specs.Ground.{Ground, HasHeap, State, committed, rolled_back}
-use Rattle.sdr_machine.specs.Serving.{Brings, Commits, KeepsGround, MeetsFault, RollsBack, SameStates}
+use Rattle.sdr_machine.specs.Serving.{Brings, Commits, KeepsGround, MeetsFault, RollsBack}
 use Rattle.sdr_machine.specs.Standing.{GroundState}
 use Rattle.sdr_log.specs.Frame.{room_of}
 use Rattle.sdr_log.specs.Logged.{GivesHeap}

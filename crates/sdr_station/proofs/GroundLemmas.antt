@@ -1,5 +1,5 @@
 -- A heap on an image as a ground.
-use Rattle.std.proofs.Common.{◌≡◌, ◌∙◌, ◌≤◌, ◌/◌, ◌%◌, ◌==◌, ◌&&◌, ℕ, List, suc, zero, true, false, true≢false, Bool, Option, refl, sym, ap, subst}
+use Rattle.std.proofs.Common.{◌≡◌, ◌∙◌, ◌≤◌, ◌/◌, ◌%◌, ◌==◌, ◌&&◌, ℕ, List, suc, zero, true, false, true≢false, Bool, refl, sym, ap, subst}
 use Rattle.std.specs.Prelude.{replicate, get_or, ⊤, OnOk, Result, Ok, Err}
 use Rattle.sdr_base.specs.declared.line.TheConstants.{WORD}
 use Rattle.sdr_base.specs.declared.media.Media.{Ghosts as MediaGhosts}

@@ -1,5 +1,5 @@
 -- A look at a ticket on a ground.
-use Rattle.std.proofs.Common.{◌≡◌, ◌∙◌, ◌≤◌, ℕ, List, [], Bool, true, false, true≢false, Option, None, Result, Ok, Err, refl, sym, ap, subst, length, arith}
+use Rattle.std.proofs.Common.{◌≡◌, ◌∙◌, ◌≤◌, ℕ, List, [], Bool, true, false, true≢false, Option, Result, Ok, Err, refl, sym, ap, subst, length}
 use Rattle.std.specs.Prelude.{OnOk}
 use Rattle.std.proofs.lemmas.List.{append-nil, append_cancel_left}
 use Rattle.sdr_stands.specs.Standing.{HeapStandsFor}
@@ -9,7 +9,6 @@ use Rattle.sdr_base.specs.Moves.{KeepsSome, MovesPools}
 use Rattle.sdr_base.specs.Objects.{Heap, OnlyFault}
 use Rattle.sdr_base.specs.Pools.{Pools}
 use Rattle.sdr_base.specs.Works.{Looks}
-use Rattle.sdr_base.specs.declared.media.Media.{Ghosts as MediaGhosts}
 use Rattle.sdr_base.specs.declared.moves.Move.{Move}
 use Rattle.sdr_base.specs.declared.stop.Stop.{Stop}
 use Rattle.sdr_base.specs.declared.stop.Stop.TheVariants as stops
@@ -21,7 +20,7 @@ use Rattle.sdr_image.specs.Opened.{Opened}
 use Rattle.sdr_image.specs.QuietLaws.{quiet_same}
 use Rattle.sdr_machine.specs.Demand.{most_lines}
 use Rattle.sdr_machine.specs.Ground.{Ground, State}
-use Rattle.sdr_machine.specs.Serving.{Brings, Shows, SameStates, shown_in}
+use Rattle.sdr_machine.specs.Serving.{Brings, Shows}
 use Rattle.sdr_machine.specs.Standing.{GroundState}
 use Rattle.sdr_log.specs.Frame.{room_of}
 use Rattle.sdr_log.specs.declared.frame.Frame.{Frame}

@@ -11,7 +11,7 @@ use Rattle.sdr_disk.proofs.MomentsLemmas.{at_read}
 use Rattle.sdr_disk.specs.Moments.{AtEach, Reads}
 use Rattle.sdr_disk.specs.Pending.{IsSynced}
 use Rattle.sdr_disk.specs.Tells.{IfTells}
-use Rattle.sdr_image.proofs.OpenedLemmas.{reads_may, reads_synced}
+use Rattle.sdr_image.proofs.OpenedLemmas.{reads_may}
 use Rattle.sdr_image.specs.Opened.{IsQuiet, Opened}
 use Rattle.sdr_image.specs.Opening.{FailsOpening, IsOpened, MayBeOpened, UnlessFault}
 use Rattle.sdr_image.specs.declared.error.ImageError.{ImageError}
@@ -21,7 +21,6 @@ use Rattle.sdr_log.proofs.LoggedLemmas.{closed_only}
 use Rattle.sdr_log.specs.Calls.{KeepsRest, PutsBack}
 use Rattle.sdr_log.specs.Frame.{room_of}
 use Rattle.sdr_log.specs.Log.{put_back_of}
-use Rattle.sdr_log.specs.Logged.{GivesSame}
 use Rattle.sdr_log.specs.declared.frame.Frame.{Frame}
 use Rattle.audit_world.specs.Standing.{StandsAsTold}
 use Rattle.audit_world.specs.Told.{world_of}

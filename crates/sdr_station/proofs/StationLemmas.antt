@@ -18,7 +18,6 @@ use Rattle.sdr_model.specs.declared.answer.Reply.{Reply}
 use Rattle.sdr_model.specs.declared.answer.Reply.TheVariants as replies
 use Rattle.sdr_model.specs.declared.call.Call.{Call}
 use Rattle.sdr_model.specs.declared.event.Event.TheVariants as events
-use Rattle.sdr_station.specs.Grounded.{Grounded}
 use Rattle.step_things.specs.Answering.{dooms}
 
 -- no close but an end is kept

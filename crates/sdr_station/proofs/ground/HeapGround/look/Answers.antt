@@ -1,5 +1,5 @@
 -- A ticket is seen in the heap in memory, which stays.
-use Rattle.std.proofs.Common.{◌≤◌, ◌∙◌, arith, false, refl, sym, ap, subst, true}
+use Rattle.std.proofs.Common.{◌∙◌, arith, false, refl, sym, ap, subst, true}
 use Rattle.sdr_disk.specs.Moments.{Reads}
 use Rattle.sdr_machine.specs.Crash.{LeavesBefore}
 use Rattle.sdr_machine.specs.Ground.{Ground, HasHeap}
