@@ -4,7 +4,7 @@
 //! 1. What is changed is noted once in a transaction, with what it was before; putting back takes as long as the changes.
 //! 2. Each block inside a thing has an owner, by which it is found.
 //! 3. What an account is charged is summed in two passes: one marks the sources that its objects name, and one adds up. Each
-//!    source has a mark for that, so it takes no memory.
+//!    source has a mark for that, so a sum takes no memory.
 //!
 //! Proved: what was touched of things, catalogue and accounts is put back as it was at begin, or kept as the next
 //! begin (`roll_back`, `keep`). An account is charged for its objects, and once for each source that they name (`charged`).

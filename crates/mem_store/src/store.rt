@@ -24,7 +24,8 @@ pub struct Store {
     places: BTreeMap<u64, Place>,
     /// The addresses that were touched since the begin.
     touched: Vec<Addr>,
-    /// A mark for each address that was ever touched, by which `charged` notes which sources are named. Contracts don't see it.
+    /// A mark for each address where a source was put, by which `charged` notes which sources are named. Contracts don't see it. A
+    /// source for whose mark there was no memory is looked for in the extents instead.
     marks: BTreeMap<u64, bool>,
 }
 
@@ -114,7 +115,6 @@ impl Store {
             return Ok(());
         }
         self.touched.reserve(1)?;
-        self.marks.insert(addr, false)?;
         let begun = copied(self.alloc, self.get(addr))?;
         save(&mut self.places, addr, begun)?;
         self.touched.push_reserved(addr);
@@ -133,13 +133,16 @@ impl Store {
         swap(&mut self.places, addr, thing)
     }
 
-    /// Puts a thing, or nothing, at an address that was touched.
+    /// Puts a thing, or nothing, at an address that was touched. A source gets a mark there, if there is memory for it.
     pub fn put(&mut self, addr: Addr, thing: Option<Thing>)
         requires touched { Contains self.old.touched addr }
         ensures now { self.new.now ≡ with_at self.old.now addr thing }
         ensures begun { self.new.begun ≡ self.old.begun }
         ensures touched { self.new.touched ≡ self.old.touched }
     {
+        if let Some(Thing::Source(_)) = &thing {
+            let _marked = self.marks.insert(addr, false);
+        }
         self.swap(addr, thing);
     }
 
