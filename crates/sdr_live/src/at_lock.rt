@@ -54,13 +54,13 @@ fn take_turn<R: Wait, T: Tells, J: Origin, S: Scripted, B: Posting, G: Gate>(
     let mut held = lock.take(rt, &mut own.seat, number);
     let coming = held.value().draw_number(board, place);
     lock.give(&mut own.seat, held);
-    let before = own.coming;
-    own.coming = coming;
-    if coming == before {
+    let turned = if coming == own.coming {
         Turned::Waits
     } else {
         Turned::GoesOn
-    }
+    };
+    own.coming = coming;
+    turned
 }
 
 /// The daemon takes turns until it has left, or has drawn all numbers that its seat may draw.

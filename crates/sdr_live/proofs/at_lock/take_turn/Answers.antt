@@ -5,8 +5,8 @@ use Rattle.sdr_model.specs.declared.journal.Entry.{Entry}
 use Rattle.sdr_turn.specs.declared.known.Known.{Known}
 use Rattle.sdr_live.proofs.at_lock.take_turn.Goals as goal
 
-pub returns-else-eq : goal.returns-else-eq
-returns-else-eq g c =
+pub returns : goal.returns
+returns g c =
     let seat = c.give.new.seat in
     let place : seat.knows.place ≡ c.args.own.now.seat.knows.place =
     ap (λ (k : Known Entry). k.place) c.give.ensures.gave ∙ ap (λ (k : Known Entry). k.place) c.take-held.ensures.taken
