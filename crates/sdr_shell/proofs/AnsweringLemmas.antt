@@ -11,24 +11,24 @@ use Rattle.sdr_disk.specs.declared.disk.Disk.{Ghosts as DiskGhosts}
 use Rattle.sdr_log.specs.Calls.{KeepsDisk}
 use Rattle.sdr_log.specs.declared.frame.Frame.{Frame}
 use Rattle.sdr_run.specs.Playing.{ReplaysSteps}
-use Rattle.sdr_shell.proofs.InspectLemmas as inspection
-use Rattle.sdr_shell.proofs.LoadLemmas as load
-use Rattle.sdr_shell.proofs.OnHeapLemmas as heap_run
-use Rattle.sdr_shell.proofs.RecoverLemmas as recovery
-use Rattle.sdr_shell.proofs.StillLemmas.{reads_none}
-use Rattle.sdr_shell.specs.Answers.{AnswersDry, AnswersFormat, Seen, Wrote, change_of, seen}
-use Rattle.sdr_shell.specs.Formatting.{HasFormatted, IsFormatStatus, LeavesDisk}
-use Rattle.sdr_shell.specs.Inspecting.{AnswersInspect}
-use Rattle.sdr_shell.specs.Loading.{AnswersLoad}
-use Rattle.sdr_shell.specs.Recovering.{AnswersRecover}
-use Rattle.sdr_shell.specs.Running.{AnswersRun, PrintsJournal}
-use Rattle.sdr_shell.specs.Still.{IsDryStatus}
-use Rattle.sdr_shell.specs.Telling.{AnswersInput}
+use Rattle.sdr_forms.proofs.InspectLemmas as inspection
+use Rattle.sdr_forms.proofs.LoadLemmas as load
+use Rattle.sdr_forms.proofs.OnHeapLemmas as heap_run
+use Rattle.sdr_forms.proofs.RecoverLemmas as recovery
+use Rattle.sdr_forms.proofs.StillLemmas.{reads_none}
+use Rattle.sdr_forms.specs.Answers.{AnswersDry, AnswersFormat, Seen, Wrote, change_of, seen}
+use Rattle.sdr_forms.specs.Formatting.{HasFormatted, IsFormatStatus, LeavesDisk}
+use Rattle.sdr_forms.specs.Inspecting.{AnswersInspect}
+use Rattle.sdr_forms.specs.Loading.{AnswersLoad}
+use Rattle.sdr_forms.specs.Recovering.{AnswersRecover}
+use Rattle.sdr_forms.specs.Running.{AnswersRun, PrintsJournal}
+use Rattle.sdr_forms.specs.Still.{IsDryStatus}
+use Rattle.sdr_forms.specs.Telling.{AnswersInput}
 use Rattle.sdr_shell.specs.Words.{AnswersForm}
-use Rattle.sdr_shell.specs.declared.form.Form.{Form}
-use Rattle.sdr_shell.specs.declared.form.Form.TheVariants as forms
-use Rattle.sdr_shell.specs.declared.outcome.RunOutcome.{RunOutcome}
-use Rattle.sdr_shell.specs.declared.status.TheConstants.{USAGE, TOO_SMALL}
+use Rattle.sdr_forms.specs.declared.form.Form.{Form}
+use Rattle.sdr_forms.specs.declared.form.Form.TheVariants as forms
+use Rattle.sdr_forms.specs.declared.outcome.RunOutcome.{RunOutcome}
+use Rattle.sdr_forms.specs.declared.status.TheConstants.{USAGE, TOO_SMALL}
 
 -- no dry run answers that the words are no form
 dry_not_usage : (status : ℕ) → IsDryStatus status → status ≡ USAGE → ⊥

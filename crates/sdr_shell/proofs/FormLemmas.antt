@@ -6,9 +6,9 @@ use Rattle.std.specs.Rc.{rc_str_bytes}
 use Rattle.std.specs.declared.alloc.Global.{Global}
 use Rattle.std.specs.declared.rc.RcStr.{RcStr}
 use Rattle.sdr_log.specs.declared.frame.Frame.{Frame}
-use Rattle.sdr_shell.specs.Form.{asks_live, form_of, format_of, is_word, live_form, live_totals, load_of, still_form}
-use Rattle.sdr_shell.specs.declared.form.Form.{Form}
-use Rattle.sdr_shell.specs.declared.form.Form.TheVariants as forms
+use Rattle.sdr_forms.specs.Form.{asks_live, form_of, format_of, is_word, live_form, live_totals, load_of, still_form}
+use Rattle.sdr_forms.specs.declared.form.Form.{Form}
+use Rattle.sdr_forms.specs.declared.form.Form.TheVariants as forms
 
 -- a word that is `run` isn't `format`
 run_is_not_format : (word : RcStr Global) → is_word word (codes "run") ≡ true → is_word word (codes "format") ≡ false

@@ -8,19 +8,19 @@ use Rattle.sdr_base.specs.declared.source.Source.{Ghosts as SourceGhosts}
 use Rattle.sdr_disk.specs.Pending.{IsSynced}
 use Rattle.sdr_disk.specs.declared.disk.Disk.{Ghosts as DiskGhosts}
 use Rattle.sdr_log.specs.Calls.{KeepsDisk}
-use Rattle.sdr_shell.specs.Answers.{AnswersDry, AnswersFormat, Wrote, seen}
-use Rattle.sdr_shell.specs.Form.{OnFormat, form_of, is_live, is_load, live_form, opens_heap, still_form}
-use Rattle.sdr_shell.specs.Inspecting.{AnswersInspect}
-use Rattle.sdr_shell.specs.Loading.{AnswersLoad}
-use Rattle.sdr_shell.specs.Recovering.{AnswersRecover}
-use Rattle.sdr_shell.specs.Replaying.{AnswersReplay}
-use Rattle.sdr_shell.specs.Running.{AnswersRun}
-use Rattle.sdr_shell.specs.Formatting.{HasFormatted, LeavesDisk}
+use Rattle.sdr_forms.specs.Answers.{AnswersDry, AnswersFormat, Wrote, seen}
+use Rattle.sdr_forms.specs.Form.{OnFormat, form_of, is_live, is_load, live_form, opens_heap, still_form}
+use Rattle.sdr_forms.specs.Inspecting.{AnswersInspect}
+use Rattle.sdr_forms.specs.Loading.{AnswersLoad}
+use Rattle.sdr_forms.specs.Recovering.{AnswersRecover}
+use Rattle.sdr_forms.specs.Replaying.{AnswersReplay}
+use Rattle.sdr_forms.specs.Running.{AnswersRun}
+use Rattle.sdr_forms.specs.Formatting.{HasFormatted, LeavesDisk}
 use Rattle.sdr_core.specs.Caused.{HaveFailed, media_change}
-use Rattle.sdr_shell.specs.declared.form.Form.{Form}
-use Rattle.sdr_shell.specs.declared.form.Form.TheVariants as forms
-use Rattle.sdr_shell.specs.declared.outcome.RunOutcome.{RunOutcome}
-use Rattle.sdr_shell.specs.declared.status.TheConstants.{USAGE}
+use Rattle.sdr_forms.specs.declared.form.Form.{Form}
+use Rattle.sdr_forms.specs.declared.form.Form.TheVariants as forms
+use Rattle.sdr_forms.specs.declared.outcome.RunOutcome.{RunOutcome}
+use Rattle.sdr_forms.specs.declared.status.TheConstants.{USAGE}
 
 -- What is answered to words of this form, or of none, given a disk and media: what was read and written, and what is given back.
 pub record AnswersForm {D M S K : Type 0} (d : DiskGhosts D) (m : MediaGhosts M) (s : SourceGhosts S) (k : SinkGhosts K) (form : Option Form)

@@ -1,14 +1,11 @@
 // The call that may wait.
 ghost use Rattle.std.specs.Prelude.{◌≡◌};
-ghost use Rattle.sdr_shell.specs.Form.{live_totals};
+ghost use Rattle.sdr_forms.specs.Form.{live_totals};
 ghost use Rattle.sdr_shell.specs.Words.{AnswersLive};
 
-use crate::RunOutcome;
-use crate::form::{Form, form_of};
-use crate::outcome::no_form;
-use crate::running::run_input;
 use sdr_base::{Gate, Media, Sink, Source};
 use sdr_disk::Disk;
+use sdr_forms::{Form, RunOutcome, form_of, no_form, run_input};
 use std::alloc::Global;
 use std::rc::RcStr;
 use std::sync::Wait;

@@ -1,12 +1,11 @@
 // The call that the program makes.
 ghost use Rattle.sdr_shell.specs.Words.{AnswersWords};
 
-use crate::RunOutcome;
-use crate::commands::still;
-use crate::form::asks_live;
 use crate::live_call::live;
+use crate::still_call::still;
 use sdr_base::{Gate, Media, Sink, Source};
 use sdr_disk::Disk;
+use sdr_forms::{RunOutcome, asks_live};
 use std::alloc::Global;
 use std::rc::RcStr;
 use std::sync::Wait;

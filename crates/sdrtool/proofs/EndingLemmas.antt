@@ -9,8 +9,8 @@ use Rattle.sdr_base.specs.declared.sink.Sink.{Ghosts as SinkGhosts}
 use Rattle.sdr_base.specs.declared.source.Source.{Ghosts as SourceGhosts}
 use Rattle.sdr_disk.specs.declared.disk.Disk.{Ghosts as DiskGhosts}
 use Rattle.sdr_log.specs.Frame.{IsInLimits}
-use Rattle.sdr_shell.specs.Form.{OnFormat, form_of}
-use Rattle.sdr_shell.specs.declared.form.Form.{Form}
+use Rattle.sdr_forms.specs.Form.{OnFormat, form_of}
+use Rattle.sdr_forms.specs.declared.form.Form.{Form}
 use Rattle.sdr_system.specs.Held.{HoldsInput}
 use Rattle.sdr_system.specs.HeldFeed.{HeldFeed}
 use Rattle.sdr_system.specs.declared.held.Held.{Held}

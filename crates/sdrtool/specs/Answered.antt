@@ -7,7 +7,7 @@ use Rattle.sdr_base.specs.declared.sink.Sink.{Ghosts as SinkGhosts}
 use Rattle.sdr_base.specs.declared.source.Source.{Ghosts as SourceGhosts}
 use Rattle.sdr_disk.specs.declared.disk.Disk.{Ghosts as DiskGhosts}
 use Rattle.sdr_shell.specs.Words.{AnswersWords}
-use Rattle.sdr_shell.specs.declared.outcome.RunOutcome.{RunOutcome}
+use Rattle.sdr_forms.specs.declared.outcome.RunOutcome.{RunOutcome}
 use Rattle.sdrtool.specs.declared.answering.Answered.{Answered}
 
 -- The top call was made on a disk, and the status and the disk that it gave stand.

@@ -1,8 +1,8 @@
 // The call of `top` that answers a form.
 ghost use Rattle.std.specs.Prelude.{◌≡◌, ◌↔◌, IfOk, MatchBool, MatchOption, Some, None, codes};
 ghost use Rattle.sdr_log.specs.Frame.{IsInLimits};
-ghost use Rattle.sdr_shell.specs.Answers.{Wrote, seen};
-ghost use Rattle.sdr_shell.specs.Form.{OnFormat, form_of};
+ghost use Rattle.sdr_forms.specs.Answers.{Wrote, seen};
+ghost use Rattle.sdr_forms.specs.Form.{OnFormat, form_of};
 ghost use Rattle.sdrtool.specs.Answered.{IsAnswered};
 ghost use Rattle.sdrtool.specs.Ending.{ComesBy, ComesHeld, IsEmpty, IsStatusOf, IsStatusOnFile};
 ghost use Rattle.sdrtool.specs.Ending.{SpellsNone, SpellsScript, TakesFile, TakesNoFile, runs_on_disk};

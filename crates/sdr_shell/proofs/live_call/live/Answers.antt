@@ -1,9 +1,9 @@
 use Rattle.std.proofs.Common.{◌≡◌, ◌∙◌, None, Some, ap, refl, sym}
 use Rattle.sdr_shell.proofs.AnsweringLemmas.{answers_run, answers_usage, form_at, unrun}
 use Rattle.sdr_shell.proofs.FormLemmas.{live_known, live_unknown}
-use Rattle.sdr_shell.specs.Form.{form_of, live_form}
-use Rattle.sdr_shell.specs.declared.form.Form.TheVariants.{Run}
-use Rattle.sdr_shell.specs.declared.status.TheConstants.{USAGE}
+use Rattle.sdr_forms.specs.Form.{form_of, live_form}
+use Rattle.sdr_forms.specs.declared.form.Form.TheVariants.{Run}
+use Rattle.sdr_forms.specs.declared.status.TheConstants.{USAGE}
 use Rattle.sdr_shell.proofs.live_call.live.Goals as goal
 
 pub returns-in-Some : goal.returns-in-Some

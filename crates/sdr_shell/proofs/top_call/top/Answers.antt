@@ -1,7 +1,7 @@
 use Rattle.std.proofs.Common.{◌∙◌, Option, subst, sym}
 use Rattle.sdr_shell.proofs.FormLemmas.{live_words, still_words}
 use Rattle.sdr_shell.specs.Words.{AnswersForm}
-use Rattle.sdr_shell.specs.declared.form.Form.{Form}
+use Rattle.sdr_forms.specs.declared.form.Form.{Form}
 use Rattle.sdr_shell.proofs.top_call.top.Goals as goal
 
 pub returns-then-asks_live : goal.returns-then-asks_live

@@ -1,0 +1,12 @@
+pub mod Answers
+pub mod Form
+pub mod Formatting
+pub mod Inspecting
+pub mod Loading
+pub mod OnHeap
+pub mod Recovering
+pub mod Replaying
+pub mod Running
+pub mod Shutting
+pub mod Still
+pub mod Telling
