@@ -1,5 +1,0 @@
-use Rattle.std.proofs.Common.{ℕ, subst, sym}
-use Rattle.sdrtool.proofs.exit_code.Goals as goal
-
-pub returns : goal.returns
-returns g c = rw c.from.ensures c.run.ensures
