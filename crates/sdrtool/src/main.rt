@@ -4,7 +4,7 @@
 //! It hands the words of its command line, the standard streams, and the files and bulk items of the current folder to `exit_code` of
 //! `sdr_command`, and ends with what that gives.
 //!
-//! Proved: no clause says what `main` hands on, nor that it returns what `exit_code` gives.
+//! Proved: that it is safe. No clause says what `main` hands on, nor that it returns what `exit_code` gives.
 #![tactic(auto)]
 
 use sdr_base::NoMemory;
