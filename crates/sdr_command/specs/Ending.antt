@@ -29,7 +29,7 @@ use Rattle.sdr_command.specs.declared.about.TheConstants.{HELP, VERSION}
 use Rattle.sdr_command.specs.declared.command.Command.{Command}
 use Rattle.sdr_command.specs.declared.command.Command.TheVariants as commands
 
--- The top call was made with these words on such a disk, and this is its status.
+-- What the top call answers to these words on such a disk, and this is its status.
 pub record IsStatusOf {D M S K : Type 0} (d : DiskGhosts D) (On : D → Type 0) (m : MediaGhosts M) (s : SourceGhosts S) (k : SinkGhosts K)
     (words : List (RcStr Global)) (files : M) (input input' : S) (output output' : K) (status : ℕ) : Type 0 where
   pub disk : D
@@ -64,6 +64,18 @@ abbrev pub IsStatusOnFile : {D M S K : Type 0} → DiskGhosts D → MediaGhosts 
 IsStatusOnFile d m s k words files input input' output output' status =
     IsUnopened input input' output output' status ⊎ IsStarved k input input' output output' status
     ⊎ IsStatusOf d IsAny m s k words files input input' output output' status
+
+-- a file couldn't be opened, and nothing was printed; or there was no memory for its bytes, which the last line tells
+abbrev pub IsNotOpened : {K : Type 0} → SinkGhosts K → K → K → ℕ → Type 0
+IsNotOpened k output output' status =
+    ((status ≡ CANNOT_OPEN) × (output' ≡ output))
+    ⊎ ((status ≡ NO_MEMORY) × Wrote (seen k.taken k.faults output) (seen k.taken k.faults output') (codes "no memory\n"))
+
+-- a file wasn't opened, or it is answered on it as the top call does that reads the input from here to there
+abbrev pub IsStatusRead : {D M S K : Type 0} → DiskGhosts D → MediaGhosts M → SourceGhosts S → SinkGhosts K
+    → List (RcStr Global) → M → S → S → K → K → ℕ → Type 0
+IsStatusRead d m s k words files input input' output output' status =
+    IsNotOpened k output output' status ⊎ IsStatusOf d IsAny m s k words files input input' output output' status
 
 -- a held input as a source of which nothing was read
 abbrev pub feed_of : Held → HeldFeed

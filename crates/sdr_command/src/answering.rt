@@ -1,19 +1,22 @@
 // The call of `top` that answers a form.
-ghost use Rattle.std.specs.Prelude.{◌≡◌, ◌↔◌, IfOk, MatchBool, MatchOption, Some, None, codes};
+ghost use Rattle.std.specs.Prelude.{◌≡◌, ◌≤◌, ◌↔◌, IfOk, IfSome, MatchOption, Some, None, codes, length};
 ghost use Rattle.sdr_log.specs.Frame.{IsInLimits};
 ghost use Rattle.sdr_forms.specs.Answers.{Wrote, seen};
-ghost use Rattle.sdr_forms.specs.Form.{OnFormat, form_of};
+ghost use Rattle.sdr_forms.specs.Form.{OnFormat, form_of, form_on};
+ghost use Rattle.sdr_forms.specs.Telling.{WasRead};
 ghost use Rattle.sdr_command.specs.Answered.{IsAnswered};
-ghost use Rattle.sdr_command.specs.Ending.{ComesBy, ComesHeld, IsEmpty, IsStatusOf, IsStatusOnFile};
-ghost use Rattle.sdr_command.specs.Ending.{SpellsNone, SpellsScript, TakesFile, TakesNoFile, runs_on_disk};
+ghost use Rattle.sdr_command.specs.Ending.{ComesBy, ComesHeld, IsEmpty, IsNotOpened, IsStatusOf, IsStatusOnFile};
+ghost use Rattle.sdr_command.specs.Ending.{IsStatusRead, SpellsNone, SpellsScript, TakesFile, TakesNoFile, feed_of};
+ghost use Rattle.sdr_command.specs.Ending.{runs_on_disk};
 
 use crate::CANNOT_OPEN;
 use crate::command::Asked;
 use crate::notes::{note_forms, note_loss, note_no_heap, note_unopened};
 use sdr_base::{Media, NoGate, Sink, Source, write_all};
 use sdr_disk::{Disk, MemoryDisk};
-use sdr_forms::{Form, NO_MEMORY, NOT_FORMATTED, USAGE};
-use sdr_shell::top;
+use sdr_forms::{Form, HeapForm, NO_MEMORY, NOT_FORMATTED, USAGE};
+use sdr_model::Script;
+use sdr_shell::{top, top_read};
 use sdr_system::{
     FileDisk, Held, HeldSource, Place, hold, make_disk, open_disk, place_of, view_disk,
 };
@@ -83,18 +86,55 @@ pub fn answer_usage<
     answer_in_memory(rt, words, media, input, output)
 }
 
-// The file of a path as a disk for a form: to be looked at alone, or as it is, or of so many bytes.
+// The file of a path as a disk to be changed: as it is, or of so many bytes.
+fn open_to_change<R: Files<File = File> + AllocGlobal>(
+    rt: &R,
+    path: &str,
+    bytes: Option<u64>,
+) -> io::Result<FileDisk<File>> {
+    match bytes {
+        Some(bytes) => make_disk(rt, path, bytes),
+        None => open_disk(rt, path),
+    }
+}
+
+// The file of a path as a disk for a form: to be looked at alone, or to be changed.
 fn open_for<R: Files<File = File> + AllocGlobal>(
     rt: &R,
     form: Form,
     path: &str,
     bytes: Option<u64>,
 ) -> io::Result<FileDisk<File>> {
-    match (form, bytes) {
-        (Form::Inspect, _) => view_disk(rt, path),
-        (_, Some(bytes)) => make_disk(rt, path, bytes),
-        (_, None) => open_disk(rt, path),
+    match form {
+        Form::Inspect => view_disk(rt, path),
+        _ => open_to_change(rt, path, bytes),
     }
+}
+
+// The status where there is no memory for the input, or for the bytes of a file.
+fn answer_starved<K: Sink>(output: &mut K) -> u8
+    ensures status { result ≡ NO_MEMORY }
+    ensures written { Wrote (seen K.taken K.faults output.old) (seen K.taken K.faults output.new)
+        (codes "no memory\n") }
+{
+    let _ = write_all(output, b"no memory\n");
+    NO_MEMORY
+}
+
+// The status where a file isn't opened: the cause is told on standard error, and want of memory by the last line.
+fn answer_unopened<R: AllocGlobal + Eprint, K: Sink>(
+    rt: &R,
+    path: &str,
+    error: &io::Error,
+    output: &mut K,
+) -> u8
+    ensures { IsNotOpened K.Sink output.old output.new result }
+{
+    if error.kind() == ErrorKind::OutOfMemory {
+        return answer_starved(output);
+    }
+    note_unopened(rt, path, error);
+    CANNOT_OPEN
 }
 
 // The status of a form on the file of a path, where it can be opened.
@@ -118,11 +158,7 @@ fn answer_on_file<
 {
     let mut disk = match open_for(rt, asked.form, path, bytes) {
         Ok(disk) => disk,
-        Err(error) if error.kind() == ErrorKind::OutOfMemory => return answer_starved(output),
-        Err(error) => {
-            note_unopened(rt, path, &error);
-            return CANNOT_OPEN;
-        }
+        Err(error) => return answer_unopened(rt, path, &error, output),
     };
     // What can't be read to be told is met again by the form.
     if let Form::Format { frame } = asked.form {
@@ -135,37 +171,115 @@ fn answer_on_file<
     status
 }
 
-// The status where there is no memory for the input, or for the bytes of a file.
-fn answer_starved<K: Sink>(output: &mut K) -> u8
-    ensures status { result ≡ NO_MEMORY }
-    ensures written { Wrote (seen K.taken K.faults output.old) (seen K.taken K.faults output.new)
-        (codes "no memory\n") }
+// What the top call gives on a disk for a script that was read, of whose source this is left, with these media.
+fn answer_read<
+    R: Threads + Wait + Sync + AllocGlobal,
+    D: Disk + Send + Drop,
+    M: Media + Send + Drop,
+    S: Source,
+    K: Sink,
+>(
+    rt: &R,
+    asked: Asked<'_>,
+    form: HeapForm,
+    script: Script,
+    disk: D,
+    media: M,
+    input: &S,
+    output: &mut K,
+) -> Answered<D>
+    requires few { length script ≤ 1_048_577 }
+    requires is { form_of asked.words.now ≡ Some (form_on form) }
+    ensures { (before : _) → WasRead S.Source script before input.now →
+        IsAnswered D.Disk M.Media S.Source K.Sink asked.entry.words.now disk media
+        before input.now output.old output.new result }
 {
-    let _ = write_all(output, b"no memory\n");
-    NO_MEMORY
+    let outcome = top_read(
+        rt,
+        rt.alloc(),
+        form,
+        script,
+        disk,
+        media,
+        input,
+        output,
+        &NoGate,
+    );
+    Answered {
+        status: outcome.status,
+        disk: outcome.disk,
+    }
 }
 
-// Whether an input that is held spells a script. One that failed spells none.
-fn spells_script(alloc: Global, held: &Held) -> Result<bool, ScriptError>
-    ensures { IfOk result
-        (λ spells. MatchBool spells (SpellsScript held.now) (SpellsNone held.now)) }
+// The status of a form that runs a script on the file of a path, where it can be opened. The script was read before: this is left of its source.
+fn run_read<
+    R: Threads + Wait + Sync + AllocGlobal + Eprint + Files<File = File>,
+    M: Media + Send + Drop,
+    S: Source,
+    K: Sink,
+>(
+    rt: &R,
+    asked: Asked<'_>,
+    form: HeapForm,
+    script: Script,
+    path: &str,
+    bytes: Option<u64>,
+    media: M,
+    input: &S,
+    output: &mut K,
+) -> u8
+    requires few { length script ≤ 1_048_577 }
+    requires is { form_of asked.words.now ≡ Some (form_on form) }
+    ensures { (before : _) → WasRead S.Source script before input.now →
+        IsStatusRead ⟦<FileDisk<File> as Disk>⟧ M.Media S.Source K.Sink
+        asked.entry.words.now media before input.now output.old output.new result }
+{
+    let disk = match open_to_change(rt, path, bytes) {
+        Ok(disk) => disk,
+        Err(error) => return answer_unopened(rt, path, &error, output),
+    };
+    let Answered { status, mut disk } = answer_read(
+        rt, asked, form, script, disk, media, input, output,
+    );
+    if status == NOT_FORMATTED {
+        let _ = note_no_heap(rt, path, &mut disk);
+    }
+    status
+}
+
+// The script of an input that is held, which is read from its source, if it spells one. One that failed spells none.
+fn read_held(
+    alloc: Global,
+    held: &Held,
+    source: &mut HeldSource<'_>,
+) -> Result<Option<Script>, ScriptError>
+    requires whole { source.old ≡ feed_of held.now }
+    ensures read { IfOk result (λ script. MatchOption script (SpellsNone held.now)
+        (λ script. SpellsScript held.now
+        × WasRead ⟦<HeldSource<'static> as Source>⟧ script source.old source.new)) }
+    ensures few { IfOk result (λ script. IfSome script (λ script. length script ≤ 1_048_577)) }
 {
     if held.failed {
-        return Ok(false);
+        return Ok(None);
     }
-    match read_script(alloc, &mut held.source()) {
-        Ok(_) => Ok(true),
-        Err(ScriptError::Line { .. }) => Ok(false),
+    match read_script(alloc, source) {
+        Ok(script) => Ok(Some(script)),
+        Err(ScriptError::Line { .. }) => Ok(None),
         // What is held of an input that didn't fail doesn't fail: there is no memory.
         Err(error) => Err(error),
     }
 }
 
-// Whether a form runs a script on a disk.
-fn runs_on_disk(form: Form) -> bool
-    ensures { result ≡ runs_on_disk form }
+// How a form runs a script on the heap of the disk, if it does.
+fn heap_form(form: Form) -> Option<HeapForm>
+    ensures { MatchOption result (runs_on_disk form ≡ false)
+        (λ heap. (runs_on_disk form ≡ true) × (form ≡ form_on heap)) }
 {
-    matches!(form, Form::Replay | Form::Run { .. })
+    match form {
+        Form::Replay => Some(HeapForm::Replay),
+        Form::Run { totals } => Some(HeapForm::Run { totals }),
+        _ => None,
+    }
 }
 
 // The status of a form that runs a script on the file of a path. The input is read whole before the file is opened, and
@@ -178,13 +292,14 @@ fn run_on_file<
 >(
     rt: &R,
     asked: Asked<'_>,
+    form: HeapForm,
     path: &str,
     bytes: Option<u64>,
     media: M,
     input: &mut S,
     output: &mut K,
 ) -> u8
-    requires limits { OnFormat (Some asked.form) IsInLimits }
+    requires is { form_of asked.words.now ≡ Some (form_on form) }
     ensures { ComesHeld ⟦<MemoryDisk as Disk>⟧ ⟦<FileDisk<File> as Disk>⟧ M.Media S.Source
         ⟦<HeldSource<'static> as Source>⟧ K.Sink asked.entry.words.now media
         input.old input.new output.old output.new result }
@@ -192,13 +307,13 @@ fn run_on_file<
     let Ok(held) = hold(rt.alloc(), input) else {
         return answer_starved(output);
     };
-    let Ok(spells) = spells_script(rt.alloc(), &held) else {
+    let mut source = held.source();
+    let Ok(script) = read_held(rt.alloc(), &held, &mut source) else {
         return answer_starved(output);
     };
-    if spells {
-        answer_on_file(rt, asked, path, bytes, media, &mut held.source(), output)
-    } else {
-        answer_in_memory(rt, asked.words, media, &mut held.source(), output)
+    match script {
+        Some(script) => run_read(rt, asked, form, script, path, bytes, media, &source, output),
+        None => answer_in_memory(rt, asked.words, media, &mut held.source(), output),
     }
 }
 
@@ -225,6 +340,7 @@ pub fn answer_form<
     K: Sink,
 >(rt: &R, asked: Asked<'_>, media: M, input: &mut S, output: &mut K) -> u8
     requires limits { OnFormat (Some asked.form) IsInLimits }
+    requires is { form_of asked.words.now ≡ Some asked.form }
     ensures { ComesBy ⟦<MemoryDisk as Disk>⟧ ⟦<FileDisk<File> as Disk>⟧ M.Media S.Source
         ⟦<HeldSource<'static> as Source>⟧ K.Sink asked.entry.disk.now asked.entry.form
         asked.entry.words.now media input.old input.new output.old output.new result }
@@ -232,9 +348,8 @@ pub fn answer_form<
     let Some((path, bytes)) = file_of(asked) else {
         return answer_in_memory(rt, asked.words, media, input, output);
     };
-    let on_disk = runs_on_disk(asked.form);
-    if on_disk {
-        return run_on_file(rt, asked, path, bytes, media, input, output);
+    match heap_form(asked.form) {
+        Some(form) => run_on_file(rt, asked, form, path, bytes, media, input, output),
+        None => answer_on_file(rt, asked, path, bytes, media, input, output),
     }
-    answer_on_file(rt, asked, path, bytes, media, input, output)
 }

@@ -10,6 +10,8 @@ use Rattle.sdr_log.specs.declared.frame.Frame.{Frame}
 use Rattle.sdr_words.specs.Words.{as_number}
 use Rattle.sdr_forms.specs.declared.form.Form.{Form}
 use Rattle.sdr_forms.specs.declared.form.Form.TheVariants as forms
+use Rattle.sdr_forms.specs.declared.form.HeapForm.{HeapForm}
+use Rattle.sdr_forms.specs.declared.form.HeapForm.TheVariants as heap_forms
 
 -- the regions, where both are as long as is allowed
 abbrev pub allowed : Frame → Option Frame
@@ -108,3 +110,8 @@ live_form form = None
 abbrev pub still_form : Option Form → Option Form
 still_form (Some (forms.Run totals)) = None
 still_form form = form
+
+-- the form that runs a script so
+abbrev pub form_on : HeapForm → Form
+form_on heap_forms.Replay = forms.Replay
+form_on (heap_forms.Run totals) = forms.Run totals

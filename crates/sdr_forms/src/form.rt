@@ -30,6 +30,15 @@ pub enum Form {
     Format { frame: Frame },
 }
 
+/// A form that runs a script on the heap of the disk.
+#[derive(Clone, Copy, Debug, PartialEq, Eq)]
+pub enum HeapForm {
+    /// `replay`.
+    Replay,
+    /// `run`, or `run totals`.
+    Run { totals: bool },
+}
+
 // The regions that two words ask for.
 fn frame_of(log: &[u8], heap: &[u8]) -> Option<Frame>
     ensures frame { result ≡ frame_from (as_number log.now) (as_number heap.now) }

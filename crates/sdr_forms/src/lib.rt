@@ -29,14 +29,14 @@ mod shutting;
 mod status;
 
 pub use drying::dry_input;
-pub use form::{Form, asks_live, form_of};
+pub use form::{Form, HeapForm, asks_live, form_of};
 pub use formatting::format_disk;
 pub use inspecting::inspect_disk;
 pub use loading::load_disk;
 pub use outcome::{RunOutcome, no_form, without_journal};
 pub use recovering::{Recovered, recover_disk};
-pub use replaying::replay_input;
-pub use running::run_input;
+pub use replaying::{replay_input, replay_script};
+pub use running::{run_input, run_scripts};
 pub use status::{
     DAMAGED, DISK_FAULT, DONE, INPUT_FAULT, NO_MEMORY, NOT_FORMATTED, OUTPUT_FAULT, REFUSED_LINE,
     TOO_SMALL, USAGE,

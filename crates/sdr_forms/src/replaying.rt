@@ -47,8 +47,8 @@ pub fn tell_ran<K: Sink>(ran: RunEnd, output: &mut K) -> u8
     if ran.printing { DONE } else { OUTPUT_FAULT }
 }
 
-// Replays a schedule that was read.
-fn replay_script<D: Disk, M: Media, K: Sink>(
+/// Replays a script that was read on the heap of the disk, whose sources name these media, and tells what stopped it.
+pub fn replay_script<D: Disk, M: Media, K: Sink>(
     alloc: Global,
     script: &[ScriptStep],
     disk: D,

@@ -71,8 +71,15 @@ fn print_run<K: Sink>(output: &mut K, journal: &[Entry], asked: bool, totals: &T
     }
 }
 
-// Runs the daemons of scripts that were read, with totals or without.
-fn run_scripts<R: Threads + Wait + Sync, D: Disk + Send, M: Media + Send, K: Sink, G: Gate + Sync>(
+/// Runs the daemons of a script that was read on the heap of the disk, whose sources name these media, and prints the journal, and behind it
+/// the line of its totals where that is asked. It may wait, and what it ensures holds if it returns.
+pub fn run_scripts<
+    R: Threads + Wait + Sync,
+    D: Disk + Send,
+    M: Media + Send,
+    K: Sink,
+    G: Gate + Sync,
+>(
     rt: &R,
     alloc: Global,
     totals: bool,
