@@ -1,5 +1,5 @@
 -- How the program comes to the status that it ends with.
-use Rattle.std.proofs.Common.{◌≡◌, ◌∙◌, ◌≢◌, ◌++◌, ℕ, List, [], ◌∷◌, ap, Bool, true, false, true≢false, None, Some, Result, Ok, Err, MatchBool, length, refl, sym, subst, arith}
+use Rattle.std.proofs.Common.{◌≡◌, ◌∙◌, ◌≢◌, ◌++◌, ℕ, List, [], ◌∷◌, ap, Bool, true, false, true≢false, None, Some, Result, Ok, Err, MatchBool, inl, inr, length, refl, sym, subst, arith}
 use Rattle.std.specs.Prelude.{IsErr, IsOk, codes}
 use Rattle.std.specs.Rc.{rc_str_bytes}
 use Rattle.std.specs.declared.alloc.Global.{Global}
@@ -15,7 +15,7 @@ use Rattle.sdr_system.specs.Held.{HoldsInput}
 use Rattle.sdr_system.specs.HeldFeed.{HeldFeed}
 use Rattle.sdr_system.specs.declared.held.Held.{Held}
 use Rattle.sdr_command.specs.Answered.{IsAnswered}
-use Rattle.sdr_command.specs.Ending.{AsksForm, AsksNothing, ComesHeld, IsEmpty, IsStatusOf, IsStatusOnFile, SpellsNone, SpellsScript, about_text, behind_disk, disk_word, feed_of}
+use Rattle.sdr_command.specs.Ending.{AsksForm, AsksNothing, ComesHeld, IsEmpty, IsNotOpened, IsStatusOf, IsStatusOnFile, IsStatusRead, SpellsNone, SpellsScript, about_text, behind_disk, disk_word, feed_of}
 use Rattle.sdr_command.specs.declared.answering.Answered.{Answered}
 
 -- what the top call answered on such a disk, its status is
@@ -31,14 +31,12 @@ status_of {disk = disk} On a on = record {
   status_is = a.status;
 }
 
--- what a test tells
-pub on_true : (P Q : Type 0) (b : Bool) → b ≡ true → MatchBool b P Q → P
-on_true P Q true is fact = fact
-on_true P Q false is fact = absurd (true≢false (sym is))
-
-pub on_false : (P Q : Type 0) (b : Bool) → b ≡ false → MatchBool b P Q → Q
-on_false P Q true is fact = absurd (true≢false is)
-on_false P Q false is fact = fact
+-- where a file wasn't opened, no input was read
+pub shut_status : {D M S K : Type 0} {d : DiskGhosts D} {m : MediaGhosts M} {s : SourceGhosts S} {k : SinkGhosts K} {words : List (RcStr Global)}
+    {files : M} {input : S} {output output' : K} {status : ℕ}
+    → IsNotOpened k output output' status → IsStatusOnFile d m s k words files input input output output' status
+shut_status (inl shut) = inl (record { status_is = shut.0; unread = refl; unprinted = shut.1 })
+shut_status (inr starved) = inr (inl (record { status_is = starved.0; unread = refl; written = starved.1 }))
 
 -- How a replay comes by what is held: the source that the top call reads is what is held, of which nothing was read.
 module _ {D E M S K : Type 0} {d : DiskGhosts D} {e : DiskGhosts E} {m : MediaGhosts M} {s : SourceGhosts S} {h : SourceGhosts HeldFeed}
@@ -55,6 +53,11 @@ module _ {D E M S K : Type 0} {d : DiskGhosts D} {e : DiskGhosts E} {m : MediaGh
   comes_read spells top =
       ComesHeld.read held holds spells last
       (subst (λ (f : HeldFeed). IsStatusOnFile e m h k words files f last output output' status) is top)
+
+  pub comes_run : SpellsScript held → IsStatusRead e m h k words files feed last output output' status
+      → ComesHeld d e m s h k words files input input' output output' status
+  comes_run spells (inl shut) = ComesHeld.read held holds spells (feed_of held) (shut_status shut)
+  comes_run spells (inr top) = comes_read spells (inr (inr top))
 
 -- what a reading of what is held gives, it gives of the bytes that are held
 module _ {A : Type 0} (reading : List ℕ → Result A ℕ) (feed : HeldFeed) (held : Held) (is : feed ≡ feed_of held) where
