@@ -3,7 +3,7 @@ ghost use Rattle.std.specs.Prelude.{◌≡◌, ◌≤◌, ◌↔◌, IfOk, IfSom
 ghost use Rattle.sdr_log.specs.Frame.{IsInLimits};
 ghost use Rattle.sdr_forms.specs.Answers.{Wrote, seen};
 ghost use Rattle.sdr_forms.specs.Form.{OnFormat, form_of, form_on};
-ghost use Rattle.sdr_forms.specs.Telling.{WasRead};
+ghost use Rattle.sdr_forms.specs.ReadBefore.{WasRead};
 ghost use Rattle.sdr_command.specs.Answered.{IsAnswered};
 ghost use Rattle.sdr_command.specs.Ending.{ComesBy, ComesHeld, IsEmpty, IsNotOpened, IsStatusOf, IsStatusOnFile};
 ghost use Rattle.sdr_command.specs.Ending.{IsStatusRead, SpellsNone, SpellsScript, TakesFile, TakesNoFile, feed_of};

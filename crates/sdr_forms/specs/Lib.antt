@@ -4,6 +4,7 @@ pub mod Formatting
 pub mod Inspecting
 pub mod Loading
 pub mod OnHeap
+pub mod ReadBefore
 pub mod Recovering
 pub mod Replaying
 pub mod Running

@@ -7,7 +7,6 @@ use Rattle.sdr_core.specs.Caused.{HaveFailed}
 use Rattle.sdr_disk.specs.declared.disk.Disk.{Ghosts as DiskGhosts}
 use Rattle.sdr_log.specs.Calls.{KeepsDisk}
 use Rattle.sdr_words.specs.Daemons.{daemons_of}
-use Rattle.sdr_words.specs.Reading.{ReadsScript}
 use Rattle.sdr_machine.specs.Crash.{is_sound}
 use Rattle.sdr_model.specs.declared.script.ScriptStep.{ScriptStep}
 use Rattle.sdr_run.specs.Playing.{IsPrinted}

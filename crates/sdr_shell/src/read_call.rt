@@ -1,7 +1,7 @@
 // The call for a script that was read.
 ghost use Rattle.std.specs.Prelude.{◌≤◌, Some, length};
 ghost use Rattle.sdr_forms.specs.Form.{form_on};
-ghost use Rattle.sdr_forms.specs.Telling.{WasRead};
+ghost use Rattle.sdr_forms.specs.ReadBefore.{WasRead};
 ghost use Rattle.sdr_shell.specs.Words.{AnswersForm};
 
 use sdr_base::{Gate, Media, Sink, Source};
