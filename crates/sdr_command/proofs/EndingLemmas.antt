@@ -1,5 +1,5 @@
 -- How the program comes to the status that it ends with.
-use Rattle.std.proofs.Common.{◌≡◌, ◌∙◌, ◌≢◌, ◌++◌, ℕ, List, [], ◌∷◌, ap, Bool, true, false, true≢false, None, Some, Result, Ok, Err, MatchBool, inl, inr, length, refl, sym, subst, arith}
+use Rattle.std.proofs.Common.{◌≡◌, ◌∙◌, ◌≢◌, ◌++◌, ℕ, List, [], ◌∷◌, ap, Bool, true, false, true≢false, MatchOption, None, Option, Some, Result, Ok, Err, inl, inr, length, refl, sym, subst, arith}
 use Rattle.std.specs.Prelude.{IsErr, IsOk, codes}
 use Rattle.std.specs.Rc.{rc_str_bytes}
 use Rattle.std.specs.declared.alloc.Global.{Global}
@@ -37,6 +37,15 @@ pub shut_status : {D M S K : Type 0} {d : DiskGhosts D} {m : MediaGhosts M} {s :
     → IsNotOpened k output output' status → IsStatusOnFile d m s k words files input input output output' status
 shut_status (inl shut) = inl (record { status_is = shut.0; unread = refl; unprinted = shut.1 })
 shut_status (inr starved) = inr (inl (record { status_is = starved.0; unread = refl; written = starved.1 }))
+
+-- what is told of what may be there
+pub on_some : {A : Type 0} (P : Type 0) (Q : A → Type 0) (it : Option A) (value : A) → it ≡ Some value → MatchOption it P Q → Q value
+on_some P Q (Some other) value is fact = subst Q (cc is) fact
+on_some P Q None value is fact = absurd (cc is)
+
+pub on_none : {A : Type 0} (P : Type 0) (Q : A → Type 0) (it : Option A) → it ≡ None → MatchOption it P Q → P
+on_none P Q (Some other) is fact = absurd (cc is)
+on_none P Q None is fact = fact
 
 -- How a replay comes by what is held: the source that the top call reads is what is held, of which nothing was read.
 module _ {D E M S K : Type 0} {d : DiskGhosts D} {e : DiskGhosts E} {m : MediaGhosts M} {s : SourceGhosts S} {h : SourceGhosts HeldFeed}

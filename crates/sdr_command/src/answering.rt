@@ -1,5 +1,6 @@
 // The call of `top` that answers a form.
-ghost use Rattle.std.specs.Prelude.{◌≡◌, ◌≤◌, ◌↔◌, IfOk, IfSome, MatchOption, Some, None, codes, length};
+ghost use Rattle.std.specs.Prelude.{◌≡◌, ◌≤◌, ◌↔◌, IfOk, IfSome, MatchOption, Some, None, codes};
+ghost use Rattle.std.specs.Prelude.{false, length, true};
 ghost use Rattle.sdr_log.specs.Frame.{IsInLimits};
 ghost use Rattle.sdr_forms.specs.Answers.{Wrote, seen};
 ghost use Rattle.sdr_forms.specs.Form.{OnFormat, form_of, form_on};

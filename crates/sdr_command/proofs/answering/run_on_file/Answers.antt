@@ -1,4 +1,4 @@
-use Rattle.sdr_command.proofs.EndingLemmas.{comes_run, comes_unread}
+use Rattle.sdr_command.proofs.EndingLemmas.{comes_run, comes_unread, on_none, on_some}
 use Rattle.sdr_command.specs.Ending.{ComesHeld}
 use Rattle.sdr_command.proofs.answering.run_on_file.Goals as goal
 
@@ -12,9 +12,10 @@ returns-in_default-read_held g c =
 
 pub returns-in-Some : goal.returns-in-Some
 returns-in-Some g c =
-    let read = c.in-Ok-read_held.ensures.read in
-    comes_run c.in-Ok.held c.in-Ok.ensures.held _ _ c.source.ensures read.0 (c.run_read.ensures _ read.1)
+    let read = on_some _ _ _ _ c.in-Some.is c.in-Ok-read_held.ensures.read in
+    comes_run c.in-Ok.held c.in-Ok.ensures.held _ _ c.source-source.ensures read.0 (c.run_read.ensures _ read.1)
 
-pub returns-in-None : goal.returns-in-None
-returns-in-None g c =
-    comes_unread c.in-Ok.held c.in-Ok.ensures.held _ _ c.source-in-None.ensures c.in-Ok-read_held.ensures.read c.answer_in_memory.ensures.ends
+pub returns : goal.returns
+returns g c =
+    comes_unread c.in-Ok.held c.in-Ok.ensures.held _ _ c.source.ensures (on_none _ _ _ c.in-None.is c.in-Ok-read_held.ensures.read)
+    c.answer_in_memory.ensures.ends
