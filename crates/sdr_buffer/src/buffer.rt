@@ -1,5 +1,5 @@
 // Printed bytes that wait.
-ghost use Rattle.std.specs.Prelude.{◌≡◌, ◌≤◌, ◌+◌, ◌++◌, [], OnErr, OnOk, length, take};
+ghost use Rattle.std.specs.Prelude.{◌≡◌, ◌≤◌, ◌<◌, ◌+◌, ◌++◌, [], OnErr, OnOk, length, take};
 ghost use Rattle.std.specs.Io.KnownBytes.{Appends, Keeps, append_known};
 ghost use Rattle.sdr_base.specs.Causes.{HasCause};
 ghost use Rattle.sdr_base.specs.Written.{AppendsPart};
@@ -90,7 +90,8 @@ impl OutputBuffer {
     // Leaves the first bytes, so many.
     pub(crate) fn cut(&mut self, len: usize)
         requires { len ≤ length self.old.bytes }
-        ensures { self.new ≡ record { bytes = take len self.old.bytes; refused = 0 } }
+        ensures cut { self.new ≡ record { bytes = take len self.old.bytes; refused = 0 } }
+        ensures full { 0 < self.old.refused → length self.old.bytes ≡ 8192 }
     {
         self.refused = 0;
         self.len = len;

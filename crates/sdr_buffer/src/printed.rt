@@ -1,5 +1,5 @@
 // What is printed, and how it is put behind what waits.
-ghost use Rattle.std.specs.Prelude.{◌≡◌, ◌<◌, ◌+◌, ℕ, List, OnErr, OnOk, length};
+ghost use Rattle.std.specs.Prelude.{◌≡◌, ◌<◌, ◌≤◌, ◌+◌, ℕ, List, OnErr, OnOk, length, take};
 ghost use Rattle.std.specs.Io.KnownBytes.{Appends, append_known};
 ghost use Rattle.sdr_base.specs.Causes.{HasCause};
 ghost use Rattle.sdr_base.specs.Written.{AppendsPart};
@@ -24,6 +24,30 @@ pub trait Printed {
         ensures cause { HasCause (K.faults out.old) (K.faults out.new) result };
 }
 
+// Passes on what waits up to a start, and writes a text straight to the output.
+#[tactic(auto, using(crate::proofs::WaitingLemmas::passing))]
+fn put_straight<K: Sink, P: Printed>(
+    out: &mut K,
+    waiting: &mut OutputBuffer,
+    start: usize,
+    piece: &P,
+) -> Result<(), SinkFault>
+    requires can { P.can piece.now }
+    requires start { start ≤ length waiting.old.bytes }
+    ensures ok { OnOk result (Appends (append_known (K.taken out.old) (take start waiting.old.bytes))
+        (append_known (K.taken out.new) waiting.new.bytes) (P.text piece.now)) }
+    ensures err { OnErr result
+        (AppendsPart (append_known (K.taken out.old) (take start waiting.old.bytes))
+        (append_known (K.taken out.new) waiting.new.bytes) (P.text piece.now)) }
+    ensures grows { Grows (K.taken out.old) (K.taken out.new) }
+    ensures cause { HasCause (K.faults out.old) (K.faults out.new) result }
+    ensures full { 0 < waiting.old.refused → length waiting.old.bytes ≡ 8192 }
+{
+    waiting.cut(start);
+    waiting.pass_on(out)?;
+    piece.write_to(out)
+}
+
 /// Puts a text behind what waits for an output. Where it doesn't fit, what waits is passed on, and the text is written
 /// straight to the output. Of a text that fits the output isn't told.
 pub fn put<K: Sink, P: Printed>(
@@ -41,10 +65,8 @@ pub fn put<K: Sink, P: Printed>(
     ensures idle { length waiting.old.bytes + length (P.text piece.now) < 8192 → out.new ≡ out.old }
 {
     let start = waiting.start();
-    if piece.write_to(waiting).is_ok() {
-        return Ok(());
+    match piece.write_to(waiting) {
+        Ok(()) => Ok(()),
+        Err(_) => put_straight(out, waiting, start, piece),
     }
-    waiting.cut(start);
-    waiting.pass_on(out)?;
-    piece.write_to(out)
 }

@@ -32,6 +32,7 @@ mod handed;
 mod handed_ground;
 mod opening;
 mod playing;
+mod printing;
 mod recording;
 mod replaying;
 mod sending;

@@ -25,6 +25,7 @@ mod commands;
 mod form;
 mod formatting;
 mod inspecting;
+mod journal;
 mod last_line;
 mod live_call;
 mod loading;

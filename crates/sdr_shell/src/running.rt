@@ -12,6 +12,7 @@ ghost use Rattle.sdr_text.specs.JournalText.{journal_text};
 
 use crate::RunOutcome;
 use crate::commands::tell;
+use crate::journal::write_entries;
 use crate::outcome::without_journal;
 use crate::replaying::{RunEnd, tell_ran};
 use crate::shutting::tell_shut;
@@ -20,7 +21,7 @@ use sdr_base::{Gate, Media, Sink, SinkFault, Source};
 use sdr_board::Totals;
 use sdr_disk::Disk;
 use sdr_model::{Entry, Script};
-use sdr_text::{write_journal, write_totals};
+use sdr_text::write_totals;
 use sdr_words::read_script;
 use std::alloc::Global;
 use std::sync::Wait;
@@ -54,7 +55,7 @@ fn write_run<K: Sink>(
         (journal_text journal.now ++ line_asked asked totals.now)) }
     ensures cause { HasCause (K.faults output.old) (K.faults output.new) result }
 {
-    write_journal(output, journal)?;
+    write_entries(output, journal)?;
     write_asked(output, asked, totals)
 }
 
