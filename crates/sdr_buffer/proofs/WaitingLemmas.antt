@@ -1,7 +1,6 @@
 -- What waits in a buffer, and what an output took of it.
-use Rattle.std.proofs.Common.{◌≡◌, ◌≤◌, ◌<◌, ◌+◌, ◌-◌, ℕ, List, [], ◌++◌, None, Some, Result, Ok, Err, length, take, drop, ap, sym, ◌∙◌, refl, subst, append_assoc, append-nil, take-append-drop, OnErr, OnOk, arith, length-append}
+use Rattle.std.proofs.Common.{◌≡◌, ◌≤◌, ◌+◌, ℕ, List, [], ◌++◌, None, Some, Result, Ok, Err, length, take, drop, ap, sym, ◌∙◌, refl, subst, append_assoc, append-nil, take-append-drop, OnErr, OnOk, arith, length-append}
 use Rattle.std.specs.declared.option.Option.{Option}
-use Rattle.std.specs.List.{between}
 use Rattle.std.specs.Io.KnownBytes.{Appends, Keeps, append_known}
 use Rattle.std.proofs.KnownBytes.{Appends-nil, Appends-trans, Appends-kept, append_known-moved}
 use Rattle.sdr_base.specs.Written.{AppendsPart}
@@ -47,6 +46,16 @@ pub none_of : {T E : Type 0} (r : Result T E) (old new : Option (List ℕ)) (tex
 none_of (Ok x) old new text k = tt
 none_of (Err e) old new text k = record { front = []; rest = text; written = Appends-kept old old new [] (Appends-nil old) k; whole = refl }
 
+-- of no text all was taken
+pub all_of_none : {T E : Type 0} (r : Result T E) (old new : Option (List ℕ)) → Keeps old new → OnOk r (Appends old new [])
+all_of_none (Ok x) old new k = Appends-kept old old new [] (Appends-nil old) k
+all_of_none (Err e) old new k = tt
+
+-- nothing waits behind known bytes
+pub append_known-nil : (known : Option (List ℕ)) → append_known known [] ≡ known
+append_known-nil None = refl
+append_known-nil (Some x) = ap Some (append-nil x)
+
 pub ruleset passing = (grows_part, grows_both, none_of)
 
 -- of the bytes that were put behind others, those are left that waited before
@@ -90,3 +99,25 @@ part_passed (Some x) (Some y) before waiting text none grows p =
       written = grows.written;
       whole = p.whole ∙ ap (λ l. l ++ p.rest) (sym (append_cancel_left x (grows.more ++ waiting) p.front taken)) ∙ append_assoc grows.more waiting p.rest;
     }
+
+-- a text was put where nothing waited, and then what waits was passed on
+module _ {T E : Type 0} (r : Result T E) (old now new : Option (List ℕ)) (before waiting after text : List ℕ) (none : before ≡ [])
+    (put : Appends (append_known old before) (append_known now waiting) text) (same : Keeps (append_known now waiting) (append_known new after)) where
+  all_put : Appends (append_known old before) (append_known new after) text
+  all_put = Appends-kept (append_known old before) (append_known now waiting) (append_known new after) text put same
+
+  -- the output took all of it
+  pub passed_ok : OnOk r (after ≡ []) → OnOk r (Appends old new text)
+  passed_ok = elim r as (λ x. OnOk x (after ≡ []) → OnOk x (Appends old new text)) [
+    | Ok x ↦ λ empty. all_passed old new before after text none empty all_put
+    | Err e ↦ λ no. tt
+  ]
+
+  -- or a part of it
+  pub passed_err : Grows old now → OnErr r (AppendsPart now new waiting) → OnErr r (AppendsPart old new text)
+  passed_err grows = elim r as (λ x. OnErr x (AppendsPart now new waiting) → OnErr x (AppendsPart old new text)) [
+    | Ok x ↦ λ no. tt
+    | Err e ↦ λ part.
+        part_passed old new before after text none (grows_more old now new grows (grows_part now new waiting part))
+        (record { front = text; rest = []; written = all_put; whole = sym (append-nil text) })
+  ]

@@ -27,13 +27,24 @@ pub struct Played {
     pub printing: bool,
 }
 
-// Whether an event may close a transaction.
-fn may_close(event: &Event) -> bool {
-    matches!(event, Event::End | Event::Cancel | Event::Exit)
+// Before an event that may close a transaction, passes on the lines that wait.
+#[tactic(auto, using(crate::proofs::PlayingLemmas::silent))]
+fn settle<K: Sink>(event: &Event, out: &mut K, printer: &mut Printer)
+    ensures prints { PrintsMore printer.old.going printer.new.going
+        (behind (output K.taken K.faults out.old) printer.old)
+        (behind (output K.taken K.faults out.new) printer.new) [] }
+    ensures grows { Grows (K.taken out.old) (K.taken out.new) }
+    ensures later { K.faults out.old ≤ K.faults out.new }
+{
+    match event {
+        Event::End | Event::Cancel | Event::Exit => printer.pass_on(out),
+        _ => (),
+    }
 }
 
 // Makes the event of a step, and prints its answer. Before an event that may close a transaction the lines that
 // wait are passed on. Want of memory leaves the run as before, and no line is printed then.
+#[tactic(auto, using(crate::proofs::PlayingLemmas::silent))]
 fn answer<R: Runs, K: Sink>(
     run: &mut R,
     step: &ScriptStep,
@@ -56,9 +67,7 @@ fn answer<R: Runs, K: Sink>(
     ensures grows { Grows (K.taken out.old) (K.taken out.new) }
     ensures later { K.faults out.old ≤ K.faults out.new }
 {
-    if may_close(event) {
-        printer.pass_on(out);
-    }
+    settle(event, out, printer);
     let came = run.event(step.daemon, step.line, event)?;
     let line = AnswerLine {
         step,
@@ -71,6 +80,7 @@ fn answer<R: Runs, K: Sink>(
 
 // Makes a step: its event, its printed answer, and what its name holds from then on. Where memory is
 // wanting, the run is as before, or the step was answered and only its name holds nothing.
+#[tactic(auto, using(crate::proofs::PlayingLemmas::silent))]
 fn make<R: Runs, K: Sink>(
     alloc: Global,
     run: &mut R,
@@ -105,6 +115,7 @@ fn make<R: Runs, K: Sink>(
 
 // Makes the steps of a schedule in order, where no name holds anything yet, and answers whether memory was
 // wanting.
+#[tactic(auto, using(crate::proofs::PlayingLemmas::silent))]
 fn play_on<R: Runs, S: Steps, K: Sink>(
     alloc: Global,
     run: &mut R,
@@ -147,6 +158,7 @@ fn leave_of(starved: bool) -> Leave
 /// which print nothing. Lines wait in a buffer. They are passed on where it is full, before each event that may close a transaction, and behind the
 /// last step. Where an event, a name or the next step finds no memory, no further step is made, and the leaves tell so. Where the
 /// output fails, nothing more is printed, and the run goes on. Unless the disk has failed, no number is held then.
+#[tactic(auto, using(crate::proofs::PlayingLemmas::silent))]
 pub fn play<R: Runs, S: Steps, K: Sink>(
     alloc: Global,
     run: &mut R,
@@ -163,11 +175,8 @@ pub fn play<R: Runs, S: Steps, K: Sink>(
 {
     let mut printer = Printer::new();
     let starved = play_on(alloc, run, steps, out, &mut printer);
-    printer.pass_on(out);
+    let printing = printer.finish(out);
     run.roll();
     leave_all(run, leave_of(starved));
-    Played {
-        starved,
-        printing: printer.going,
-    }
+    Played { starved, printing }
 }

@@ -1,7 +1,7 @@
 // The printer of a schedule: its lines wait in a buffer, and go out together.
-ghost use Rattle.std.specs.Prelude.{◌≡◌, ◌≤◌, [], true};
+ghost use Rattle.std.specs.Prelude.{◌≡◌, ◌≤◌, List, ℕ, [], true};
 ghost use Rattle.sdr_buffer.specs.Waiting.{Grows};
-ghost use Rattle.sdr_run.specs.Playing.{PrintsMore, output};
+ghost use Rattle.sdr_run.specs.Playing.{IsPrinted, Output, PrintsMore, output};
 ghost use Rattle.sdr_run.specs.Printing.{behind};
 
 use sdr_base::{Sink, SinkFault};
@@ -50,6 +50,7 @@ impl Printer {
     }
 
     /// Puts a text behind the lines that wait, unless the output has failed.
+    #[tactic(auto, using(crate::proofs::PlayingLemmas::silent))]
     pub fn print<K: Sink, P: Printed>(&mut self, out: &mut K, line: &P)
         requires { P.can line.now }
         ensures prints { PrintsMore self.old.going self.new.going
@@ -61,13 +62,11 @@ impl Printer {
         if !self.going {
             return;
         }
-        match put(out, &mut self.waiting, line) {
-            Ok(()) => (),
-            Err(_) => self.going = false,
-        }
+        self.going = put(out, &mut self.waiting, line).is_ok();
     }
 
     /// Passes on the lines that wait, unless the output has failed.
+    #[tactic(auto, using(crate::proofs::PlayingLemmas::silent))]
     pub fn pass_on<K: Sink>(&mut self, out: &mut K)
         ensures prints { PrintsMore self.old.going self.new.going
             (behind (output K.taken K.faults out.old) self.old)
@@ -79,9 +78,18 @@ impl Printer {
         if !self.going {
             return;
         }
-        match self.waiting.pass_on(out) {
-            Ok(()) => (),
-            Err(_) => self.going = false,
-        }
+        self.going = self.waiting.pass_on(out).is_ok();
+    }
+
+    /// Passes on the lines that wait, behind the last one. Says whether the output took all.
+    pub fn finish<K: Sink>(mut self, out: &mut K) -> bool
+        ensures prints { (first : Output) (text : List ℕ) → Grows first.taken (K.taken out.old)
+            → first.faults ≤ K.faults out.old
+            → IsPrinted self.going first (behind (output K.taken K.faults out.old) self) text
+            → IsPrinted result first (output K.taken K.faults out.new) text }
+        ensures later { K.faults out.old ≤ K.faults out.new }
+    {
+        self.pass_on(out);
+        self.going
     }
 }

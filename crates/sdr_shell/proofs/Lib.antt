@@ -2,6 +2,7 @@ pub mod AnsweringLemmas
 pub mod FormLemmas
 pub mod InputLemmas
 pub mod InspectLemmas
+pub mod JournalLemmas
 pub mod LoadLemmas
 pub mod OnHeapLemmas
 pub mod RecoverLemmas

@@ -111,6 +111,7 @@ impl Printed for TicketLine<'_> {
 
 /// Puts the lines of the tickets in the queue of an account, in its order, behind what waits for an output: whole, or a
 /// part from the front where the sink fails.
+#[tactic(auto, using(sdr_buffer::proofs::WaitingLemmas::growing))]
 pub fn put_tickets<K: Sink>(
     out: &mut K,
     waiting: &mut OutputBuffer,
@@ -168,6 +169,7 @@ impl Printed for NameLine<'_> {
 
 /// Puts the lines of the catalogue, oldest entry first, behind what waits for an output: whole, or a part from the front
 /// where the sink fails.
+#[tactic(auto, using(sdr_buffer::proofs::WaitingLemmas::growing))]
 pub fn put_names<K: Sink>(
     out: &mut K,
     waiting: &mut OutputBuffer,

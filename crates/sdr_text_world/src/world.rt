@@ -130,7 +130,7 @@ fn write_front<K: Sink>(
 }
 
 // Puts the lines of the inbound and the outbound tickets, and of the catalogue, behind what waits.
-#[tactic(auto, using(sdr_text::proofs::TextLemmas::parts))]
+#[tactic(auto, using(sdr_buffer::proofs::WaitingLemmas::growing, sdr_text::proofs::TextLemmas::parts))]
 fn put_queues<K: Sink>(
     out: &mut K,
     waiting: &mut OutputBuffer,
@@ -172,6 +172,7 @@ impl Printed for ThingLine<'_, '_, '_> {
 }
 
 // Puts the lines of a world's things, by rising address, behind what waits.
+#[tactic(auto, using(sdr_buffer::proofs::WaitingLemmas::growing))]
 fn put_things<K: Sink>(
     out: &mut K,
     waiting: &mut OutputBuffer,

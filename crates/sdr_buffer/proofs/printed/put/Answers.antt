@@ -1,4 +1,4 @@
-use Rattle.std.proofs.Common.{◌≡◌, ◌∙◌, List, OnErr, OnOk, Some, ap, arith, length, subst, take, ℕ}
+use Rattle.std.proofs.Common.{◌≡◌, ◌∙◌, List, OnErr, OnOk, Some, ap, arith, subst, take, ℕ}
 use Rattle.std.specs.Io.KnownBytes.{Appends, append_known}
 use Rattle.sdr_base.specs.Written.{AppendsPart}
 use Rattle.sdr_buffer.proofs.WaitingLemmas.{cut_back, full_of}

@@ -1,4 +1,9 @@
+use Rattle.sdr_run.proofs.PlayingLemmas.{prints_then}
 use Rattle.sdr_run.proofs.playing.answer.Goals as goal
 
 pub returns-clause-prints : goal.returns-clause-prints
-returns-clause-prints g c = record { bytes = c.given.result.now; gives = c.given.ensures; tells = c.print.ensures.prints }
+returns-clause-prints g c = record {
+  bytes = c.given.result.now;
+  gives = c.given.ensures;
+  tells = prints_then _ _ _ _ _ _ _ c.settle.ensures.prints c.settle.ensures.later c.print.ensures.prints;
+}
