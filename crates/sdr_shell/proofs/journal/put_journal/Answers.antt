@@ -18,3 +18,6 @@ returns-in_err-put-clause-err g c =
     on_err _
     (entries_part _ _ _ _ _ _ _ 1 c.split_at-entries.ensures.front c.split_at-entries.ensures.back c.loop-rest.invariant.goes
     c.in_err-put.ensures.err)
+
+pub returns-in_err-put-clause-grows : goal.returns-in_err-put-clause-grows
+returns-in_err-put-clause-grows g c = grows_more _ _ _ c.loop-rest.invariant.grows c.put.ensures.grows

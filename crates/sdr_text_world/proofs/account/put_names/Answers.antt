@@ -19,3 +19,6 @@ returns-in_err-put-clause-err g c =
     on_err _
     (next_part name_line _ _ _ c.args.entries.now
     c.in-Some.ensures.cases.0 c.loop-entry.invariant.goes c.in_err-put.ensures.err)
+
+pub returns-in_err-put-clause-grows : goal.returns-in_err-put-clause-grows
+returns-in_err-put-clause-grows g c = grows_more _ _ _ c.loop-entry.invariant.grows c.put.ensures.grows

@@ -19,3 +19,6 @@ returns-in_err-put-clause-err g c =
     on_err _
     (next_part (ticket_line c.args.acct) _ _ _ c.args.tickets.now
     c.in-Some.ensures.cases.0 c.loop-ticket.invariant.goes c.in_err-put.ensures.err)
+
+pub returns-in_err-put-clause-grows : goal.returns-in_err-put-clause-grows
+returns-in_err-put-clause-grows g c = grows_more _ _ _ c.loop-ticket.invariant.grows c.put.ensures.grows

@@ -3,6 +3,7 @@ use Rattle.std.proofs.KnownBytes.{Appends-trans}
 use Rattle.std.specs.Io.KnownBytes.{append_known}
 use Rattle.sdr_base.specs.Written.{AppendsPart}
 use Rattle.sdr_base.specs.declared.account.Acct.TheVariants as accts
+use Rattle.sdr_buffer.proofs.WaitingLemmas.{grows_more}
 use Rattle.sdr_model.specs.declared.accounts.Accounts.{Accounts}
 use Rattle.sdr_text.proofs.PartLemmas.{part_behind}
 use Rattle.sdr_text_world.specs.AccountText.{names_text, tickets_text}
@@ -22,3 +23,10 @@ returns-clause-err g c =
     (part_behind c.put_names.result _ _ _ (inbound ++ outbound) (names_text c.as_slice-3.result.now)
     (Appends-trans _ _ _ inbound outbound c.in_ok-put_tickets.ensures.ok c.in_ok-put_tickets-2.ensures.ok)
     c.put_names.ensures.err)
+
+pub returns-in_err-put_tickets-2-clause-grows : goal.returns-in_err-put_tickets-2-clause-grows
+returns-in_err-put_tickets-2-clause-grows g c = grows_more _ _ _ c.put_tickets.ensures.grows c.put_tickets-2.ensures.grows
+
+pub returns-clause-grows : goal.returns-clause-grows
+returns-clause-grows g c =
+    grows_more _ _ _ c.put_tickets.ensures.grows (grows_more _ _ _ c.put_tickets-2.ensures.grows c.put_names.ensures.grows)

@@ -34,3 +34,6 @@ returns-in_err-put-clause-err g c =
     on_err _
     (next_part (thing_line world) _ _ _ (map.entries world.things) c.in-Some.ensures.steps c.loop-addr.invariant.goes
     c.in_err-put.ensures.err)
+
+pub returns-in_err-put-clause-grows : goal.returns-in_err-put-clause-grows
+returns-in_err-put-clause-grows g c = grows_more _ _ _ c.loop-addr.invariant.grows c.put.ensures.grows
