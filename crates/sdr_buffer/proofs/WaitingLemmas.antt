@@ -4,7 +4,7 @@ use Rattle.std.specs.declared.option.Option.{Option}
 use Rattle.std.specs.Io.KnownBytes.{Appends, Keeps, append_known}
 use Rattle.std.proofs.KnownBytes.{Appends-nil, Appends-trans, Appends-kept, append_known-moved}
 use Rattle.sdr_base.specs.Written.{AppendsPart}
-use Rattle.sdr_buffer.specs.Waiting.{Grows}
+use Rattle.sdr_buffer.specs.Waiting.{Grows, Waiting}
 use Rattle.std.proofs.lemmas.List.{append_cancel_left}
 use lib.Seq.{take-add, take-append_seam, take-take}
 
@@ -25,6 +25,13 @@ part_of (Err e) old new bytes n a = record { front = take n bytes; rest = drop n
 -- what went out of the bytes that wait, and what waits of them still
 pub moved_on : (old new : Option (List ℕ)) (bytes rest : List ℕ) (n : ℕ) → Appends old new (take n bytes) → rest ≡ drop n bytes → Keeps (append_known old bytes) (append_known new rest)
 moved_on old new bytes rest n a e = append_known-moved old new (take n bytes) rest bytes a (sym (take-append-drop n bytes) ∙ ap (λ l. take n bytes ++ l) (sym e))
+
+-- these bytes wait, and none was refused
+abbrev pub waiting_unrefused : List ℕ → Waiting
+waiting_unrefused bytes = record { bytes = bytes; refused = 0 }
+
+pub waiting_of : (bytes others : List ℕ) → bytes ≡ others → waiting_unrefused bytes ≡ waiting_unrefused others
+waiting_of bytes others e = ap waiting_unrefused e
 
 -- the text fits behind what waits
 pub fits : (out : Option (List ℕ)) (old new text : List ℕ) → new ≡ old ++ text → Appends (append_known out old) (append_known out new) text

@@ -1,5 +1,5 @@
 // Printed bytes that wait.
-ghost use Rattle.std.specs.Prelude.{◌≡◌, ◌≤◌, ◌<◌, ◌+◌, ◌++◌, [], OnErr, OnOk, length, take};
+ghost use Rattle.std.specs.Prelude.{◌≡◌, ◌≤◌, ◌<◌, ◌+◌, ◌++◌, [], OnErr, OnOk, drop, length, take};
 ghost use Rattle.std.specs.Io.KnownBytes.{Appends, Keeps, append_known};
 ghost use Rattle.sdr_base.specs.Causes.{HasCause};
 ghost use Rattle.sdr_base.specs.Written.{AppendsPart};
@@ -97,6 +97,31 @@ impl OutputBuffer {
         self.len = len;
     }
 
+    // Leaves what stands behind the first bytes, so many, where some does.
+    #[inline(never)]
+    fn keep_rest(&mut self, count: usize)
+        requires { count ≤ length self.old.bytes }
+        ensures { self.new ≡ record { bytes = drop count self.old.bytes; refused = 0 } }
+    {
+        let mut rest = [0; ROOM];
+        let len = put_behind(&mut rest, 0, &self.bytes[count..self.len]);
+        self.bytes = rest;
+        self.len = len;
+        self.refused = 0;
+    }
+
+    // Leaves what stands behind the first bytes, so many. Where that is nothing, no byte is moved.
+    fn keep_behind(&mut self, count: usize)
+        requires { count ≤ length self.old.bytes }
+        ensures { self.new ≡ record { bytes = drop count self.old.bytes; refused = 0 } }
+    {
+        if count == self.len {
+            self.cut(0);
+        } else {
+            self.keep_rest(count);
+        }
+    }
+
     /// Writes what waits: all, or a part from the front where the output fails. What wasn't written waits on.
     pub fn pass_on<K: Sink>(&mut self, out: &mut K) -> Result<(), SinkFault>
         // result
@@ -116,11 +141,7 @@ impl OutputBuffer {
             return Ok(());
         }
         let (count, result) = write_front(out, &self.bytes[..self.len]);
-        let mut rest = [0; ROOM];
-        let len = put_behind(&mut rest, 0, &self.bytes[count..self.len]);
-        self.bytes = rest;
-        self.len = len;
-        self.refused = 0;
+        self.keep_behind(count);
         result
     }
 }

@@ -1,3 +1,4 @@
+use Rattle.sdr_buffer.proofs.WaitingLemmas.{grows_more}
 use Rattle.sdr_run.proofs.PlayingLemmas.{prints_then}
 use Rattle.sdr_run.proofs.playing.answer.Goals as goal
 
@@ -7,3 +8,6 @@ returns-clause-prints g c = record {
   gives = c.given.ensures;
   tells = prints_then _ _ _ _ _ _ _ c.settle.ensures.prints c.settle.ensures.later c.print.ensures.prints;
 }
+
+pub returns-clause-grows : goal.returns-clause-grows
+returns-clause-grows g c = grows_more _ _ _ c.settle.ensures.grows c.print.ensures.grows

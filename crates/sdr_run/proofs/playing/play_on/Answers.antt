@@ -126,3 +126,9 @@ returns-clause-ran g c = record {
   each = λ from here. made_also g.R.HasRun c.args.run.now from _ (g.S.Steps.left c.loop-step.steps) c.loop-step.run false _ (λ done. c.in_default.ensures.none refl)
       (c.loop-step.invariant.running from here).at;
 }
+
+pub returns-in_default-make-clause-grows : goal.returns-in_default-make-clause-grows
+returns-in_default-make-clause-grows g c = grows_more _ _ _ c.loop-step.invariant.grows c.make.ensures.grows
+
+pub returns-in_default-pass-clause-grows : goal.returns-in_default-pass-clause-grows
+returns-in_default-pass-clause-grows g c = grows_more _ _ _ c.loop-step.invariant.grows c.make.ensures.grows

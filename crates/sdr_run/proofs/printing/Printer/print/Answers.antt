@@ -7,4 +7,4 @@ pub returns-then-not-self-clause-prints : goal.returns-then-not-self-clause-prin
 returns-then-not-self-clause-prints g c = printed_none _ _ _ c.if-not-self.true
 
 pub returns-clause-prints : goal.returns-clause-prints
-returns-clause-prints g c = printed_as c.put.result _ _ _ _ _ c.if-not-self.false c.is_ok.ensures.value c.put.ensures.ok c.put.ensures.err c.put.ensures.cause
+returns-clause-prints g c = printed_as c.put.result _ _ _ _ _ c.if-not-self.false c.is_ok-self.ensures.value c.put.ensures.ok c.put.ensures.err c.put.ensures.cause
