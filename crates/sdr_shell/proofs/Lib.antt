@@ -2,7 +2,6 @@ pub mod AnsweringLemmas
 pub mod FormLemmas
 pub mod InputLemmas
 pub mod InspectLemmas
-pub mod JournalLemmas
 pub mod LoadLemmas
 pub mod OnHeapLemmas
 pub mod RecoverLemmas

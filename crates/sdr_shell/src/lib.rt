@@ -25,7 +25,6 @@ mod commands;
 mod form;
 mod formatting;
 mod inspecting;
-mod journal;
 mod last_line;
 mod live_call;
 mod loading;

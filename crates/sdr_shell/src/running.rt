@@ -12,7 +12,6 @@ ghost use Rattle.sdr_text.specs.JournalText.{journal_text};
 
 use crate::RunOutcome;
 use crate::commands::tell;
-use crate::journal::write_entries;
 use crate::outcome::without_journal;
 use crate::replaying::{RunEnd, tell_ran};
 use crate::shutting::tell_shut;
@@ -22,6 +21,7 @@ use sdr_board::Totals;
 use sdr_disk::Disk;
 use sdr_model::{Entry, Script};
 use sdr_text::write_totals;
+use sdr_text_journal::write_entries;
 use sdr_words::read_script;
 use std::alloc::Global;
 use std::sync::Wait;

@@ -3,7 +3,7 @@ use Rattle.std.specs.Io.KnownBytes.{append_known}
 use Rattle.sdr_base.proofs.WrittenLemmas.{GoesOut}
 use Rattle.sdr_buffer.specs.Waiting.{Grows}
 use Rattle.sdr_text.specs.JournalText.{journal_text}
-use Rattle.sdr_shell.proofs.journal.put_journal.Given as goal
+use Rattle.sdr_text_journal.proofs.journal.put_journal.Given as goal
 
 abbrev pub invariant-loop-rest : goal.invariant-loop-rest
 invariant-loop-rest g l = record {
