@@ -2,7 +2,6 @@ use Rattle.std.proofs.Common.{◌≡◌, [], ap}
 use Rattle.sdr_buffer.proofs.WaitingLemmas.{part_passed, passed_err, passed_ok}
 use Rattle.sdr_buffer.specs.Waiting.{Waiting}
 use Rattle.sdr_text.proofs.TextLemmas.{on_err}
-use Rattle.sdr_text.specs.JournalText.{journal_text}
 use Rattle.sdr_text_journal.proofs.journal.write_entries.Goals as goal
 
 pub returns-in_err-put_journal-clause-err : goal.returns-in_err-put_journal-clause-err
