@@ -88,7 +88,7 @@ printed_out true first now waiting text empty grows printed =
 printed_out false first now waiting text empty grows printed = (
   printed.0,
   part_passed first.taken now.taken [] waiting text refl grows
-  (subst (λ known. AppendsPart known (append_known now.taken waiting) text) (sym (append_known-nil first.taken)) printed.1),
+      (subst (λ known. AppendsPart known (append_known now.taken waiting) text) (sym (append_known-nil first.taken)) printed.1),
 )
 
 -- where nothing waited at first, the text is that of the output

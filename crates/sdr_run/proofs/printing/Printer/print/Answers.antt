@@ -1,6 +1,4 @@
 use Rattle.sdr_run.proofs.PlayingLemmas.{printed_as, printed_none}
-use Rattle.sdr_run.specs.Playing.{output}
-use Rattle.sdr_run.specs.Printing.{behind}
 use Rattle.sdr_run.proofs.printing.Printer.print.Goals as goal
 
 pub returns-then-not-self-clause-prints : goal.returns-then-not-self-clause-prints
