@@ -20,7 +20,8 @@ use sdr_base::{Gate, Media, Sink, SinkFault, Source};
 use sdr_board::Totals;
 use sdr_disk::Disk;
 use sdr_model::{Entry, Script};
-use sdr_text::{write_journal, write_totals};
+use sdr_text::write_totals;
+use sdr_text_journal::write_entries;
 use sdr_words::read_script;
 use std::alloc::Global;
 use std::sync::Wait;
@@ -54,7 +55,7 @@ fn write_run<K: Sink>(
         (journal_text journal.now ++ line_asked asked totals.now)) }
     ensures cause { HasCause (K.faults output.old) (K.faults output.new) result }
 {
-    write_journal(output, journal)?;
+    write_entries(output, journal)?;
     write_asked(output, asked, totals)
 }
 

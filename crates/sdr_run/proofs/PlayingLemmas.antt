@@ -1,10 +1,12 @@
 -- A schedule that is played, and what it has printed.
-use Rattle.std.proofs.Common.{◌≡◌, ◌∙◌, ◌≤◌, ℕ, List, [], ◌∷◌, ◌++◌, Bool, true, false, Option, refl, sym, ap, subst, append_assoc, arith}
+use Rattle.std.proofs.Common.{◌≡◌, ◌∙◌, ◌≤◌, ℕ, List, [], ◌∷◌, ◌++◌, Bool, true, false, true≢false, Option, Result, Ok, Err, OnErr, OnOk, is_ok, refl, sym, ap, subst, append-nil, append_assoc, arith}
 use Rattle.std.proofs.KnownBytes.{Appends-nil, Appends-trans}
-use Rattle.std.specs.Io.KnownBytes.{Appends}
+use Rattle.std.specs.Io.KnownBytes.{Appends, Keeps, append_known}
 use Rattle.sdr_base.proofs.WrittenLemmas.{rose_later}
-use Rattle.sdr_base.specs.Causes.{Rose}
+use Rattle.sdr_base.specs.Causes.{HasCause}
 use Rattle.sdr_base.specs.Written.{AppendsPart}
+use Rattle.sdr_buffer.proofs.WaitingLemmas.{all_of_none, all_passed, append_known-nil, grows_more, grows_none, grows_part, none_of, part_passed}
+use Rattle.sdr_buffer.specs.Waiting.{Grows}
 use Rattle.sdr_core.specs.Going.{GoesUnasked, MakesNext, NextCore, media_of}
 use Rattle.sdr_core.specs.declared.has_run.HasRun.{Ghosts as RunGhosts}
 use Rattle.sdr_core.proofs.CausedLemmas.{caused_by, caused_later, caused_more, failed_refl, stayed_by}
@@ -35,27 +37,66 @@ part_more old new text more p = record {
   whole = ap (λ l. l ++ more) p.whole ∙ append_assoc p.front p.rest more;
 }
 
--- a line was printed
-pub printed_line : (p : Bool) (old now : Output) (line : List ℕ) → p ≡ true → Appends old.taken now.taken line → PrintsMore p p old now line
-printed_line p old now line is appends =
-    subst (λ (b : Bool). PrintsMore b b old now line) (sym is)
-    (λ first text below printed. Appends-trans first.taken old.taken now.taken text line printed appends)
-
--- a line was printed in part
-pub printed_part : (p : Bool) (old now : Output) (line : List ℕ) → p ≡ true → AppendsPart old.taken now.taken line → Rose old.faults now.faults
-    → PrintsMore p false old now line
-printed_part p old now line is part rose =
-    subst (λ (b : Bool). PrintsMore b false old now line) (sym is)
+-- where a line was printed, or a part of it, the output is told to be going or to have failed
+pub printed_as : {T E : Type 0} (r : Result T E) (was going : Bool) (old now : Output) (line : List ℕ) → was ≡ true → going ≡ is_ok r
+    → OnOk r (Appends old.taken now.taken line) → OnErr r (AppendsPart old.taken now.taken line) → HasCause old.faults now.faults r → PrintsMore was going old now line
+printed_as (Ok x) was going old now line is told all part cause =
+    subst (λ (b : Bool). PrintsMore b going old now line) (sym is)
+    (subst (λ (b : Bool). PrintsMore true b old now line) (sym told) (λ first text below printed. Appends-trans first.taken old.taken now.taken text line printed all))
+printed_as (Err e) was going old now line is told all part cause =
+    subst (λ (b : Bool). PrintsMore b going old now line) (sym is)
+    (subst (λ (b : Bool). PrintsMore true b old now line) (sym told)
     (λ first text below printed. (
-      rose_later first.faults old.faults now.faults below rose,
+      rose_later first.faults old.faults now.faults below cause.failed,
       part_later first.taken old.taken now.taken text line printed part,
-    ))
+    )))
+
+-- what waited was passed on, or a part of it, and no line was printed
+pub passed_as : {T E : Type 0} (r : Result T E) (was going : Bool) (old now : Output) → was ≡ true → going ≡ is_ok r → Keeps old.taken now.taken
+    → HasCause old.faults now.faults r → PrintsMore was going old now []
+passed_as r was going old now is told keeps cause =
+    printed_as r was going old now [] is told (all_of_none r old.taken now.taken keeps) (none_of r old.taken now.taken [] keeps) cause
+
+-- what holds where the output took all
+pub where_going : {T E : Type 0} {P : Type 0} (r : Result T E) (going : Bool) → going ≡ is_ok r → OnOk r P → going ≡ true → P
+where_going (Ok x) going told p is = p
+where_going (Err e) going told p is = absurd (true≢false (sym is ∙ told))
 
 -- nothing is printed where the output has failed
 pub printed_none : (p : Bool) (old : Output) (line : List ℕ) → p ≡ false → PrintsMore p p old old line
 printed_none p old line is =
     subst (λ (b : Bool). PrintsMore b b old old line) (sym is)
     (λ first text below printed. (printed.0, part_more first.taken old.taken text line printed.1))
+
+-- no line was printed
+pub prints_nothing : (p : Bool) (out : Output) → PrintsMore p p out out []
+prints_nothing p out = λ first text below printed. subst (IsPrinted p first out) (sym (append-nil text)) printed
+
+-- a line was printed behind that
+pub prints_then : (was between going : Bool) (old mid now : Output) (line : List ℕ) → PrintsMore was between old mid [] → old.faults ≤ mid.faults
+    → PrintsMore between going mid now line → PrintsMore was going old now line
+prints_then was between going old mid now line none later more = λ first text below printed.
+    more first text (omega (arith, below, later)) (subst (IsPrinted between first mid) (append-nil text) (none first text below printed))
+
+pub ruleset silent = (prints_nothing, grows_none, grows_more, grows_part)
+
+-- where nothing waits, or the output has failed, the output took the text, or a part of it
+pub printed_out : (going : Bool) (first now : Output) (waiting text : List ℕ) → (going ≡ true → waiting ≡ []) → Grows first.taken now.taken
+    → IsPrinted going first (record { taken = append_known now.taken waiting; faults = now.faults }) text → IsPrinted going first now text
+printed_out true first now waiting text empty grows printed =
+    all_passed first.taken now.taken [] waiting text refl (empty refl) (subst (λ known. Appends known (append_known now.taken waiting) text) (sym (append_known-nil first.taken)) printed)
+printed_out false first now waiting text empty grows printed = (
+  printed.0,
+  part_passed first.taken now.taken [] waiting text refl grows
+      (subst (λ known. AppendsPart known (append_known now.taken waiting) text) (sym (append_known-nil first.taken)) printed.1),
+)
+
+-- where nothing waited at first, the text is that of the output
+pub began_empty : (going : Bool) (first now : Output) (waiting text : List ℕ) → waiting ≡ []
+    → IsPrinted going (record { taken = append_known first.taken waiting; faults = first.faults }) now text → IsPrinted going first now text
+began_empty going first now waiting text none printed =
+    let same : append_known first.taken waiting ≡ first.taken = ap (append_known first.taken) none ∙ append_known-nil first.taken in
+    subst (λ known. IsPrinted going (record { taken = known; faults = first.faults }) now text) same printed
 
 -- nothing was made yet
 pub running_start : {R : Type 0} (r : RunGhosts R) (now : R) (first : Core) (script : List ScriptStep) (out : Output) → r.at now first
@@ -158,20 +199,10 @@ module _ {R : Type 0} (r : RunGhosts R) (before : R) (from : Core) (script : Lis
         ∙ sym (bindings_after-push [] at.at.front at.at.made step e at.at.follows);
   }
 
--- nothing was done
-pub made_still : {R : Type 0} (r : RunGhosts R) (before : R) (from : Core) (script rest : List ScriptStep) (old new : R) (was going : Bool)
-    (first out after : Output) → HasMade r before from script rest old (IsPrinted was first out) → new ≡ old → after ≡ out → going ≡ was
-    → HasMade r before from script rest new (IsPrinted going first after)
-made_still {R} r before from script rest old new was going first out after at same printed printing =
-    subst (λ (k : R). HasMade r before from script rest k (IsPrinted going first after)) (sym same)
-    (subst (λ (o : Output). HasMade r before from script rest old (IsPrinted going first o)) (sym printed)
-    (subst (λ (p : Bool). HasMade r before from script rest old (IsPrinted p first out)) (sym printing) at))
-
--- what was made, of which more is told
-pub made_also : {R : Type 0} (r : RunGhosts R) (before : R) (from : Core) (script rest : List ScriptStep) (now : R) (starved : Bool) (P : List ℕ → Type 0)
-    → (starved ≡ false → rest ≡ []) → HasMade r before from script rest now P
-    → HasMade r before from script rest now (λ text. (starved ≡ false → rest ≡ []) × P text)
-made_also r before from script rest now starved P none at = record {
+-- what was made, of whose text something else is told
+pub made_printed : {R : Type 0} (r : RunGhosts R) (before : R) (from : Core) (script rest : List ScriptStep) (now : R) (P Q : List ℕ → Type 0)
+    → ((text : List ℕ) → P text → Q text) → HasMade r before from script rest now P → HasMade r before from script rest now Q
+made_printed r before from script rest now P Q turns at = record {
   made = at.made;
   core = at.core;
   here = at.here;
@@ -181,7 +212,34 @@ made_also r before from script rest now starved P none at = record {
   runs = at.runs;
   caused = at.caused;
   asks = at.asks;
-  printed = (none, at.printed);
+  printed = turns (run_text at.made) at.printed;
+}
+
+-- nothing was done, and no line was printed
+pub made_still : {R : Type 0} (r : RunGhosts R) (before : R) (from : Core) (script rest : List ScriptStep) (old new : R) (was going : Bool)
+    (first out after : Output) → HasMade r before from script rest old (IsPrinted was first out) → first.faults ≤ out.faults → new ≡ old
+    → PrintsMore was going out after [] → HasMade r before from script rest new (IsPrinted going first after)
+made_still {R} r before from script rest old new was going first out after at below same none =
+    subst (λ (k : R). HasMade r before from script rest k (IsPrinted going first after)) (sym same)
+    (made_printed r before from script rest old (IsPrinted was first out) (IsPrinted going first after)
+    (λ text printed. subst (IsPrinted going first after) (append-nil text) (none first text below printed)) at)
+
+-- what was made, of which more is told
+pub made_also : {R : Type 0} (r : RunGhosts R) (before : R) (from : Core) (script rest : List ScriptStep) (now : R) (starved : Bool) (P : List ℕ → Type 0)
+    → (starved ≡ false → rest ≡ []) → HasMade r before from script rest now P
+    → HasMade r before from script rest now (λ text. (starved ≡ false → rest ≡ []) × P text)
+made_also r before from script rest now starved P none at =
+    made_printed r before from script rest now P (λ text. (starved ≡ false → rest ≡ []) × P text) (λ text p. (none, p)) at
+
+-- so far as lines were passed on, the output took them
+pub ran_printed : {R : Type 0} (r : RunGhosts R) (before : R) (script : List ScriptStep) (now : R) (starved : Bool) (P Q : List ℕ → Type 0)
+    → ((text : List ℕ) → P text → Q text) → HasRun r before script now (λ rest text. (starved ≡ false → rest ≡ []) × P text)
+    → HasRun r before script now (λ rest text. (starved ≡ false → rest ≡ []) × Q text)
+ran_printed r before script now starved P Q turns ran = record {
+  rest = ran.rest;
+  each = λ from here.
+      made_printed r before from script ran.rest now (λ text. (starved ≡ false → ran.rest ≡ []) × P text) (λ text. (starved ≡ false → ran.rest ≡ []) × Q text)
+      (λ text p. (p.0, turns text p.1)) (ran.each from here);
 }
 
 -- all have left

@@ -5,6 +5,7 @@ pub mod Asking
 pub mod Dry
 pub mod Handed
 pub mod Playing
+pub mod Printing
 pub mod Recording
 pub mod Replaying
 pub mod Opening

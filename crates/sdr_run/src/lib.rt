@@ -1,7 +1,8 @@
 //! A script that runs, answer by answer: in memory (`dry`), or on the heap of a disk (`replay`).
 //!
-//! 1. Each step is an event of a daemon, under what the names hold, and its answer is printed as it is
-//!    made. Where the output fails, nothing more is printed, and the run goes on.
+//! 1. Each step is an event of a daemon, under what the names hold, and its answer is printed. Lines wait in a buffer: they are passed on where
+//!    one doesn't fit, before each event that may close a transaction, and behind the last step. Where the output fails, nothing more is
+//!    printed, and the run goes on.
 //! 2. A call that asks bytes of files or items is answered by what media give: each piece is asked once, in order, within the call. The
 //!    answers that tell that media failed, or gave too few bytes, are at most as many as the counts of these rose by.
 //! 3. Behind the last step all daemons make their leaves, which print nothing. Where an event, a name or the next step
@@ -32,6 +33,7 @@ mod handed;
 mod handed_ground;
 mod opening;
 mod playing;
+mod printing;
 mod recording;
 mod replaying;
 mod sending;

@@ -1,12 +1,14 @@
 // What is printed of accounts of space, of tickets and of the catalogue.
 ghost use Rattle.std.specs.Prelude.{◌≡◌, ◌≤◌, ◌+◌, ◌++◌, OnOk, OnErr, length};
-ghost use Rattle.std.specs.Io.KnownBytes.{Appends};
+ghost use Rattle.std.specs.Io.KnownBytes.{Appends, append_known};
 ghost use Rattle.sdr_base.specs.Causes.{HasCause};
 ghost use Rattle.sdr_base.specs.Written.{AppendsPart};
+ghost use Rattle.sdr_buffer.specs.Waiting.{Grows};
 ghost use Rattle.sdr_text.specs.Text.{grant_text};
 ghost use Rattle.sdr_text_world.specs.AccountText.{account_line, account_on, amounts_on, name_line, names_text, occupied_on, ticket_line, tickets_text};
 
 use sdr_base::{Acct, Amounts, Sink, SinkFault, Space, write_all};
+use sdr_buffer::{OutputBuffer, Printed, put};
 use sdr_model::{Name, Ticket};
 use sdr_text::{Line, add_grant, add_space, write_literal};
 
@@ -88,18 +90,44 @@ fn write_ticket<K: Sink>(out: &mut K, acct: Acct, ticket: &Ticket) -> Result<(),
     write_all(out, line.as_slice())
 }
 
-/// Writes the lines of the tickets in the queue of an account, in its order: whole, or a part from
-/// the front where the sink fails.
-pub fn write_tickets<K: Sink>(out: &mut K, acct: Acct, tickets: &[Ticket]) -> Result<(), SinkFault>
-    ensures ok { OnOk result (Appends (K.taken out.old) (K.taken out.new)
-        (tickets_text acct tickets.now)) }
-    ensures err { OnErr result (AppendsPart (K.taken out.old) (K.taken out.new)
-        (tickets_text acct tickets.now)) }
+// The line of a ticket in the queue of an account.
+#[derive(Drop)]
+struct TicketLine<'t> {
+    acct: Acct,
+    ticket: &'t Ticket,
+}
+
+impl Printed for TicketLine<'_> {
+    ghost use Rattle.sdr_text_world.specs.AccountText.{ticket_line};
+
+    ghost text = { λ s. ticket_line s.acct s.ticket.now };
+
+    ghost can = { λ _. Unit {0} };
+
+    fn write_to<K: Sink>(&self, out: &mut K) -> Result<(), SinkFault> {
+        write_ticket(out, self.acct, self.ticket)
+    }
+}
+
+/// Puts the lines of the tickets in the queue of an account, in its order, behind what waits for an output: whole, or a
+/// part from the front where the sink fails.
+#[tactic(auto, using(sdr_buffer::proofs::WaitingLemmas::growing))]
+pub fn put_tickets<K: Sink>(
+    out: &mut K,
+    waiting: &mut OutputBuffer,
+    acct: Acct,
+    tickets: &[Ticket],
+) -> Result<(), SinkFault>
+    ensures ok { OnOk result (Appends (append_known (K.taken out.old) waiting.old.bytes)
+        (append_known (K.taken out.new) waiting.new.bytes) (tickets_text acct tickets.now)) }
+    ensures err { OnErr result (AppendsPart (append_known (K.taken out.old) waiting.old.bytes)
+        (append_known (K.taken out.new) waiting.new.bytes) (tickets_text acct tickets.now)) }
+    ensures grows { Grows (K.taken out.old) (K.taken out.new) }
     ensures cause { HasCause (K.faults out.old) (K.faults out.new) result }
 {
     let mut rest = tickets;
     while let Some((ticket, after)) = rest.split_first() {
-        write_ticket(out, acct, ticket)?;
+        put(out, waiting, &TicketLine { acct, ticket })?;
         rest = after;
     }
     Ok(())
@@ -121,18 +149,42 @@ fn write_name<K: Sink>(out: &mut K, entry: &Name) -> Result<(), SinkFault>
     write_literal(out, front, entry.name.as_slice(), end.as_slice())
 }
 
-/// Writes the lines of the catalogue, oldest entry first: whole, or a part from the front where the
-/// sink fails.
-pub fn write_names<K: Sink>(out: &mut K, entries: &[Name]) -> Result<(), SinkFault>
-    ensures ok { OnOk result (Appends (K.taken out.old) (K.taken out.new)
-        (names_text entries.now)) }
-    ensures err { OnErr result (AppendsPart (K.taken out.old) (K.taken out.new)
-        (names_text entries.now)) }
+// The line of an entry of the catalogue.
+#[derive(Drop)]
+struct NameLine<'n> {
+    entry: &'n Name,
+}
+
+impl Printed for NameLine<'_> {
+    ghost use Rattle.sdr_text_world.specs.AccountText.{name_line};
+
+    ghost text = { λ s. name_line s.entry.now };
+
+    ghost can = { λ _. Unit {0} };
+
+    fn write_to<K: Sink>(&self, out: &mut K) -> Result<(), SinkFault> {
+        write_name(out, self.entry)
+    }
+}
+
+/// Puts the lines of the catalogue, oldest entry first, behind what waits for an output: whole, or a part from the front
+/// where the sink fails.
+#[tactic(auto, using(sdr_buffer::proofs::WaitingLemmas::growing))]
+pub fn put_names<K: Sink>(
+    out: &mut K,
+    waiting: &mut OutputBuffer,
+    entries: &[Name],
+) -> Result<(), SinkFault>
+    ensures ok { OnOk result (Appends (append_known (K.taken out.old) waiting.old.bytes)
+        (append_known (K.taken out.new) waiting.new.bytes) (names_text entries.now)) }
+    ensures err { OnErr result (AppendsPart (append_known (K.taken out.old) waiting.old.bytes)
+        (append_known (K.taken out.new) waiting.new.bytes) (names_text entries.now)) }
+    ensures grows { Grows (K.taken out.old) (K.taken out.new) }
     ensures cause { HasCause (K.faults out.old) (K.faults out.new) result }
 {
     let mut rest = entries;
     while let Some((entry, after)) = rest.split_first() {
-        write_name(out, entry)?;
+        put(out, waiting, &NameLine { entry })?;
         rest = after;
     }
     Ok(())

@@ -1,7 +1,7 @@
 //! The printed text of a world: what an operator sees of a heap.
 //!
-//! 1. A line is built in place and goes out in one write; a line that shows bytes, a text or
-//!    elements goes out in pieces.
+//! 1. Lines of tickets, of the catalogue and of things wait in a buffer, and go out together where
+//!    one doesn't fit, and behind the last.
 //! 2. What a line tells of other things (the source that names a raw object, the extents that name
 //!    a source, the sources that an account is charged) is counted over the world once (`Tied`). That
 //!    alone takes memory, and comes before anything is written.

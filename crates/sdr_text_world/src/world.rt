@@ -1,20 +1,22 @@
 // What is printed of a world.
 ghost use Rattle.std.specs.FinMap as map;
-ghost use Rattle.std.specs.Prelude.{◌≡◌, ◌≤◌, OnOk, OnErr};
-ghost use Rattle.std.specs.Io.KnownBytes.{Appends, Keeps};
+ghost use Rattle.std.specs.Prelude.{◌≡◌, ◌≤◌, ◌++◌, OnOk, OnErr};
+ghost use Rattle.std.specs.Io.KnownBytes.{Appends, Keeps, append_known};
 ghost use Rattle.sdr_base.specs.Causes.{HasCause, Rose};
 ghost use Rattle.sdr_base.specs.Written.{AppendsPart};
+ghost use Rattle.sdr_buffer.specs.Waiting.{Grows};
 ghost use Rattle.sdr_text_world.specs.ThingText.{things_text};
 ghost use Rattle.sdr_text_world.specs.Tied.{TellsTies};
 ghost use Rattle.sdr_text_world.specs.WorldText.{HasSmallSums, account_text, blocks_line, front_text, heap_line, queues_text, world_text};
 
-use crate::account::{write_account, write_names, write_tickets};
+use crate::account::{put_names, put_tickets, write_account};
 use crate::occupied::occupancies;
 use crate::thing::write_thing;
 use crate::tied::Tied;
 use sdr_audit::Census;
-use sdr_base::{Acct, NoMemory, Sink, SinkFault, write_all};
-use sdr_model::World;
+use sdr_base::{Acct, Addr, NoMemory, Sink, SinkFault, write_all};
+use sdr_buffer::{OutputBuffer, Printed, put};
+use sdr_model::{Thing, World};
 use sdr_text::Line;
 use std::alloc::Global;
 use thiserror::Error;
@@ -127,36 +129,94 @@ fn write_front<K: Sink>(
     write_account_of(out, world, tied, Acct::Outbound)
 }
 
-// Writes the lines of the inbound and the outbound tickets, and of the catalogue.
-#[tactic(auto, using(sdr_text::proofs::TextLemmas::parts))]
-fn write_queues<K: Sink>(out: &mut K, world: &World) -> Result<(), SinkFault>
-    ensures ok { OnOk result (Appends (K.taken out.old) (K.taken out.new)
-        (queues_text world.now)) }
-    ensures err { OnErr result (AppendsPart (K.taken out.old) (K.taken out.new)
-        (queues_text world.now)) }
+// Puts the lines of the inbound and the outbound tickets, and of the catalogue, behind what waits.
+#[tactic(auto, using(sdr_buffer::proofs::WaitingLemmas::growing, sdr_text::proofs::TextLemmas::parts))]
+fn put_queues<K: Sink>(
+    out: &mut K,
+    waiting: &mut OutputBuffer,
+    world: &World,
+) -> Result<(), SinkFault>
+    ensures ok { OnOk result (Appends (append_known (K.taken out.old) waiting.old.bytes)
+        (append_known (K.taken out.new) waiting.new.bytes) (queues_text world.now)) }
+    ensures err { OnErr result (AppendsPart (append_known (K.taken out.old) waiting.old.bytes)
+        (append_known (K.taken out.new) waiting.new.bytes) (queues_text world.now)) }
+    ensures grows { Grows (K.taken out.old) (K.taken out.new) }
     ensures cause { HasCause (K.faults out.old) (K.faults out.new) result }
 {
     let accounts = world.accounts();
-    write_tickets(out, Acct::Inbound, accounts.inbound.tickets.as_slice())?;
-    write_tickets(out, Acct::Outbound, accounts.outbound.tickets.as_slice())?;
-    write_names(out, world.names().as_slice())
+    put_tickets(out, waiting, Acct::Inbound, accounts.inbound.tickets.as_slice())?;
+    put_tickets(out, waiting, Acct::Outbound, accounts.outbound.tickets.as_slice())?;
+    put_names(out, waiting, world.names().as_slice())
 }
 
-// Writes the lines of a world's things, by rising address.
-fn write_things<K: Sink>(out: &mut K, world: &World, tied: &Tied) -> Result<(), SinkFault>
+// The line of a thing of a world at an address, of which it was counted what ties it to others.
+#[derive(Drop)]
+struct ThingLine<'w, 't, 'h> {
+    world: &'w World,
+    tied: &'t Tied,
+    addr: Addr,
+    thing: &'h Thing,
+}
+
+impl Printed for ThingLine<'_, '_, '_> {
+    ghost use Rattle.sdr_text_world.specs.ThingText.{HasSmallWire, thing_line};
+    ghost use Rattle.sdr_text_world.specs.Tied.{TellsTies};
+
+    ghost text = { λ s. thing_line s.world.now (s.addr, s.thing.now) };
+
+    ghost can = { λ s. TellsTies s.world.now s.tied.now × HasSmallWire s.thing.now };
+
+    fn write_to<K: Sink>(&self, out: &mut K) -> Result<(), SinkFault> {
+        write_thing(out, self.tied, self.addr, self.thing)
+    }
+}
+
+// Puts the lines of a world's things, by rising address, behind what waits.
+#[tactic(auto, using(sdr_buffer::proofs::WaitingLemmas::growing))]
+fn put_things<K: Sink>(
+    out: &mut K,
+    waiting: &mut OutputBuffer,
+    world: &World,
+    tied: &Tied,
+) -> Result<(), SinkFault>
     requires tied { TellsTies world.now tied.now }
     requires small { HasSmallSums world.now }
-    ensures ok { OnOk result (Appends (K.taken out.old) (K.taken out.new)
+    ensures ok { OnOk result (Appends (append_known (K.taken out.old) waiting.old.bytes)
+        (append_known (K.taken out.new) waiting.new.bytes)
         (things_text world.now (map.entries world.now.things))) }
-    ensures err { OnErr result (AppendsPart (K.taken out.old) (K.taken out.new)
+    ensures err { OnErr result (AppendsPart (append_known (K.taken out.old) waiting.old.bytes)
+        (append_known (K.taken out.new) waiting.new.bytes)
         (things_text world.now (map.entries world.now.things))) }
+    ensures grows { Grows (K.taken out.old) (K.taken out.new) }
     ensures cause { HasCause (K.faults out.old) (K.faults out.new) result }
 {
     let mut rest = world.things();
     while let Some((addr, thing)) = rest.next() {
-        write_thing(out, tied, *addr, thing)?;
+        let line = ThingLine {
+            world,
+            tied,
+            addr: *addr,
+            thing,
+        };
+        put(out, waiting, &line)?;
     }
     Ok(())
+}
+
+// Writes the lines of tickets, of the catalogue and of things: they wait in a buffer, and go out together.
+fn write_gathered<K: Sink>(out: &mut K, world: &World, tied: &Tied) -> Result<(), SinkFault>
+    requires tied { TellsTies world.now tied.now }
+    requires small { HasSmallSums world.now }
+    ensures ok { OnOk result (Appends (K.taken out.old) (K.taken out.new)
+        (queues_text world.now ++ things_text world.now (map.entries world.now.things))) }
+    ensures err { OnErr result (AppendsPart (K.taken out.old) (K.taken out.new)
+        (queues_text world.now ++ things_text world.now (map.entries world.now.things))) }
+    ensures cause { HasCause (K.faults out.old) (K.faults out.new) result }
+{
+    let mut waiting = OutputBuffer::new();
+    put_queues(out, &mut waiting, world)?;
+    put_things(out, &mut waiting, world, tied)?;
+    waiting.pass_on(out)
 }
 
 // Writes the text of a world, of which it was counted what ties its things to each other.
@@ -176,8 +236,7 @@ fn write_counted<K: Sink>(
     ensures cause { HasCause (K.faults out.old) (K.faults out.new) result }
 {
     write_front(out, world, tied, census)?;
-    write_queues(out, world)?;
-    write_things(out, world, tied)?;
+    write_gathered(out, world, tied)?;
     write_blocks(out, census)
 }
 

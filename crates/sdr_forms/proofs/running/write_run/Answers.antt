@@ -14,18 +14,18 @@ whole_behind : {T E : Type 0} (r : Result T E) (old now new : Option (List ℕ))
 whole_behind (Ok x) old now new text more front back = Appends-trans old now new text more front back
 whole_behind (Err e) old now new text more front back = tt
 
-pub returns-in_err-write_journal-clause-err : goal.returns-in_err-write_journal-clause-err
-returns-in_err-write_journal-clause-err g c =
+pub returns-in_err-write_entries-clause-err : goal.returns-in_err-write_entries-clause-err
+returns-in_err-write_entries-clause-err g c =
     on_err _
     (part_front _ _ (journal_text c.args.journal.now) (line_asked c.args.asked c.args.totals.now)
-    c.in_err-write_journal.ensures.err)
+    c.in_err-write_entries.ensures.err)
 
 pub returns-clause-ok : goal.returns-clause-ok
 returns-clause-ok g c =
     whole_behind c.write_asked.result _ _ _ (journal_text c.args.journal.now) (line_asked c.args.asked c.args.totals.now)
-    c.in_ok-write_journal.ensures.ok c.write_asked.ensures.ok
+    c.in_ok-write_entries.ensures.ok c.write_asked.ensures.ok
 
 pub returns-clause-err : goal.returns-clause-err
 returns-clause-err g c =
     part_behind c.write_asked.result _ _ _ (journal_text c.args.journal.now) (line_asked c.args.asked c.args.totals.now)
-    c.in_ok-write_journal.ensures.ok c.write_asked.ensures.err
+    c.in_ok-write_entries.ensures.ok c.write_asked.ensures.err

@@ -1,25 +1,29 @@
 use Rattle.std.proofs.Common.{◌≡◌, ◌∷◌, [], List, true, false, true≢false, ap, sym, subst, arith, length, refl, inl, inr}
 use Rattle.sdr_model.specs.declared.script.ScriptStep.{ScriptStep}
 use Rattle.sdr_run.proofs.PlayingLemmas.{made_also, made_next, made_still, running_at, running_next, running_start}
+use Rattle.sdr_buffer.proofs.WaitingLemmas.{grows_more, grows_none}
 use Rattle.sdr_run.specs.Playing.{IsPrinted, Output, output}
+use Rattle.sdr_run.specs.Printing.{behind}
+use Rattle.sdr_run.specs.declared.printing.Printer.{Printer}
 use Rattle.sdr_run.specs.Running.{Running}
 use Rattle.sdr_run.proofs.playing.play_on.Given.{Over}
 use Rattle.sdr_run.proofs.playing.play_on.Goals as goal
 
--- what is seen of the output
-abbrev seen : (g : Over) → g.row.K.Denot → Output
-seen g = output g.K.Sink.taken g.K.Sink.faults
+-- what is seen of the output, with the lines that wait for it
+abbrev seen : (g : Over) → g.row.K.Denot → Printer → Output
+seen g out printer = behind (output g.K.Sink.taken g.K.Sink.faults out) printer
 
 pub loop-step-init : goal.loop-step-init
 loop-step-init g c = record {
   running = λ from here.
       subst (λ names. Running g.R.HasRun c.args.run.now from (g.S.Steps.left c.args.steps.now) (g.S.Steps.left c.args.steps.now) names c.args.run.now
-      (IsPrinted c.args.printing.now (seen g c.args.out.now) (seen g c.args.out.now))) (sym c.new-bindings.ensures)
+      (IsPrinted c.args.printer.now.going (seen g c.args.out.now c.args.printer.now) (seen g c.args.out.now c.args.printer.now))) (sym c.new-bindings.ensures)
       (subst (λ p. Running g.R.HasRun c.args.run.now from (g.S.Steps.left c.args.steps.now) (g.S.Steps.left c.args.steps.now) [] c.args.run.now
-      (IsPrinted p (seen g c.args.out.now) (seen g c.args.out.now))) (sym c.requires.printing)
-      (running_start g.R.HasRun c.args.run.now from (g.S.Steps.left c.args.steps.now) (seen g c.args.out.now) here));
+      (IsPrinted p (seen g c.args.out.now c.args.printer.now) (seen g c.args.out.now c.args.printer.now))) (sym c.requires.going)
+      (running_start g.R.HasRun c.args.run.now from (g.S.Steps.left c.args.steps.now) (seen g c.args.out.now c.args.printer.now) here));
   lasts = c.requires.lasts;
   drawn = omega arith;
+  grows = grows_none _;
   later = omega arith;
 }
 
@@ -30,20 +34,20 @@ returns-in_default-make-clause-ran g c =
     let next = c.in-Some.ensures.some in
     let old = c.loop-step in
     let new = c.make.new in
-    let first = seen g c.args.out.now in
+    let first = seen g c.args.out.now c.args.printer.now in
     elim c.in_default-make.ensures.err [
       | inl same ↦ record {
         rest = step ∷ next.rest;
-        each = λ from here. made_also g.R.HasRun c.args.run.now from _ (step ∷ next.rest) new.run true (IsPrinted new.printing first (seen g new.out))
+        each = λ from here. made_also g.R.HasRun c.args.run.now from _ (step ∷ next.rest) new.run true (IsPrinted new.printer.going first (seen g new.out new.printer))
             (λ no. absurd (true≢false no))
-            (made_still g.R.HasRun c.args.run.now from _ (step ∷ next.rest) old.run new.run old.printing new.printing first (seen g old.out) (seen g new.out)
-            (running_at g.R.HasRun c.args.run.now from _ _ step old.bindings old.run _ next (old.invariant.running from here)).at same.0 (ap (seen g) same.1) same.2);
+            (made_still g.R.HasRun c.args.run.now from _ (step ∷ next.rest) old.run new.run old.printer.going new.printer.going first (seen g old.out old.printer) (seen g new.out new.printer)
+            (running_at g.R.HasRun c.args.run.now from _ _ step old.bindings old.run _ next (old.invariant.running from here)).at old.invariant.later same.0 same.1);
       }
       | inr answered ↦ record {
         rest = next.rest;
-        each = λ from here. made_also g.R.HasRun c.args.run.now from _ next.rest new.run true (IsPrinted new.printing first (seen g new.out))
+        each = λ from here. made_also g.R.HasRun c.args.run.now from _ next.rest new.run true (IsPrinted new.printer.going first (seen g new.out new.printer))
             (λ no. absurd (true≢false no))
-            (made_next g.R.HasRun c.args.run.now from _ step next.rest old.bindings old.run new.run old.printing new.printing first (seen g old.out) (seen g new.out)
+            (made_next g.R.HasRun c.args.run.now from _ step next.rest old.bindings old.run new.run old.printer.going new.printer.going first (seen g old.out old.printer) (seen g new.out new.printer)
             (running_at g.R.HasRun c.args.run.now from _ _ step old.bindings old.run _ next (old.invariant.running from here)) old.invariant.later answered);
       }
     ]
@@ -69,12 +73,12 @@ returns-in_default-pass-clause-ran g c =
     let next = c.in-Some.ensures.some in
     let old = c.loop-step in
     let new = c.make.new in
-    let first = seen g c.args.out.now in
+    let first = seen g c.args.out.now c.args.printer.now in
     let made = c.in-Ok.ensures.makes in
     record {
       rest = next.rest;
-      each = λ from here. made_also g.R.HasRun c.args.run.now from _ next.rest new.run true (IsPrinted new.printing first (seen g new.out)) (λ no. absurd (true≢false no))
-          (running_next g.R.HasRun c.args.run.now from _ step next.rest old.bindings old.run new.run old.printing new.printing first (seen g old.out) (seen g new.out)
+      each = λ from here. made_also g.R.HasRun c.args.run.now from _ next.rest new.run true (IsPrinted new.printer.going first (seen g new.out new.printer)) (λ no. absurd (true≢false no))
+          (running_next g.R.HasRun c.args.run.now from _ step next.rest old.bindings old.run new.run old.printer.going new.printer.going first (seen g old.out old.printer) (seen g new.out new.printer)
           (running_at g.R.HasRun c.args.run.now from _ _ step old.bindings old.run _ next (old.invariant.running from here)) old.invariant.later made.answers
           new.bindings made.names).at;
     }
@@ -91,7 +95,7 @@ loop-step-preserved g c =
     let next = c.in-Some.ensures.some in
     let old = c.loop-step in
     let new = c.make.new in
-    let first = seen g c.args.out.now in
+    let first = seen g c.args.out.now c.args.printer.now in
     let made = c.in-Ok.ensures.makes in
     let passed : g.S.Steps.left c.pass.new.self ≡ next.rest = c.in-Ok-pass.ensures step next.rest next.is in
     let all = ap length next.is in
@@ -99,12 +103,13 @@ loop-step-preserved g c =
     record {
       running = λ from here.
           subst (λ (rest : List ScriptStep). Running g.R.HasRun c.args.run.now from (g.S.Steps.left c.args.steps.now) rest new.bindings new.run
-          (IsPrinted new.printing first (seen g new.out))) (sym passed)
-          (running_next g.R.HasRun c.args.run.now from _ step next.rest old.bindings old.run new.run old.printing new.printing first (seen g old.out) (seen g new.out)
+          (IsPrinted new.printer.going first (seen g new.out new.printer))) (sym passed)
+          (running_next g.R.HasRun c.args.run.now from _ step next.rest old.bindings old.run new.run old.printer.going new.printer.going first (seen g old.out old.printer) (seen g new.out new.printer)
           (running_at g.R.HasRun c.args.run.now from _ _ step old.bindings old.run _ next (old.invariant.running from here)) old.invariant.later made.answers
           new.bindings made.names);
       lasts = made.answers.makes.lasts;
       drawn = let one = made.answers.makes.drawn in omega (arith, old.invariant.drawn, one, all, fewer);
+      grows = grows_more _ _ _ old.invariant.grows c.make.ensures.grows;
       later = omega (arith, old.invariant.later, c.make.ensures.later);
     }
 
@@ -121,3 +126,9 @@ returns-clause-ran g c = record {
   each = λ from here. made_also g.R.HasRun c.args.run.now from _ (g.S.Steps.left c.loop-step.steps) c.loop-step.run false _ (λ done. c.in_default.ensures.none refl)
       (c.loop-step.invariant.running from here).at;
 }
+
+pub returns-in_default-make-clause-grows : goal.returns-in_default-make-clause-grows
+returns-in_default-make-clause-grows g c = grows_more _ _ _ c.loop-step.invariant.grows c.make.ensures.grows
+
+pub returns-in_default-pass-clause-grows : goal.returns-in_default-pass-clause-grows
+returns-in_default-pass-clause-grows g c = grows_more _ _ _ c.loop-step.invariant.grows c.make.ensures.grows

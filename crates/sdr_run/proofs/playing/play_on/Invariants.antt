@@ -1,6 +1,8 @@
 use Rattle.std.proofs.Common.{◌≤◌, ◌+◌, length}
 use Rattle.sdr_machine.specs.Core.{Core}
+use Rattle.sdr_buffer.specs.Waiting.{Grows}
 use Rattle.sdr_run.specs.Playing.{IsPrinted, output}
+use Rattle.sdr_run.specs.Printing.{behind}
 use Rattle.sdr_run.specs.Running.{Running}
 use Rattle.sdr_run.proofs.playing.play_on.Given as goal
 
@@ -9,9 +11,10 @@ abbrev pub invariant-loop-step : goal.invariant-loop-step
 invariant-loop-step g l = record {
   running : (from : Core) → g.R.HasRun.at l.fn.run from
       → Running g.R.HasRun l.fn.run from (g.S.Steps.left l.fn.steps) (g.S.Steps.left l.steps) l.bindings l.run
-      (IsPrinted l.printing (output g.K.Sink.taken g.K.Sink.faults l.fn.out) (output g.K.Sink.taken g.K.Sink.faults l.out));
+      (IsPrinted l.printer.going (behind (output g.K.Sink.taken g.K.Sink.faults l.fn.out) l.fn.printer) (behind (output g.K.Sink.taken g.K.Sink.faults l.out) l.printer));
   lasts : g.R.HasRun.lasts l.run;
   drawn : (g.R.HasRun.roll_of l.run).drawn + length (g.S.Steps.left l.steps) ≤ (g.R.HasRun.roll_of l.fn.run).drawn + length (g.S.Steps.left l.fn.steps);
+  grows : Grows (g.K.Sink.taken l.fn.out) (g.K.Sink.taken l.out);
   later : g.K.Sink.faults l.fn.out ≤ g.K.Sink.faults l.out;
 }
 
