@@ -144,8 +144,18 @@ fn put_queues<K: Sink>(
     ensures cause { HasCause (K.faults out.old) (K.faults out.new) result }
 {
     let accounts = world.accounts();
-    put_tickets(out, waiting, Acct::Inbound, accounts.inbound.tickets.as_slice())?;
-    put_tickets(out, waiting, Acct::Outbound, accounts.outbound.tickets.as_slice())?;
+    put_tickets(
+        out,
+        waiting,
+        Acct::Inbound,
+        accounts.inbound.tickets.as_slice(),
+    )?;
+    put_tickets(
+        out,
+        waiting,
+        Acct::Outbound,
+        accounts.outbound.tickets.as_slice(),
+    )?;
     put_names(out, waiting, world.names().as_slice())
 }
 

@@ -12,7 +12,7 @@ pub put-requires : goal.put-requires
 put-requires g c = (
   c.requires.tied,
   All-head (λ e. HasSmallWire e.1) (c.in-Some.addr.now, c.in-Some.thing.now) c.next.new.self
-  (subst (All (λ e. HasSmallWire e.1)) c.in-Some.ensures.steps c.loop-addr.invariant.small),
+      (subst (All (λ e. HasSmallWire e.1)) c.in-Some.ensures.steps c.loop-addr.invariant.small),
 )
 
 pub loop-addr-preserved : goal.loop-addr-preserved
@@ -23,7 +23,7 @@ loop-addr-preserved g c =
           next_whole (thing_line world) _ _ _ (map.entries world.things) c.in-Some.ensures.steps c.loop-addr.invariant.goes
           c.in_ok-put.ensures.ok;
       grows = grows_more _ _ _ c.loop-addr.invariant.grows c.put.ensures.grows;
-  later = omega (arith, c.loop-addr.invariant.later, c.put.ensures.cause.later);
+      later = omega (arith, c.loop-addr.invariant.later, c.put.ensures.cause.later);
       small = All-tail (λ e. HasSmallWire e.1) (c.in-Some.addr.now, c.in-Some.thing.now) c.next.new.self
           (subst (All (λ e. HasSmallWire e.1)) c.in-Some.ensures.steps c.loop-addr.invariant.small);
     }
