@@ -1,13 +1,11 @@
 use Rattle.std.proofs.Common.{◌≡◌, ◌++◌, [], ap}
 use Rattle.std.proofs.KnownBytes.{Appends-trans}
 use Rattle.std.specs.FinMap as map
-use Rattle.std.specs.Io.KnownBytes.{Appends, append_known}
 use Rattle.sdr_buffer.proofs.WaitingLemmas.{grows_more, part_passed, passed_err, passed_ok}
-use Rattle.sdr_buffer.specs.Waiting.{Grows, Waiting}
+use Rattle.sdr_buffer.specs.Waiting.{Waiting}
 use Rattle.sdr_text.proofs.TextLemmas.{on_err, part_front, part_later}
 use Rattle.sdr_text_world.specs.ThingText.{things_text}
 use Rattle.sdr_text_world.specs.WorldText.{queues_text}
-use Rattle.sdr_text_world.proofs.world.write_gathered.Given.{Over}
 use Rattle.sdr_text_world.proofs.world.write_gathered.Goals as goal
 
 pub returns-in_err-put_queues-clause-err : goal.returns-in_err-put_queues-clause-err
