@@ -57,9 +57,13 @@ with_thing thing place = record place { thing = thing }
 abbrev pub saving : Option Thing → Option Place → Option Place
 saving begun place = Some (record { begun = Some begun; thing = option_and_then now_at place })
 
--- a place when the transaction is over
-abbrev pub settled : Stays → Place → Place
-settled s place = record { begun = None; thing = staying s place }
+-- a place that keeps nothing of the begin, with what stays
+abbrev pub cleared : Stays → Place → Place
+cleared s place = record { begun = None; thing = staying s place }
+
+-- a place when the transaction is over: there is none where nothing stays
+abbrev pub settled : Stays → Place → Option Place
+settled s place = option_map (λ thing. record { begun = None; thing = Some thing }) (staying s place)
 
 -- the things that stay
 abbrev pub things_of : Stays → Store → Things

@@ -1,7 +1,7 @@
 // What is at an address, now and at the begin of a transaction.
-ghost use Rattle.std.specs.Prelude.{◌≡◌, OnErr, OnOk};
+ghost use Rattle.std.specs.Prelude.{◌≡◌, OnErr, OnOk, is_none};
 ghost use Rattle.std.specs.Option.{option_and_then, option_copied, option_map};
-ghost use Rattle.mem_store.specs.Store.{ChangesAt, now_at, place_at, saved_at, saving, settled, with_thing};
+ghost use Rattle.mem_store.specs.Store.{ChangesAt, now_at, place_at, saved_at, saving, cleared, settled, with_thing};
 
 use sdr_base::{Addr, NoMemory};
 use sdr_model::Thing;
@@ -77,16 +77,28 @@ pub(crate) fn swap(
     mem::replace(&mut place.thing, thing)
 }
 
-/// Lets one of both stay at an address.
-pub(crate) fn settle(places: &mut BTreeMap<u64, Place>, addr: Addr, stays: Stays)
-    ensures { ChangesAt places.old.entries places.new.entries addr (option_map (settled stays)) }
+// Lets one of both stay at an address, and tells whether nothing is there then.
+fn clear(places: &mut BTreeMap<u64, Place>, addr: Addr, stays: Stays) -> bool
+    ensures cleared { ChangesAt places.old.entries places.new.entries addr (option_map (cleared stays)) }
+    ensures empty { result ≡ is_none (option_and_then now_at (place_at places.new.entries addr)) }
 {
-    if let Some(place) = places.get_mut(&addr) {
-        match stays {
-            Stays::Now => place.begun = None,
-            Stays::Begun => if let Some(begun) = place.begun.take() {
-                place.thing = begun;
-            },
-        }
+    let Some(place) = places.get_mut(&addr) else {
+        return true;
+    };
+    match stays {
+        Stays::Now => place.begun = None,
+        Stays::Begun => if let Some(begun) = place.begun.take() {
+            place.thing = begun;
+        },
+    }
+    place.thing.is_none()
+}
+
+/// Lets one of both stay at an address. Where that is nothing, the place goes.
+pub(crate) fn settle(places: &mut BTreeMap<u64, Place>, addr: Addr, stays: Stays)
+    ensures { ChangesAt places.old.entries places.new.entries addr (option_and_then (settled stays)) }
+{
+    if clear(places, addr, stays) {
+        places.remove(&addr);
     }
 }

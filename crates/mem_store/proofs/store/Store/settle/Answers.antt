@@ -10,19 +10,19 @@ use Rattle.mem_store.proofs.StoreLemmas.{nothing_touched, things_at-kept, touche
 use Rattle.mem_store.proofs.store.Store.settle.Goals as goal
 
 -- what stays at a place is there
-same_staying : (s : Stays) (o : Option Place) → option_and_then (staying s) (option_map (settled s) o) ≡ option_and_then (staying s) o
+same_staying : (s : Stays) (o : Option Place) → option_and_then (staying s) (option_and_then (settled s) o) ≡ option_and_then (staying s) o
 same_staying s o = grind arith
 
-none_saved : (s : Stays) (o : Option Place) → is_saved (option_map (settled s) o) ≡ false
+none_saved : (s : Stays) (o : Option Place) → is_saved (option_and_then (settled s) o) ≡ false
 none_saved s o = grind arith
 
 pub loop-addr-preserved : goal.loop-addr-preserved
 loop-addr-preserved c =
     let there = place_at c.loop-addr.self-inside.places.entries c.in-Some.addr in
     record {
-      things = things_at-kept _ _ c.in-Some.addr (option_map (settled c.args.stays)) c.settle.ensures (staying c.args.stays) (same_staying c.args.stays there)
+      things = things_at-kept _ _ c.in-Some.addr (option_and_then (settled c.args.stays)) c.settle.ensures (staying c.args.stays) (same_staying c.args.stays there)
           ∙ c.loop-addr.invariant.things;
-      among = touched-pop _ _ c.in-Some.addr (option_map (settled c.args.stays)) c.settle.ensures c.pop.new.self.items (none_saved c.args.stays there)
+      among = touched-pop _ _ c.in-Some.addr (option_and_then (settled c.args.stays)) c.settle.ensures c.pop.new.self.items (none_saved c.args.stays there)
           (λ q was. subst (λ xs. Contains xs q) c.in-Some.ensures.items (c.loop-addr.invariant.among q was));
     }
 
