@@ -6,3 +6,4 @@ pub mod PlacesLemmas
 pub mod SpotLemmas
 pub mod StoreLemmas
 pub mod TakenLemmas
+pub mod TallyLemmas

@@ -1,9 +1,11 @@
 -- The things of a world in the making.
 use Rattle.sdr_model.specs.Things.{with_at, Things}
 use Rattle.sdr_model.specs.contracts.things.Thing as thing
+use Rattle.mem_store.specs.Tallies.{AreTallied}
 use Rattle.mem_store.specs.declared.place.Place.{Place}
 use Rattle.mem_store.specs.declared.place.Stays.{Stays}
 use Rattle.mem_store.specs.declared.place.Stays.TheVariants as stays
+use Rattle.mem_store.specs.declared.tallied.Tallied.{Tallied}
 use Rattle.sdr_model.specs.declared.things.Thing.{Thing}
 use Rattle.std.specs.BTreeMap.{is_at}
 use Rattle.std.specs.Coded.{Coded, code_by, coded×, coded_ℕ, coded_list}
@@ -94,3 +96,8 @@ saved_at places addr = is_saved (place_at places addr)
 -- an address was touched just where what was there at the begin is kept
 abbrev pub AreTouched : List (ℕ × Place) → List ℕ → Type 0
 AreTouched places touched = (addr : ℕ) → (saved_at places addr ≡ true) ↔ Contains touched addr
+
+-- a store's addresses that were touched are noted, and its tallies are of the things now
+pub record IsKept (places : List (ℕ × Place)) (addrs : List ℕ) (tallies : Tallied) : Type 0 where
+  pub touched : AreTouched places addrs
+  pub tallied : AreTallied (things_at now_at places) tallies

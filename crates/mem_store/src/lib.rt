@@ -17,6 +17,8 @@ mod names;
 mod owners;
 mod place;
 mod store;
+mod tallied;
+mod tally;
 
 pub use catalogue::Catalogue;
 pub use ledger::Ledger;

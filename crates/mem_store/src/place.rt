@@ -1,7 +1,8 @@
 // What is at an address, now and at the begin of a transaction.
 ghost use Rattle.std.specs.Prelude.{◌≡◌, OnErr, OnOk, is_none};
+ghost use Rattle.std.specs.FinMap as map;
 ghost use Rattle.std.specs.Option.{option_and_then, option_copied, option_map};
-ghost use Rattle.mem_store.specs.Store.{ChangesAt, now_at, place_at, saved_at, saving, cleared, settled, with_thing};
+ghost use Rattle.mem_store.specs.Store.{ChangesAt, now_at, place_at, saved_at, cleared, saving, settled, things_at, with_thing};
 
 use sdr_base::{Addr, NoMemory};
 use sdr_model::Thing;
@@ -31,6 +32,14 @@ impl Place {
     {
         self.thing.as_ref()
     }
+}
+
+/// The thing at an address.
+#[tactic(auto, using(crate::proofs::StoreLemmas::thing_at))]
+pub(crate) fn thing_at(places: &BTreeMap<u64, Place>, addr: Addr) -> Option<&Thing>
+    ensures { option_copied result ≡ map.get (things_at now_at places.now.entries) addr }
+{
+    places.get(&addr)?.current()
 }
 
 /// Whether what was at an address at the begin is kept.

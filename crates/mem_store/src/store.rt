@@ -7,8 +7,9 @@ ghost use Rattle.sdr_model.specs.Things.{with_at};
 ghost use Rattle.mem_store.specs.Charged.{charged, is_used, world_of};
 ghost use Rattle.mem_store.specs.Store.{things_in, things_of};
 
-use crate::charged::{charged, is_used, mark_used};
-use crate::place::{Place, Stays, is_saved, save, settle, swap};
+use crate::charged::{charged, is_used};
+use crate::place::{Place, Stays, is_saved, save, thing_at};
+use crate::tallied::Tallied;
 use sdr_base::{Acct, Addr, Amounts, NoMemory};
 use sdr_model::Thing;
 use std::alloc::Global;
@@ -24,9 +25,8 @@ pub struct Store {
     places: BTreeMap<u64, Place>,
     /// The addresses that were touched since the begin.
     touched: Vec<Addr>,
-    /// A mark for each address where a source was put, by which `charged` notes which sources are named. Contracts don't see it. A
-    /// source for whose mark there was no memory is looked for in the extents instead.
-    marks: BTreeMap<u64, bool>,
+    /// What is kept beside the things, so that a charge need not look at them all. Contracts don't see it.
+    tallies: Tallied,
 }
 
 impl Model for Store {
@@ -42,7 +42,7 @@ impl Model for Store {
       touched = s.touched.items;
     } };
 
-    ghost invariant = { λ s. store.AreTouched s.places.entries s.touched.items };
+    ghost invariant = { λ s. store.IsKept s.places.entries s.touched.items s.tallies };
 }
 
 // A copy of what is at an address.
@@ -64,16 +64,15 @@ impl Store {
             alloc,
             places: BTreeMap::new(alloc),
             touched: Vec::new(alloc),
-            marks: BTreeMap::new(alloc),
+            tallies: Tallied::new(alloc),
         }
     }
 
     /// The thing at an address.
-    #[tactic(auto, using(crate::proofs::StoreLemmas::thing_at))]
     pub fn get(&self, addr: Addr) -> Option<&Thing>
         ensures { option_copied result ≡ map.get self.now.now addr }
     {
-        self.places.get(&addr)?.current()
+        thing_at(&self.places, addr)
     }
 
     /// The places of the things, by rising address.
@@ -83,23 +82,25 @@ impl Store {
         self.places.iter()
     }
 
-    /// Whether an extent of an account's objects names the source at an address. It goes over all things and extents, until
-    /// one does.
+    /// Whether an extent of an account's objects names the source at an address.
     pub fn is_used(&self, source: Addr, acct: Acct) -> bool
         ensures { result ≡ is_used (world_of self.now.now) source acct }
     {
-        is_used(&self.places, source, acct)
+        match self.tallies.of(acct) {
+            Some(tally) => tally.uses(source) != 0,
+            None => is_used(&self.places, source, acct),
+        }
     }
 
-    /// What the objects of an account, and the sources that they name, charge it, as far as words hold it. It goes over all
-    /// things, and is linear in those, in the extents of the account's objects and in their headers and trailers, times
-    /// the logarithm of the things where an extent has another source than the one before it. It takes no memory.
+    /// What the objects of an account, and the sources that they name, charge it, as far as words hold it.
     pub fn charged(&mut self, acct: Acct) -> Amounts
         ensures value { result ≡ capped_by (charged (world_of self.old.now) acct) }
         ensures same { self.new ≡ self.old }
     {
-        mark_used(&mut self.marks, &self.places, acct);
-        charged(&self.marks, &self.places, acct)
+        match self.tallies.of(acct) {
+            Some(tally) => tally.charged(),
+            None => charged(&self.places, acct),
+        }
     }
 
     /// Takes note that an address is touched, and copies what is there. Where it was touched before, this takes
@@ -130,19 +131,16 @@ impl Store {
         ensures begun { self.new.begun ≡ self.old.begun }
         ensures touched { self.new.touched ≡ self.old.touched }
     {
-        swap(&mut self.places, addr, thing)
+        self.tallies.swap(&mut self.places, addr, thing)
     }
 
-    /// Puts a thing, or nothing, at an address that was touched. A source gets a mark there, if there is memory for it.
+    /// Puts a thing, or nothing, at an address that was touched.
     pub fn put(&mut self, addr: Addr, thing: Option<Thing>)
         requires touched { Contains self.old.touched addr }
         ensures now { self.new.now ≡ with_at self.old.now addr thing }
         ensures begun { self.new.begun ≡ self.old.begun }
         ensures touched { self.new.touched ≡ self.old.touched }
     {
-        if let Some(Thing::Source(_)) = &thing {
-            let _marked = self.marks.insert(addr, false);
-        }
         self.swap(addr, thing);
     }
 
@@ -169,7 +167,7 @@ impl Store {
         ensures { let things = things_of stays self.old in self.new ≡ record { begun = things; now = things; touched = [] } }
     {
         while let Some(addr) = self.touched.pop() {
-            settle(&mut self.places, addr, stays);
+            self.tallies.settle(&mut self.places, addr, stays);
         }
     }
 
