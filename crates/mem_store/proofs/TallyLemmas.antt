@@ -8,20 +8,24 @@ use Rattle.std.specs.Cmp.{nat_cmp_total, nat_eq_equiv}
 use Rattle.std.specs.FinMap.{empty, entries, find, get, get-entries, remove}
 use Rattle.std.specs.List.{sum_by}
 use Rattle.std.specs.Ordering.{eq_by_cmp, nat_cmp}
-use Rattle.std.specs.Prelude.{if◌then◌else◌}
+use Rattle.std.specs.Prelude.{IfSome, if◌then◌else◌}
 use Rattle.sdr_base.specs.declared.account.Acct.{Acct}
+use Rattle.sdr_base.specs.declared.account.Acct.TheVariants as accts
 use Rattle.sdr_base.specs.declared.kind.Space.{Space}
-use Rattle.sdr_model.specs.Amounts.{amount, in_space}
+use Rattle.mem_parts.specs.Capped.{capped_by}
+use Rattle.sdr_model.specs.Amounts.{amount, in_space, no_amounts}
 use Rattle.sdr_model.specs.Charges.{thing_charge}
 use Rattle.sdr_model.specs.Things.{Things, with_at}
 use Rattle.sdr_model.specs.Zco.{count_of, naming, space_of, uses_in}
 use Rattle.sdr_model.specs.declared.things.Thing.{Thing}
 use Rattle.sdr_model.specs.declared.things.Thing.TheVariants as things
 use Rattle.sdr_model.specs.declared.zco.Extent.{Extent}
+use Rattle.sdr_model.proofs.AmountLemmas.{nothing_in}
 use Rattle.sdr_model.proofs.SumLemmas.{counted_at, sum_by-removed}
 use Rattle.sdr_model.proofs.ThingsLemmas.{at_itself, get-removed, same_address, with_at-again}
 use Rattle.mem_store.specs.Charged.{charged, own_extents, world_of}
-use Rattle.mem_store.specs.Tallies.{Sums, Tallies, charge_named, charges_named, counted, source_bytes}
+use Rattle.mem_store.specs.Tallies.{AreTallied, Sums, Tallies, charge_named, charges_named, counted, source_bytes, tally_of}
+use Rattle.mem_store.specs.declared.tallied.Tallied.{Tallied}
 use Rattle.mem_store.specs.declared.tally.Tally.{Tally}
 use Rattle.mem_store.proofs.ChargedLemmas.{own-naming}
 use Rattle.mem_store.proofs.PlacesLemmas.{entries-empty}
@@ -262,3 +266,18 @@ module _ (acct : Acct) (t : Tally) (none : (at : ℕ) → counted t at ≡ 0) (n
           ∙ sym (ap (sum_by (λ (e : ℕ × Thing). charge_named (counted t e.0) acct space (Some e.1))) entries-empty);
     };
   }
+
+-- the tally of an account that isn't lost is of the things
+pub tally_is : (all : Things) (t : Tallied) (acct : Acct) (tally : Tally) → AreTallied all t → tally_of t acct ≡ Some tally
+    → Tallies acct all tally
+tally_is all t accts.Inbound tally are is = subst (λ o. IfSome o (Tallies accts.Inbound all)) is are.inbound
+tally_is all t accts.Outbound tally are is = subst (λ o. IfSome o (Tallies accts.Outbound all)) is are.outbound
+
+-- what words hold of what a tally has is what they hold of what the things charge
+pub amounts-tallied : (acct : Acct) (all : Things) (t : Tally) → Tallies acct all t
+    → capped_by (λ space. amount t.charged space + amount no_amounts space) ≡ capped_by (charged (world_of all) acct)
+amounts-tallied acct all t is =
+    let each = λ (space : Space).
+        let same : amount t.charged space + amount no_amounts space ≡ charged (world_of all) acct space =
+        omega (arith, nothing_in space, charges-tallied acct all t space is) in same in
+    ap capped_by (λ i space. each space i)
