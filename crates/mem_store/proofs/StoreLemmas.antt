@@ -46,6 +46,10 @@ module _ (old new : List (ℕ × Place)) (k : ℕ) (f : Option Place → Option 
       → things_at of new ≡ things_at of old
   things_at-kept of same = same_things _ _ (λ q. thing_at of new q ∙ part-kept (option_and_then of) same q ∙ sym (thing_at of old q))
 
+  -- what is there is what the place there has
+  pub thing_at-here : (of : Place → Option Thing) → get (things_at of new) k ≡ option_and_then of (f (place_at old k))
+  thing_at-here of = thing_at of new k ∙ grind (arith, part (option_and_then of) k, at_itself k)
+
   -- the other things are the same
   pub things_at-others : (of : Place → Option Thing) → remove (things_at of new) k ≡ remove (things_at of old) k
   things_at-others of = same_things _ _ (λ q. grind (arith, part (option_and_then of) q, thing_at of new q, thing_at of old q, get-remove nat_cmp_total (things_at of new) k q, get-remove nat_cmp_total (things_at of old) k q))

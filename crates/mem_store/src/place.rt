@@ -1,9 +1,13 @@
 // What is at an address, now and at the begin of a transaction.
-ghost use Rattle.std.specs.Prelude.{◌≡◌, OnErr, OnOk, is_none};
+ghost use Rattle.std.specs.Prelude.{◌≡◌, IfSome, OnErr, OnOk, is_none};
+ghost use Rattle.sdr_model.specs.Zco.{as_object};
+ghost use Rattle.mem_parts.specs.Bounds.{IsBounded};
+ghost use Rattle.mem_parts.specs.Components.{KeepsLimits};
 ghost use Rattle.std.specs.FinMap as map;
 ghost use Rattle.std.specs.Option.{option_and_then, option_copied, option_map};
-ghost use Rattle.mem_store.specs.Store.{ChangesAt, now_at, place_at, saved_at, cleared, saving, settled, things_at, with_thing};
+ghost use Rattle.mem_store.specs.Store.{ChangesAt, growing, now_at, place_at, saved_at, cleared, saving, settled, things_at, with_thing};
 
+use mem_parts::component::{Component, add};
 use sdr_base::{Addr, NoMemory};
 use sdr_model::Thing;
 use std::collections::BTreeMap;
@@ -84,6 +88,26 @@ pub(crate) fn swap(
 {
     let place = places.get_mut(&addr)?;
     mem::replace(&mut place.thing, thing)
+}
+
+/// Adds a component to the object at an address. Want of memory leaves all as before.
+pub(crate) fn grow(
+    places: &mut BTreeMap<u64, Place>,
+    addr: Addr,
+    component: Component,
+) -> Result<(), NoMemory>
+    requires bounded { IfSome (as_object (option_and_then now_at (place_at places.old.entries addr))) IsBounded }
+    requires limits { KeepsLimits component }
+    ensures grown { OnOk result (ChangesAt places.old.entries places.new.entries addr (option_map (growing component))) }
+    ensures same { OnErr result (ChangesAt places.old.entries places.new.entries addr (λ place. place)) }
+{
+    let Some(place) = places.get_mut(&addr) else {
+        return Ok(());
+    };
+    match &mut place.thing {
+        Some(Thing::Object(object)) => add(object, component),
+        _ => Ok(()),
+    }
 }
 
 // Lets one of both stay at an address, and tells whether nothing is there then.

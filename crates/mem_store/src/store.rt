@@ -1,8 +1,12 @@
 // The things of a world in the making, which can be put back to what they were at the begin.
-ghost use Rattle.std.specs.Prelude.{◌≡◌, ℕ, IfOk, OnOk, OnErr, IsSome, Some, None, Contains, []};
+ghost use Rattle.std.specs.Prelude.{◌≡◌, ℕ, IfOk, OnOk, OnErr, IsSome, Some, None, Contains, [], IfSome, false};
 ghost use Rattle.std.specs.FinMap as map;
 ghost use Rattle.std.specs.Option.{option_copied};
+ghost use Rattle.mem_parts.specs.Bounds.{IsBounded};
 ghost use Rattle.mem_parts.specs.Capped.{capped_by};
+ghost use Rattle.mem_parts.specs.Components.{KeepsLimits, with_component};
+ghost use Rattle.sdr_model.specs.Zco.{as_object, count_of, source_naming};
+ghost use Rattle.sdr_model.specs.declared.things.Thing.TheVariants as things;
 ghost use Rattle.sdr_model.specs.Things.{with_at};
 ghost use Rattle.mem_store.specs.Charged.{charged, is_used, world_of};
 ghost use Rattle.mem_store.specs.Store.{things_in, things_of};
@@ -10,6 +14,7 @@ ghost use Rattle.mem_store.specs.Store.{things_in, things_of};
 use crate::charged::{charged, is_used};
 use crate::place::{Place, Stays, is_saved, save, thing_at};
 use crate::tallied::Tallied;
+use mem_parts::component::Component;
 use sdr_base::{Acct, Addr, Amounts, NoMemory};
 use sdr_model::Thing;
 use std::alloc::Global;
@@ -92,6 +97,20 @@ impl Store {
         }
     }
 
+    /// How many extents of an account's objects name the source at an address, where that is kept.
+    pub fn uses(&self, source: Addr, acct: Acct) -> Option<u64>
+        ensures { IfSome result (λ n. n ≡ count_of (world_of self.now.now) source acct) }
+    {
+        Some(self.tallies.of(acct)?.uses(source))
+    }
+
+    /// Whether a source may name a raw object: where it says no, none does.
+    pub fn may_name(&self, raw: Addr) -> bool
+        ensures { result ≡ false → source_naming (world_of self.now.now) raw ≡ None }
+    {
+        self.tallies.may_name(raw)
+    }
+
     /// What the objects of an account, and the sources that they name, charge it, as far as words hold it.
     pub fn charged(&mut self, acct: Acct) -> Amounts
         ensures value { result ≡ capped_by (charged (world_of self.old.now) acct) }
@@ -160,6 +179,39 @@ impl Store {
             Some(thing) => Ok(thing),
             None => unreachable!(),
         }
+    }
+
+    /// Adds a component to the object at an address. Want of memory leaves all as before.
+    pub fn grow(&mut self, addr: Addr, component: Component) -> Result<(), NoMemory>
+        requires there { IsSome (as_object (map.get self.old.now addr)) }
+        requires bounded { IfSome (as_object (map.get self.old.now addr)) IsBounded }
+        requires limits { KeepsLimits component }
+        ensures grown { OnOk result (IfSome (as_object (map.get self.old.now addr)) (λ z.
+            self.new.now ≡ map.insert self.old.now addr (things.Object (with_component z component)))) }
+        ensures others { (other : ℕ) → Contains self.old.touched other →
+            Contains self.new.touched other }
+        ensures begun { self.new.begun ≡ self.old.begun }
+        ensures same { OnErr result (self.new.now ≡ self.old.now) }
+    {
+        self.touch(addr)?;
+        self.add(addr, component)
+    }
+
+    // Adds a component to the object at an address that was touched. Want of memory leaves all as before.
+    #[tactic(auto, using(crate::proofs::StoreLemmas::thing_at))]
+    fn add(&mut self, addr: Addr, component: Component) -> Result<(), NoMemory>
+        requires touched { Contains self.old.touched addr }
+        requires there { IsSome (as_object (map.get self.old.now addr)) }
+        requires bounded { IfSome (as_object (map.get self.old.now addr)) IsBounded }
+        requires limits { KeepsLimits component }
+        ensures grown { OnOk result (IfSome (as_object (map.get self.old.now addr)) (λ z.
+            self.new.now ≡ map.insert self.old.now addr (things.Object (with_component z component)))) }
+        ensures touched { self.new.touched ≡ self.old.touched }
+        ensures begun { self.new.begun ≡ self.old.begun }
+        ensures same { OnErr result (self.new.now ≡ self.old.now) }
+    {
+        self.tallies.grow(&mut self.places, addr, component)?;
+        Ok(())
     }
 
     // Lets the things of one of both times stay.

@@ -10,12 +10,13 @@ ghost use Rattle.sdr_model.specs.Amounts.{amount, no_amounts};
 ghost use Rattle.sdr_model.specs.Zco.{naming};
 ghost use Rattle.mem_parts.specs.Capped.{capped, capped_by};
 ghost use Rattle.mem_store.specs.Store.{now_at, things_at};
-ghost use Rattle.mem_store.specs.Tallies.{Sums, Tallies, charge_named, counted, source_bytes};
+ghost use Rattle.mem_store.specs.Tallies.{IsGrowth, Sums, Tallies, charge_named, charges_named, counted, named_once, source_bytes};
 
 use crate::charged::own_extents;
 use crate::place::{Place, thing_at};
 use mem_parts::amounts::capped_plus;
-use mem_parts::charges::{object_charge, space_charge};
+use mem_parts::charges::{heap_charge, object_charge, space_charge, text_charge};
+use mem_parts::component::Component;
 use sdr_base::{Acct, Addr, Amounts};
 use sdr_model::amounts::NOTHING;
 use sdr_model::{Extent, Thing};
@@ -28,6 +29,13 @@ pub(crate) struct Tally {
     /// How many extents name the source at each address. Where it has none, none does.
     uses: BTreeMap<Addr, u64>,
     charged: Amounts,
+}
+
+/// What a component charges, as far as words hold it, and the source that it names.
+#[derive(Clone, Copy)]
+pub(crate) struct Growth {
+    charge: Amounts,
+    source: Option<Addr>,
 }
 
 impl Tally {
@@ -265,5 +273,53 @@ pub(crate) fn leave(
     unname_all(&mut tally, places, own_extents(acct, thing))?;
     let uses = count(&tally.uses, addr);
     tally.charged = minus(&tally.charged, &own_charge(uses, acct, thing))?;
+    Some(tally)
+}
+
+/// What a component charges, and the source that it names.
+pub(crate) fn growth_by(component: &Component) -> Growth
+    ensures { IsGrowth component.now result }
+{
+    match component {
+        Component::Extent(extent) => Growth {
+            charge: heap_charge(32),
+            source: Some(extent.source),
+        },
+        Component::Header(capsule) | Component::Trailer(capsule) => Growth {
+            charge: heap_charge(text_charge(capsule.text.as_slice().len() as u64)),
+            source: None,
+        },
+    }
+}
+
+// One extent names a source, if any is named.
+fn name_once(
+    tally: &mut Tally,
+    places: &BTreeMap<u64, Place>,
+    source: Option<Addr>,
+) -> Option<()>
+    ensures counts { OnSome result ((at : ℕ) → counted tally.new at
+        ≡ counted tally.old at + named_once source at) }
+    ensures sums { OnSome result ((acct : GhostAcct)
+        → Sums acct (things_at now_at places.now.entries) tally.old
+        → Sums acct (things_at now_at places.now.entries) tally.new) }
+{
+    match source {
+        Some(source) => name_more(tally, places, source, 1),
+        None => Some(()),
+    }
+}
+
+/// The tally with what a component charges, where an object of the account got one, and with the source that it names.
+pub(crate) fn grow(mut tally: Tally, places: &BTreeMap<u64, Place>, growth: &Growth) -> Option<Tally>
+    ensures counts { IfSome result (λ new. (at : ℕ) → counted new at
+        ≡ counted tally at + named_once growth.now.source at) }
+    ensures sums { IfSome result (λ new. (acct : GhostAcct) (of : GhostSpace → ℕ) → growth.now.charge ≡ capped_by of
+        → ((space : GhostSpace) → amount tally.charged space + of space
+            ≡ charges_named (counted tally) acct space (things_at now_at places.now.entries))
+        → Sums acct (things_at now_at places.now.entries) new) }
+{
+    tally.charged = plus(&tally.charged, &growth.charge)?;
+    name_once(&mut tally, places, growth.source)?;
     Some(tally)
 }

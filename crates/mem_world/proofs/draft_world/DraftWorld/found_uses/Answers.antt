@@ -6,7 +6,7 @@ use Rattle.mem_world.specs.contracts.draft_world.DraftWorld.{the_view}
 use Rattle.mem_world.specs.Uses.{extents_in, naming_in}
 use Rattle.mem_world.proofs.PassLemmas.{naming-pass, naming-world}
 use Rattle.mem_world.proofs.SumBounds.{uses-small}
-use Rattle.mem_world.proofs.draft_world.DraftWorld.uses.Goals as goal
+use Rattle.mem_world.proofs.draft_world.DraftWorld.found_uses.Goals as goal
 
 pub loop-place-init : goal.loop-place-init
 loop-place-init c =
