@@ -127,12 +127,12 @@ AllOwnInside-grown owners next more k begun now new component higher here there 
           (things.Object (with_component z component))
           (owned-component owners next more k z component higher (own.now.each k (things.Object z) is) here));
     }
-    by (Some t) is there grown = absurd there
-    by None is there grown = absurd there
+    by (Some t) is there grown = absurd cc
+    by None is there grown = absurd cc
 
 -- what an object that got a component makes of the world
 pub Grows-inserted : (o : Option ZcoObject) (k : ℕ) (component : Component) (used w : World) (new : Things) → IsSome o
     → IfSome o (λ z. new ≡ insert used.things k (things.Object (with_component z component)))
     → w ≡ record used { things = new } → Grows o k component used w
-Grows-inserted None k component used w new there grown is = absurd there
+Grows-inserted None k component used w new there grown is = absurd cc
 Grows-inserted (Some z) k component used w new there grown is = is ∙ ap (λ (all : Things). record used { things = all }) grown
