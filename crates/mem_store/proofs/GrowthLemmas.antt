@@ -1,9 +1,8 @@
 -- What an object charges and names that got one more component.
-use Rattle.std.proofs.Common.{◌≡◌, ◌+◌, ◌*◌, ◌==◌, ℕ, ◌++◌, ◌∷◌, [], List, Bool, true, false, cond, length, Option, Some, None, ap, sym, ◌∙◌, refl, subst, arith}
+use Rattle.std.proofs.Common.{◌≡◌, ◌+◌, ◌==◌, ℕ, ◌∷◌, [], Bool, true, false, cond, Option, Some, None, ap, sym, ◌∙◌, refl, subst, arith}
 use Rattle.std.proofs.lemmas.List.{length-append}
 use Rattle.std.proofs.lemmas.List.Sums.{sum_by-append, sum_by-cons}
 use Rattle.std.specs.FinMap.{get, remove}
-use Rattle.std.specs.List.{sum_by}
 use Rattle.std.specs.BTreeMap.{BTreeMap}
 use Rattle.std.specs.Option.{option_and_then, option_map}
 use Rattle.std.specs.Prelude.{IfSome, IsSome, if◌then◌else◌}
@@ -100,7 +99,7 @@ module _ (acct : Acct) (all all' : Things) (k : ℕ) (z : ZcoObject) (component 
   pub Tallies-grown : (t new : Tally) → is_same_account acct z.account ≡ true
       → ((at : ℕ) → counted new at ≡ counted t at + named_once (component_source component) at)
       → (((space : Space) → amount t.charged space + component_charge space component ≡ charges_named (counted t) acct space all')
-          → Sums acct all' new)
+      → Sums acct all' new)
       → Tallies acct all t → Tallies acct all' new
   Tallies-grown t new own counts sums tallied = record {
     counts = λ at.
@@ -154,7 +153,7 @@ module _ (acct : Acct) (all all' : Things) (k : ℕ) (z : ZcoObject) (component 
   pub grown-tally : (t : Tally) (growth : Growth) (o : Option Tally) → IsGrowth component growth → is_same_account acct z.account ≡ true
       → IfSome o (λ new. (at : ℕ) → counted new at ≡ counted t at + named_once growth.source at)
       → IfSome o (λ new. (acct : Acct) (of : Space → ℕ) → growth.charge ≡ capped_by of
-          → ((space : Space) → amount t.charged space + of space ≡ charges_named (counted t) acct space all') → Sums acct all' new)
+      → ((space : Space) → amount t.charged space + of space ≡ charges_named (counted t) acct space all') → Sums acct all' new)
       → Tallies acct all t → IfSome o (Tallies acct all')
   grown-tally t growth None is own counts sums tallied = counts
   grown-tally t growth (Some new) is own counts sums tallied =

@@ -1,28 +1,28 @@
 -- What things charge an account by how many extents name each source, where the counts or the things change at one address.
-use Rattle.std.proofs.Common.{◌≡◌, ◌<◌, ◌+◌, ◌-◌, ◌==◌, ℕ, zero, suc, List, [], ◌∷◌, Bool, true, false, cond, Option, Some, None, drop, length, take, ap, sym, ◌∙◌, refl, subst, arith, eqb-true}
+use Rattle.std.proofs.Common.{◌≡◌, ◌<◌, ◌+◌, ◌-◌, ◌==◌, ℕ, List, [], ◌∷◌, Bool, true, false, cond, Option, Some, None, drop, length, take, ap, sym, ◌∙◌, refl, subst, arith, eqb-true}
 use Rattle.std.proofs.lemmas.Bool.Decides.{nat_tests}
 use Rattle.std.proofs.lemmas.List.{length-drop, take-append-drop, take_all}
 use Rattle.std.proofs.lemmas.List.Sums.{sum_by-append, sum_by-cons}
 use Rattle.std.specs.BTreeMap.{is_at}
-use Rattle.std.specs.Cmp.{nat_cmp_total, nat_eq_equiv}
+use Rattle.std.specs.Cmp.{nat_eq_equiv}
 use Rattle.std.specs.FinMap.{empty, entries, find, get, get-entries, remove}
 use Rattle.std.specs.List.{sum_by}
-use Rattle.std.specs.Ordering.{eq_by_cmp, nat_cmp}
+use Rattle.std.specs.Ordering.{nat_cmp}
 use Rattle.std.specs.Prelude.{IfSome, if◌then◌else◌}
 use Rattle.sdr_base.specs.declared.account.Acct.{Acct}
 use Rattle.sdr_base.specs.declared.account.Acct.TheVariants as accts
 use Rattle.sdr_base.specs.declared.kind.Space.{Space}
 use Rattle.mem_parts.specs.Capped.{capped_by}
-use Rattle.sdr_model.specs.Amounts.{amount, in_space, no_amounts}
+use Rattle.sdr_model.specs.Amounts.{amount, no_amounts}
 use Rattle.sdr_model.specs.Charges.{thing_charge}
-use Rattle.sdr_model.specs.Things.{Things, with_at}
-use Rattle.sdr_model.specs.Zco.{count_of, naming, space_of, uses_in}
+use Rattle.sdr_model.specs.Things.{Things}
+use Rattle.sdr_model.specs.Zco.{count_of, naming, uses_in}
 use Rattle.sdr_model.specs.declared.things.Thing.{Thing}
 use Rattle.sdr_model.specs.declared.things.Thing.TheVariants as things
 use Rattle.sdr_model.specs.declared.zco.Extent.{Extent}
 use Rattle.sdr_model.proofs.AmountLemmas.{nothing_in}
 use Rattle.sdr_model.proofs.SumLemmas.{counted_at, sum_by-removed}
-use Rattle.sdr_model.proofs.ThingsLemmas.{at_itself, get-removed, same_address, with_at-again}
+use Rattle.sdr_model.proofs.ThingsLemmas.{at_itself, get-removed}
 use Rattle.mem_store.specs.Charged.{charged, own_extents, world_of}
 use Rattle.mem_store.specs.Tallies.{AreTallied, Sums, Tallies, charge_named, charges_named, counted, source_bytes, tally_of}
 use Rattle.mem_store.specs.declared.tallied.Tallied.{Tallied}
@@ -278,6 +278,6 @@ pub amounts-tallied : (acct : Acct) (all : Things) (t : Tally) → Tallies acct 
     → capped_by (λ space. amount t.charged space + amount no_amounts space) ≡ capped_by (charged (world_of all) acct)
 amounts-tallied acct all t is =
     let each = λ (space : Space).
-        let same : amount t.charged space + amount no_amounts space ≡ charged (world_of all) acct space =
-        omega (arith, nothing_in space, charges-tallied acct all t space is) in same in
+    let same : amount t.charged space + amount no_amounts space ≡ charged (world_of all) acct space =
+    omega (arith, nothing_in space, charges-tallied acct all t space is) in same in
     ap capped_by (λ i space. each space i)

@@ -56,18 +56,12 @@ fn thing_charge(
 }
 
 /// What the things charge an account, as far as words hold it. For each source it goes over all things.
-pub(crate) fn charged(
-    places: &BTreeMap<u64, Place>,
-    acct: Acct,
-) -> Amounts
+pub(crate) fn charged(places: &BTreeMap<u64, Place>, acct: Acct) -> Amounts
     ensures { result ≡ capped_by (charged (world_of (things_at now_at places.now.entries)) acct) }
 {
     let mut charge = NOTHING;
     for (addr, place) in places.iter() {
-        charge = capped_plus(
-            &charge,
-            &thing_charge(places, acct, *addr, place.current()),
-        );
+        charge = capped_plus(&charge, &thing_charge(places, acct, *addr, place.current()));
     }
     charge
 }

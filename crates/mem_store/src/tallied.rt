@@ -70,11 +70,7 @@ fn raw_named(thing: Option<&Thing>) -> Option<Addr>
 }
 
 // Notes a raw object that the source at an address names.
-fn note(
-    mut raws: BTreeMap<Addr, Addr>,
-    raw: Addr,
-    addr: Addr,
-) -> Option<BTreeMap<Addr, Addr>>
+fn note(mut raws: BTreeMap<Addr, Addr>, raw: Addr, addr: Addr) -> Option<BTreeMap<Addr, Addr>>
     ensures { IfSome result (λ new. (q : ℕ) → get nat_cmp new q
         ≡ cond (is_at (nat_cmp raw) q) (Some addr) (get nat_cmp raws q)) }
 {

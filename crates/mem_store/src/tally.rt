@@ -293,11 +293,7 @@ pub(crate) fn growth_by(component: &Component) -> Growth
 }
 
 // One extent names a source, if any is named.
-fn name_once(
-    tally: &mut Tally,
-    places: &BTreeMap<u64, Place>,
-    source: Option<Addr>,
-) -> Option<()>
+fn name_once(tally: &mut Tally, places: &BTreeMap<u64, Place>, source: Option<Addr>) -> Option<()>
     ensures counts { OnSome result ((at : ℕ) → counted tally.new at
         ≡ counted tally.old at + named_once source at) }
     ensures sums { OnSome result ((acct : GhostAcct)
@@ -311,12 +307,16 @@ fn name_once(
 }
 
 /// The tally with what a component charges, where an object of the account got one, and with the source that it names.
-pub(crate) fn grow(mut tally: Tally, places: &BTreeMap<u64, Place>, growth: &Growth) -> Option<Tally>
+pub(crate) fn grow(
+    mut tally: Tally,
+    places: &BTreeMap<u64, Place>,
+    growth: &Growth,
+) -> Option<Tally>
     ensures counts { IfSome result (λ new. (at : ℕ) → counted new at
         ≡ counted tally at + named_once growth.now.source at) }
     ensures sums { IfSome result (λ new. (acct : GhostAcct) (of : GhostSpace → ℕ) → growth.now.charge ≡ capped_by of
         → ((space : GhostSpace) → amount tally.charged space + of space
-            ≡ charges_named (counted tally) acct space (things_at now_at places.now.entries))
+        ≡ charges_named (counted tally) acct space (things_at now_at places.now.entries))
         → Sums acct (things_at now_at places.now.entries) new) }
 {
     tally.charged = plus(&tally.charged, &growth.charge)?;

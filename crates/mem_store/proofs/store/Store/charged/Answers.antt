@@ -13,8 +13,8 @@ returns-clause-value c =
     let acct = c.args.acct in
     let here : c.match-of.result ≡ capped_by (charged (world_of all) acct) = elim c.match-of.branch [
       | in-Some w ↦ w.result-is ∙ w.charged.ensures
-        ∙ amounts-tallied acct all w.in-Some.tally.now
-        (tally_is all c.self.inside.tallies acct _ c.self.invariant.tallied (sym c.of.ensures ∙ ap option_copied w.in-Some.is))
+          ∙ amounts-tallied acct all w.in-Some.tally.now
+          (tally_is all c.self.inside.tallies acct _ c.self.invariant.tallied (sym c.of.ensures ∙ ap option_copied w.in-Some.is))
       | in-None w ↦ w.result-is ∙ w.charged-in-None.ensures
     ] in
     here ∙ ap (λ s. capped_by (charged (world_of s.now) acct)) c.self.view_is

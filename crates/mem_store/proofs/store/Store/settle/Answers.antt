@@ -1,6 +1,6 @@
 use Rattle.std.proofs.Common.{◌≡◌, [], ◌-◌, Option, false, append-nil, ap, arith, sym, subst, ◌∙◌}
 use Rattle.std.specs.List.{Contains}
-use Rattle.std.specs.Option.{option_and_then, option_map}
+use Rattle.std.specs.Option.{option_and_then}
 use Rattle.std.specs.Prelude.{take}
 use Rattle.mem_store.specs.Store.{is_saved, place_at, settled, staying}
 use Rattle.mem_store.specs.declared.place.Place.{Place}

@@ -1,4 +1,4 @@
-use Rattle.std.proofs.Common.{◌≤◌, ◌+◌, [], arith, refl, sym, subst, ◌∙◌}
+use Rattle.std.proofs.Common.{◌≤◌, ◌+◌, ℕ, List, [], ap, arith, sym, subst}
 use Rattle.std.specs.FinMap.{insert}
 use Rattle.std.specs.Prelude.{IfSome, IsSome}
 use Rattle.sdr_model.specs.Dry.{next_addr}
@@ -33,7 +33,8 @@ pub returns-clause-added : goal.returns-clause-added
 returns-clause-added c =
     let w = (the_view c.self.inside).now in
     subst (λ d. Grows (object_at d.now c.args.addr) c.args.addr c.args.component
-    (record d.now { shown = []; taken = d.now.taken + c.args.count }) (record w { things = c.grow.new.self.now; shown = []; taken = w.taken + c.args.count })) c.self.view_is
+    (record d.now { shown = []; taken = d.now.taken + c.args.count }) (record w { things = c.grow.new.self.now; shown = c.new.result; taken = w.taken + c.args.count })) c.self.view_is
     (Grows-inserted (object_at w c.args.addr) c.args.addr c.args.component (record w { shown = []; taken = w.taken + c.args.count }) _ c.grow.new.self.now
     (subst (λ d. IsSome (object_at d.now c.args.addr)) (sym c.self.view_is) c.requires.there)
-    c.in_ok-grow.ensures.grown refl)
+    c.in_ok-grow.ensures.grown
+    (ap (λ (shown : List ℕ). record w { things = c.grow.new.self.now; shown = shown; taken = w.taken + c.args.count }) c.new.ensures))
