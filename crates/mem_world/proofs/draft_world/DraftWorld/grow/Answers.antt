@@ -1,12 +1,9 @@
 use Rattle.std.proofs.Common.{◌≤◌, ◌+◌, ℕ, List, [], ap, arith, sym, subst}
-use Rattle.std.specs.FinMap.{insert}
 use Rattle.std.specs.Prelude.{IfSome, IsSome}
 use Rattle.sdr_model.specs.Dry.{next_addr}
-use Rattle.sdr_model.specs.World.{World}
-use Rattle.sdr_model.specs.Zco.{as_object, object_at}
-use Rattle.sdr_model.specs.declared.things.Thing.TheVariants as things
+use Rattle.sdr_model.specs.Zco.{object_at}
 use Rattle.mem_parts.specs.Bounds.{IsBounded}
-use Rattle.mem_parts.specs.Components.{Grows, block_of, with_component}
+use Rattle.mem_parts.specs.Components.{Grows, block_of}
 use Rattle.mem_store.specs.Owners.{AllOwnInside, IsOwned}
 use Rattle.mem_world.specs.contracts.draft_world.DraftWorld.{the_view}
 use Rattle.mem_world.proofs.ComponentLemmas.{AllOwnInside-grown, Grows-inserted}
