@@ -1,6 +1,5 @@
 -- Sums over places: what their things charge, and how often an account's objects name a source.
-use Rattle.std.proofs.Common.{◌≡◌, ◌+◌, ◌==◌, ◌||◌, ◌++◌, ◌∷◌, [], not, ℕ, List, Bool, true, false, cond, Option, Some, None, ap, ◌∙◌, refl, arith}
-use Rattle.std.proofs.lemmas.Bool.Decides.{nat_tests}
+use Rattle.std.proofs.Common.{◌≡◌, ◌+◌, ◌++◌, ◌∷◌, [], ℕ, List, Bool, true, false, cond, Option, Some, None, ap, ◌∙◌, refl, arith}
 use Rattle.std.proofs.lemmas.List.Sums.{sum_by-cons}
 use Rattle.std.specs.List.{sum_by}
 use Rattle.std.specs.Option.{option_map, option_to_list}
@@ -17,7 +16,7 @@ use Rattle.mem_store.specs.Store.{things_in}
 use Rattle.mem_store.specs.declared.place.Place.{Place}
 
 -- the extents of an account's object that name a source
-own-naming : (source : ℕ) (acct : Acct) (t : Thing) → uses_in source acct t ≡ naming source (own_extents acct (Some t))
+pub own-naming : (source : ℕ) (acct : Acct) (t : Thing) → uses_in source acct t ≡ naming source (own_extents acct (Some t))
 own-naming source acct (things.Object z) = by (is_same_account acct z.account)
   where
     by : (b : Bool) → cond b (naming source z.extents) 0 ≡ naming source (cond b z.extents [])
@@ -45,19 +44,3 @@ module _ (e : ℕ × Place) (ps ps' : List (ℕ × Place)) (is : ps' ≡ e ∷ p
           ≡ charge_at w acct space e.0 o + sum_by (λ t. thing_charge w acct space t.0 t.1) (things_in ps)
       by None = omega arith
       by (Some t) = omega (arith, sum_by-cons (λ (t : ℕ × Thing). thing_charge w acct space t.0 t.1) (e.0, t) (things_in ps))
-
--- a mark tells of two counts, one after the other, as of their sum
-pub marked-twice : (o : Option Bool) (a b whole : ℕ) → whole ≡ a + b
-    → option_map (λ m. m || not (b == 0)) (option_map (λ m. m || not (a == 0)) o) ≡ option_map (λ m. m || not (whole == 0)) o
-marked-twice None a b whole is = refl
-marked-twice (Some m) a b whole is = ap Some (by m)
-  where
-    by : (m : Bool) → (m || not (a == 0)) || not (b == 0) ≡ m || not (whole == 0)
-    by true = refl
-    by false = grind (arith, nat_tests)
-
--- a mark that was off tells of one count
-pub marked-first : (o : Option Bool) (whole count : ℕ) → whole ≡ count
-    → option_map (λ m. m || not (whole == 0)) (option_map (λ (m : Bool). false) o) ≡ option_map (λ m. not (count == 0)) o
-marked-first None whole count is = refl
-marked-first (Some m) whole count is = ap (λ n. Some (not (n == 0))) is

@@ -1,8 +1,11 @@
 pub mod BlocksLemmas
 pub mod ChargedLemmas
+pub mod GrowthLemmas
 pub mod NamesLemmas
 pub mod OwnersLemmas
 pub mod PlacesLemmas
+pub mod RawsLemmas
 pub mod SpotLemmas
 pub mod StoreLemmas
 pub mod TakenLemmas
+pub mod TallyLemmas

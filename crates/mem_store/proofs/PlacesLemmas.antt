@@ -30,7 +30,7 @@ put_first k thing (e ∷ es) below =
     grind arith
 
 -- no things have no entries
-entries-empty : entries (empty {K = ℕ} {X = Thing} {R = nat_cmp}) ≡ []
+pub entries-empty : entries (empty {K = ℕ} {X = Thing} {R = nat_cmp}) ≡ []
 entries-empty =
     ap entries (same_things empty (from_sorted []) (λ q. get-empty nat_cmp q ∙ sym (get-from_sorted nat_cmp [] q tt)))
     ∙ entries-from_sorted nat_cmp [] tt

@@ -2,14 +2,14 @@
 use Rattle.sdr_model.proofs.ThingsLemmas.{at_itself, get-with_at, same_address, same_things}
 use Rattle.sdr_model.specs.Things.{with_at}
 use Rattle.sdr_model.specs.declared.things.Thing.{Thing}
-use Rattle.mem_store.specs.Store.{AreTouched, ChangesAt, is_saved, now_at, place_at, saved_at, staying, things_at}
+use Rattle.mem_store.specs.Store.{AreTouched, ChangesAt, is_saved, now_at, place_at, saved_at, settled, staying, things_at}
 use Rattle.mem_store.specs.declared.place.Place.{Place}
 use Rattle.mem_store.specs.declared.place.Stays.{Stays}
 use Rattle.std.proofs.Common.{◌≡◌, ◌↔◌, ℕ, zero, suc, arith, Bool, true, false, List, [], ◌∷◌, ◌++◌, cond, Option, sym, ◌∙◌, refl, subst, ⊎_elim}
 use Rattle.std.proofs.lemmas.List.Elements.{Contains-append_cases, Contains-append_left, Contains-append_right}
 use Rattle.std.specs.BTreeMap.{is_at}
 use Rattle.std.specs.Cmp.{eq_by_cmp_equiv, nat_cmp_total}
-use Rattle.std.specs.FinMap.{get, get-empty}
+use Rattle.std.specs.FinMap.{get, get-empty, get-remove, remove}
 use Rattle.std.specs.List.{Contains}
 use Rattle.std.specs.Option.{option_and_then}
 use Rattle.std.specs.Ordering.{nat_cmp}
@@ -45,6 +45,14 @@ module _ (old new : List (ℕ × Place)) (k : ℕ) (f : Option Place → Option 
   pub things_at-kept : (of : Place → Option Thing) → option_and_then of (f (place_at old k)) ≡ option_and_then of (place_at old k)
       → things_at of new ≡ things_at of old
   things_at-kept of same = same_things _ _ (λ q. thing_at of new q ∙ part-kept (option_and_then of) same q ∙ sym (thing_at of old q))
+
+  -- what is there is what the place there has
+  pub thing_at-here : (of : Place → Option Thing) → get (things_at of new) k ≡ option_and_then of (f (place_at old k))
+  thing_at-here of = thing_at of new k ∙ grind (arith, part (option_and_then of) k, at_itself k)
+
+  -- the other things are the same
+  pub things_at-others : (of : Place → Option Thing) → remove (things_at of new) k ≡ remove (things_at of old) k
+  things_at-others of = same_things _ _ (λ q. grind (arith, part (option_and_then of) q, thing_at of new q, thing_at of old q, get-remove nat_cmp_total (things_at of new) k q, get-remove nat_cmp_total (things_at of old) k q))
 
   module _ (touched : List ℕ) where
     -- the same addresses were touched
@@ -88,3 +96,7 @@ nothing_touched s places among = same_things _ _ (λ q.
     none : {q : ℕ} (b : Bool) → (b ≡ true → Contains [] q) → b ≡ false
     none false has = refl
     none true has = absurd (omega (arith, (has refl).1))
+
+-- what stays at a place is there
+pub same_staying : (s : Stays) (o : Option Place) → option_and_then (staying s) (option_and_then (settled s) o) ≡ option_and_then (staying s) o
+same_staying s o = grind arith

@@ -5,3 +5,4 @@ pub mod Entries
 pub mod Ledger
 pub mod Owners
 pub mod Store
+pub mod Tallies

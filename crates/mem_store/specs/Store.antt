@@ -1,10 +1,15 @@
 -- The things of a world in the making.
 use Rattle.sdr_model.specs.Things.{with_at, Things}
 use Rattle.sdr_model.specs.contracts.things.Thing as thing
+use Rattle.mem_parts.specs.Components.{with_component}
+use Rattle.mem_parts.specs.declared.component.Component.{Component}
+use Rattle.mem_store.specs.Tallies.{AreTallied}
 use Rattle.mem_store.specs.declared.place.Place.{Place}
 use Rattle.mem_store.specs.declared.place.Stays.{Stays}
 use Rattle.mem_store.specs.declared.place.Stays.TheVariants as stays
+use Rattle.mem_store.specs.declared.tallied.Tallied.{Tallied}
 use Rattle.sdr_model.specs.declared.things.Thing.{Thing}
+use Rattle.sdr_model.specs.declared.things.Thing.TheVariants as things
 use Rattle.std.specs.BTreeMap.{is_at}
 use Rattle.std.specs.Coded.{Coded, code_by, coded×, coded_ℕ, coded_list}
 use Rattle.std.specs.FinMap as finite
@@ -57,9 +62,22 @@ with_thing thing place = record place { thing = thing }
 abbrev pub saving : Option Thing → Option Place → Option Place
 saving begun place = Some (record { begun = Some begun; thing = option_and_then now_at place })
 
--- a place when the transaction is over
-abbrev pub settled : Stays → Place → Place
-settled s place = record { begun = None; thing = staying s place }
+-- a place that keeps nothing of the begin, with what stays
+abbrev pub cleared : Stays → Place → Place
+cleared s place = record { begun = None; thing = staying s place }
+
+-- a place when the transaction is over: there is none where nothing stays
+abbrev pub settled : Stays → Place → Option Place
+settled s place = option_map (λ thing. record { begun = None; thing = Some thing }) (staying s place)
+
+-- a thing with one more component, where it is an object
+abbrev pub with_more : Component → Option Thing → Option Thing
+with_more component (Some (things.Object z)) = Some (things.Object (with_component z component))
+with_more component thing = thing
+
+-- a place whose thing has one more component
+abbrev pub growing : Component → Place → Place
+growing component place = record place { thing = with_more component place.thing }
 
 -- the things that stay
 abbrev pub things_of : Stays → Store → Things
@@ -90,3 +108,8 @@ saved_at places addr = is_saved (place_at places addr)
 -- an address was touched just where what was there at the begin is kept
 abbrev pub AreTouched : List (ℕ × Place) → List ℕ → Type 0
 AreTouched places touched = (addr : ℕ) → (saved_at places addr ≡ true) ↔ Contains touched addr
+
+-- a store's addresses that were touched are noted, and its tallies are of the things now
+pub record IsKept (places : List (ℕ × Place)) (addrs : List ℕ) (tallies : Tallied) : Type 0 where
+  pub touched : AreTouched places addrs
+  pub tallied : AreTallied (things_at now_at places) tallies

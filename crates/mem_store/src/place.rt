@@ -1,8 +1,13 @@
 // What is at an address, now and at the begin of a transaction.
-ghost use Rattle.std.specs.Prelude.{◌≡◌, OnErr, OnOk};
+ghost use Rattle.std.specs.Prelude.{◌≡◌, IfSome, OnErr, OnOk, is_none};
+ghost use Rattle.sdr_model.specs.Zco.{as_object};
+ghost use Rattle.mem_parts.specs.Bounds.{IsBounded};
+ghost use Rattle.mem_parts.specs.Components.{KeepsLimits};
+ghost use Rattle.std.specs.FinMap as map;
 ghost use Rattle.std.specs.Option.{option_and_then, option_copied, option_map};
-ghost use Rattle.mem_store.specs.Store.{ChangesAt, now_at, place_at, saved_at, saving, settled, with_thing};
+ghost use Rattle.mem_store.specs.Store.{ChangesAt, growing, now_at, place_at, saved_at, cleared, saving, settled, things_at, with_thing};
 
+use mem_parts::component::{Component, add};
 use sdr_base::{Addr, NoMemory};
 use sdr_model::Thing;
 use std::collections::BTreeMap;
@@ -31,6 +36,14 @@ impl Place {
     {
         self.thing.as_ref()
     }
+}
+
+/// The thing at an address.
+#[tactic(auto, using(crate::proofs::StoreLemmas::thing_at))]
+pub(crate) fn thing_at(places: &BTreeMap<u64, Place>, addr: Addr) -> Option<&Thing>
+    ensures { option_copied result ≡ map.get (things_at now_at places.now.entries) addr }
+{
+    places.get(&addr)?.current()
 }
 
 /// Whether what was at an address at the begin is kept.
@@ -77,16 +90,48 @@ pub(crate) fn swap(
     mem::replace(&mut place.thing, thing)
 }
 
-/// Lets one of both stay at an address.
-pub(crate) fn settle(places: &mut BTreeMap<u64, Place>, addr: Addr, stays: Stays)
-    ensures { ChangesAt places.old.entries places.new.entries addr (option_map (settled stays)) }
+/// Adds a component to the object at an address. Want of memory leaves all as before.
+pub(crate) fn grow(
+    places: &mut BTreeMap<u64, Place>,
+    addr: Addr,
+    component: Component,
+) -> Result<(), NoMemory>
+    requires bounded { IfSome (as_object (option_and_then now_at (place_at places.old.entries addr))) IsBounded }
+    requires limits { KeepsLimits component }
+    ensures grown { OnOk result (ChangesAt places.old.entries places.new.entries addr (option_map (growing component))) }
+    ensures same { OnErr result (ChangesAt places.old.entries places.new.entries addr (λ place. place)) }
 {
-    if let Some(place) = places.get_mut(&addr) {
-        match stays {
-            Stays::Now => place.begun = None,
-            Stays::Begun => if let Some(begun) = place.begun.take() {
-                place.thing = begun;
-            },
-        }
+    let Some(place) = places.get_mut(&addr) else {
+        return Ok(());
+    };
+    match &mut place.thing {
+        Some(Thing::Object(object)) => add(object, component),
+        _ => Ok(()),
+    }
+}
+
+// Lets one of both stay at an address, and tells whether nothing is there then.
+fn clear(places: &mut BTreeMap<u64, Place>, addr: Addr, stays: Stays) -> bool
+    ensures cleared { ChangesAt places.old.entries places.new.entries addr (option_map (cleared stays)) }
+    ensures empty { result ≡ is_none (option_and_then now_at (place_at places.new.entries addr)) }
+{
+    let Some(place) = places.get_mut(&addr) else {
+        return true;
+    };
+    match stays {
+        Stays::Now => place.begun = None,
+        Stays::Begun => if let Some(begun) = place.begun.take() {
+            place.thing = begun;
+        },
+    }
+    place.thing.is_none()
+}
+
+/// Lets one of both stay at an address. Where that is nothing, the place goes.
+pub(crate) fn settle(places: &mut BTreeMap<u64, Place>, addr: Addr, stays: Stays)
+    ensures { ChangesAt places.old.entries places.new.entries addr (option_and_then (settled stays)) }
+{
+    if clear(places, addr, stays) {
+        places.remove(&addr);
     }
 }

@@ -1,14 +1,20 @@
 // The things of a world in the making, which can be put back to what they were at the begin.
-ghost use Rattle.std.specs.Prelude.{◌≡◌, ℕ, IfOk, OnOk, OnErr, IsSome, Some, None, Contains, []};
+ghost use Rattle.std.specs.Prelude.{◌≡◌, ℕ, IfOk, OnOk, OnErr, IsSome, Some, None, Contains, [], IfSome, false};
 ghost use Rattle.std.specs.FinMap as map;
 ghost use Rattle.std.specs.Option.{option_copied};
+ghost use Rattle.mem_parts.specs.Bounds.{IsBounded};
 ghost use Rattle.mem_parts.specs.Capped.{capped_by};
+ghost use Rattle.mem_parts.specs.Components.{KeepsLimits, with_component};
+ghost use Rattle.sdr_model.specs.Zco.{as_object, count_of, source_naming};
+ghost use Rattle.sdr_model.specs.declared.things.Thing.TheVariants as things;
 ghost use Rattle.sdr_model.specs.Things.{with_at};
 ghost use Rattle.mem_store.specs.Charged.{charged, is_used, world_of};
 ghost use Rattle.mem_store.specs.Store.{things_in, things_of};
 
-use crate::charged::{charged, is_used, mark_used};
-use crate::place::{Place, Stays, is_saved, save, settle, swap};
+use crate::charged::{charged, is_used};
+use crate::place::{Place, Stays, is_saved, save, thing_at};
+use crate::tallied::Tallied;
+use mem_parts::component::Component;
 use sdr_base::{Acct, Addr, Amounts, NoMemory};
 use sdr_model::Thing;
 use std::alloc::Global;
@@ -24,9 +30,8 @@ pub struct Store {
     places: BTreeMap<u64, Place>,
     /// The addresses that were touched since the begin.
     touched: Vec<Addr>,
-    /// A mark for each address where a source was put, by which `charged` notes which sources are named. Contracts don't see it. A
-    /// source for whose mark there was no memory is looked for in the extents instead.
-    marks: BTreeMap<u64, bool>,
+    /// What is kept beside the things, so that a charge need not look at them all. Contracts don't see it.
+    tallies: Tallied,
 }
 
 impl Model for Store {
@@ -42,7 +47,7 @@ impl Model for Store {
       touched = s.touched.items;
     } };
 
-    ghost invariant = { λ s. store.AreTouched s.places.entries s.touched.items };
+    ghost invariant = { λ s. store.IsKept s.places.entries s.touched.items s.tallies };
 }
 
 // A copy of what is at an address.
@@ -64,16 +69,15 @@ impl Store {
             alloc,
             places: BTreeMap::new(alloc),
             touched: Vec::new(alloc),
-            marks: BTreeMap::new(alloc),
+            tallies: Tallied::new(alloc),
         }
     }
 
     /// The thing at an address.
-    #[tactic(auto, using(crate::proofs::StoreLemmas::thing_at))]
     pub fn get(&self, addr: Addr) -> Option<&Thing>
         ensures { option_copied result ≡ map.get self.now.now addr }
     {
-        self.places.get(&addr)?.current()
+        thing_at(&self.places, addr)
     }
 
     /// The places of the things, by rising address.
@@ -83,23 +87,39 @@ impl Store {
         self.places.iter()
     }
 
-    /// Whether an extent of an account's objects names the source at an address. It goes over all things and extents, until
-    /// one does.
+    /// Whether an extent of an account's objects names the source at an address.
     pub fn is_used(&self, source: Addr, acct: Acct) -> bool
         ensures { result ≡ is_used (world_of self.now.now) source acct }
     {
-        is_used(&self.places, source, acct)
+        match self.tallies.of(acct) {
+            Some(tally) => tally.uses(source) != 0,
+            None => is_used(&self.places, source, acct),
+        }
     }
 
-    /// What the objects of an account, and the sources that they name, charge it, as far as words hold it. It goes over all
-    /// things, and is linear in those, in the extents of the account's objects and in their headers and trailers, times
-    /// the logarithm of the things where an extent has another source than the one before it. It takes no memory.
+    /// How many extents of an account's objects name the source at an address, where that is kept.
+    pub fn uses(&self, source: Addr, acct: Acct) -> Option<u64>
+        ensures { IfSome result (λ n. n ≡ count_of (world_of self.now.now) source acct) }
+    {
+        Some(self.tallies.of(acct)?.uses(source))
+    }
+
+    /// Whether a source may name a raw object: where it says no, none does.
+    pub fn may_name(&self, raw: Addr) -> bool
+        ensures { result ≡ false → source_naming (world_of self.now.now) raw ≡ None }
+    {
+        self.tallies.may_name(raw)
+    }
+
+    /// What the objects of an account, and the sources that they name, charge it, as far as words hold it.
     pub fn charged(&mut self, acct: Acct) -> Amounts
         ensures value { result ≡ capped_by (charged (world_of self.old.now) acct) }
         ensures same { self.new ≡ self.old }
     {
-        mark_used(&mut self.marks, &self.places, acct);
-        charged(&self.marks, &self.places, acct)
+        match self.tallies.of(acct) {
+            Some(tally) => tally.charged(),
+            None => charged(&self.places, acct),
+        }
     }
 
     /// Takes note that an address is touched, and copies what is there. Where it was touched before, this takes
@@ -130,19 +150,16 @@ impl Store {
         ensures begun { self.new.begun ≡ self.old.begun }
         ensures touched { self.new.touched ≡ self.old.touched }
     {
-        swap(&mut self.places, addr, thing)
+        self.tallies.swap(&mut self.places, addr, thing)
     }
 
-    /// Puts a thing, or nothing, at an address that was touched. A source gets a mark there, if there is memory for it.
+    /// Puts a thing, or nothing, at an address that was touched.
     pub fn put(&mut self, addr: Addr, thing: Option<Thing>)
         requires touched { Contains self.old.touched addr }
         ensures now { self.new.now ≡ with_at self.old.now addr thing }
         ensures begun { self.new.begun ≡ self.old.begun }
         ensures touched { self.new.touched ≡ self.old.touched }
     {
-        if let Some(Thing::Source(_)) = &thing {
-            let _marked = self.marks.insert(addr, false);
-        }
         self.swap(addr, thing);
     }
 
@@ -164,12 +181,45 @@ impl Store {
         }
     }
 
+    /// Adds a component to the object at an address. Want of memory leaves all as before.
+    pub fn grow(&mut self, addr: Addr, component: Component) -> Result<(), NoMemory>
+        requires there { IsSome (as_object (map.get self.old.now addr)) }
+        requires bounded { IfSome (as_object (map.get self.old.now addr)) IsBounded }
+        requires limits { KeepsLimits component }
+        ensures grown { OnOk result (IfSome (as_object (map.get self.old.now addr)) (λ z.
+            self.new.now ≡ map.insert self.old.now addr (things.Object (with_component z component)))) }
+        ensures others { (other : ℕ) → Contains self.old.touched other →
+            Contains self.new.touched other }
+        ensures begun { self.new.begun ≡ self.old.begun }
+        ensures same { OnErr result (self.new.now ≡ self.old.now) }
+    {
+        self.touch(addr)?;
+        self.add(addr, component)
+    }
+
+    // Adds a component to the object at an address that was touched. Want of memory leaves all as before.
+    #[tactic(auto, using(crate::proofs::StoreLemmas::thing_at))]
+    fn add(&mut self, addr: Addr, component: Component) -> Result<(), NoMemory>
+        requires touched { Contains self.old.touched addr }
+        requires there { IsSome (as_object (map.get self.old.now addr)) }
+        requires bounded { IfSome (as_object (map.get self.old.now addr)) IsBounded }
+        requires limits { KeepsLimits component }
+        ensures grown { OnOk result (IfSome (as_object (map.get self.old.now addr)) (λ z.
+            self.new.now ≡ map.insert self.old.now addr (things.Object (with_component z component)))) }
+        ensures touched { self.new.touched ≡ self.old.touched }
+        ensures begun { self.new.begun ≡ self.old.begun }
+        ensures same { OnErr result (self.new.now ≡ self.old.now) }
+    {
+        self.tallies.grow(&mut self.places, addr, component)?;
+        Ok(())
+    }
+
     // Lets the things of one of both times stay.
     fn settle(&mut self, stays: Stays)
         ensures { let things = things_of stays self.old in self.new ≡ record { begun = things; now = things; touched = [] } }
     {
         while let Some(addr) = self.touched.pop() {
-            settle(&mut self.places, addr, stays);
+            self.tallies.settle(&mut self.places, addr, stays);
         }
     }
 

@@ -1,27 +1,29 @@
 -- Objects that get one more component.
-use Rattle.std.proofs.Common.{◌≡◌, ◌≤◌, ◌++◌, ◌∷◌, ◌∙◌, [], ℕ, List, map, Option, Some, Ok, Err, ap, append_assoc, subst, sym}
+use Rattle.std.proofs.Common.{◌≡◌, ◌≤◌, ◌++◌, ◌∷◌, ◌∙◌, [], ℕ, List, map, None, Option, Some, Ok, Err, refl, ap, append_assoc, subst, sym}
 use Rattle.std.proofs.lemmas.List.{map-append}
 use Rattle.std.proofs.lemmas.List.Elements.{All-append, All-cons, All-head, All-nil, All-tail}
 use Rattle.std.specs.List.{All}
-use Rattle.std.specs.Prelude.{Result, IfErr, IfOk, IfSome}
+use Rattle.std.specs.FinMap.{get, insert}
+use Rattle.std.specs.Prelude.{Result, IfErr, IfOk, IfSome, IsSome}
 use Rattle.sdr_base.specs.declared.account.Amounts.{Amounts}
 use Rattle.sdr_base.specs.declared.refusal.Refusal.{Refusal}
 use Rattle.mem_world.specs.Allowed.{MayCharge, RefusesCharge}
 use Rattle.sdr_model.specs.Charging.{with_covered}
 use Rattle.sdr_model.specs.Dry.{with_blocks}
 use Rattle.sdr_model.specs.ObjectSteps.{with_object}
-use Rattle.sdr_model.specs.Things.{Owners, block_for_capsule, block_for_extent, inner_blocks}
+use Rattle.sdr_model.specs.Things.{Owners, Things, block_for_capsule, block_for_extent, inner_blocks}
 use Rattle.sdr_model.specs.World.{World}
-use Rattle.sdr_model.specs.Zco.{object_at}
+use Rattle.sdr_model.specs.Zco.{as_object, object_at}
 use Rattle.sdr_model.specs.declared.accounts.Pending.{Pending}
 use Rattle.sdr_model.specs.declared.things.UsedBlock.{UsedBlock}
+use Rattle.sdr_model.specs.declared.things.Thing.{Thing}
 use Rattle.sdr_model.specs.declared.things.Thing.TheVariants as things
 use Rattle.sdr_model.specs.declared.zco.ZcoObject.{ZcoObject}
 use Rattle.mem_parts.specs.Components.{Grows, block_of, with_component}
 use Rattle.mem_parts.specs.declared.component.Component.{Component}
 use Rattle.mem_parts.specs.declared.component.Component.TheVariants as components
-use Rattle.mem_store.proofs.OwnersLemmas.{OwnsInside-raised}
-use Rattle.mem_store.specs.Owners.{IsOwned, Owns, OwnsInside}
+use Rattle.mem_store.proofs.OwnersLemmas.{OwnInside-insert, OwnInside-raised, OwnsInside-raised}
+use Rattle.mem_store.specs.Owners.{AllOwnInside, IsOwned, OwnInside, Owns, OwnsInside}
 
 -- what holds of all items of two lists holds of those of each
 pub All-front : {X : Type 0} (P : X → Type 0) (xs ys : List X) → All P (xs ++ ys) → All P xs
@@ -106,3 +108,31 @@ module _ (w wt : World) (k number count : ℕ) (z : ZcoObject) (component made :
       (subst (λ m. Grows (object_at wt k) k m (with_blocks (with_covered wt p amounts) count) w') is
       (subst (λ r. IfOk r (λ p. Grows (object_at wt k) k component (with_blocks (with_covered wt p amounts) count) w'))
       ok grows)))
+
+-- the things still own what is inside them where an object got a component that it owns
+pub AllOwnInside-grown : (owners : Owners) (next more k : ℕ) (begun now new : Things) (component : Component) → next ≤ more
+    → IsOwned owners more k (block_of component) → IsSome (as_object (get now k))
+    → IfSome (as_object (get now k)) (λ z. new ≡ insert now k (things.Object (with_component z component)))
+    → AllOwnInside owners next begun now → AllOwnInside owners more begun new
+AllOwnInside-grown owners next more k begun now new component higher here there grown own = by (get now k) refl there grown
+  where
+    by : (o : Option Thing) → get now k ≡ o → IsSome (as_object o)
+        → IfSome (as_object o) (λ z. new ≡ insert now k (things.Object (with_component z component)))
+        → AllOwnInside owners more begun new
+    by (Some (things.Object z)) is there grown = record {
+      begun = OwnInside-raised owners next more higher begun own.begun;
+      now =
+          subst (OwnInside owners more) (sym grown)
+          (OwnInside-insert owners more now k (OwnInside-raised owners next more higher now own.now)
+          (things.Object (with_component z component))
+          (owned-component owners next more k z component higher (own.now.each k (things.Object z) is) here));
+    }
+    by (Some t) is there grown = absurd cc
+    by None is there grown = absurd cc
+
+-- what an object that got a component makes of the world
+pub Grows-inserted : (o : Option ZcoObject) (k : ℕ) (component : Component) (used w : World) (new : Things) → IsSome o
+    → IfSome o (λ z. new ≡ insert used.things k (things.Object (with_component z component)))
+    → w ≡ record used { things = new } → Grows o k component used w
+Grows-inserted None k component used w new there grown is = absurd cc
+Grows-inserted (Some z) k component used w new there grown is = is ∙ ap (λ (all : Things). record used { things = all }) grown

@@ -1,5 +1,5 @@
 -- Passes over the places of a world in the making.
-use Rattle.std.proofs.Common.{◌≡◌, ◌≤◌, ◌+◌, ℕ, List, [], ◌∷◌, ◌++◌, cond, Option, Some, None, ap, ◌∙◌, refl, arith, unwrap_or}
+use Rattle.std.proofs.Common.{◌≡◌, ◌+◌, ℕ, List, [], ◌∷◌, ◌++◌, cond, Option, Some, None, ap, ◌∙◌, refl, arith}
 use Rattle.std.proofs.lemmas.List.Sums.{sum_by-cons}
 use Rattle.std.specs.FinMap.{entries}
 use Rattle.std.specs.List.{sum_by}
@@ -50,17 +50,3 @@ naming-uses source (e ∷ es) =
 
 pub naming-world : (w : World) (source : ℕ) → sum_by (naming_in source) (entries w.things) ≡ uses_of w source
 naming-world w source = naming-uses source (entries w.things)
-
--- what is added to a count in two parts
-pub added-twice : (o : Option ℕ) (a b whole : ℕ) → whole ≡ a + b
-    → option_map (λ n. n + b) (option_map (λ n. n + a) o) ≡ option_map (λ n. n + whole) o
-added-twice None a b whole is = refl
-added-twice (Some n) a b whole is = ap Some (let same : n + a + b ≡ n + whole = omega (arith, is) in same)
-
--- a count is no more than what it was and all that is added to it
-pub added-most : (o was : Option ℕ) (a whole : ℕ) → option_map (λ n. n + a) o ≡ option_map (λ n. n + whole) was
-    → unwrap_or o 0 ≤ unwrap_or was 0 + whole
-added-most None was a whole is = omega arith
-added-most (Some n) None a whole is = let none : Some (n + a) ≡ None = is in absurd cc
-added-most (Some n) (Some m) a whole is =
-    let same : n + a ≡ m + whole = ap (λ o. unwrap_or o 0) is in omega (arith, same)

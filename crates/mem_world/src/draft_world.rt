@@ -15,6 +15,7 @@ ghost use Rattle.mem_store.specs.Owners.{MayHave, MayPut};
 mod blocks;
 mod charges;
 mod charging;
+mod growing;
 mod things;
 mod uses;
 

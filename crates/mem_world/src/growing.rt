@@ -1,56 +1,19 @@
 // Components that are added to objects, charged and with their blocks.
 ghost use Rattle.std.specs.Prelude.{◌≡◌, ◌<◌, ◌+◌, ◌^◌, IfErr, IfOk, IfSome, IsSome, OnErr, OnOk, []};
 ghost use Rattle.sdr_model.specs.Charging.{with_covered};
-ghost use Rattle.sdr_model.specs.Dry.{addr_after, next_addr, with_blocks};
+ghost use Rattle.sdr_model.specs.Dry.{addr_after, with_blocks};
 ghost use Rattle.sdr_model.specs.Zco.{object_at};
 ghost use Rattle.mem_parts.specs.Bounds.{IsBounded};
 ghost use Rattle.mem_parts.specs.Components.{Grows, KeepsLimits, block_of};
 ghost use Rattle.mem_world.specs.Allowed.{MayCharge, RefusesCharge};
 ghost use Rattle.mem_world.specs.Calling.{IsBound};
 ghost use Rattle.mem_world.specs.Keeps.{SameBegin, StayTouched};
-ghost use Rattle.mem_store.specs.Owners.{IsOwned};
 
 use crate::DraftWorld;
 use crate::charging::charge_account;
-use mem_parts::component::{Component, add};
+use mem_parts::component::Component;
 use sdr_base::{Addr, Amounts, NoMemory, Refusal};
-use sdr_model::{Pending, Thing};
-
-// Adds a component to the object at an address, and counts so many blocks that were taken, of which it has one, with no
-// bytes shown. Want of memory leaves the world as before.
-fn put_component(
-    world: &mut DraftWorld,
-    addr: Addr,
-    component: Component,
-    count: u64,
-) -> Result<(), NoMemory>
-    requires taken { world.old.now.taken + count < 2 ^ 60 + 2 ^ 30 }
-    requires there { IsSome (object_at world.old.now addr) }
-    requires bounded { IfSome (object_at world.old.now addr) IsBounded }
-    requires limits { KeepsLimits component }
-    requires owned { IsOwned world.old.owners (next_addr (world.old.now.taken + count)) addr
-        (block_of component) }
-    ensures added { OnOk result (Grows (object_at world.old.now addr) addr component
-        (record world.old.now { shown = []; taken = world.old.now.taken + count }) world.new.now) }
-    ensures touched { StayTouched world.old world.new }
-    ensures keeps { SameBegin world.old world.new }
-    ensures same { OnErr result (world.new.now ≡ world.old.now) }
-{
-    let Thing::Object(mut object) = world.take(addr)? else {
-        unreachable!()
-    };
-    match add(&mut object, component) {
-        Ok(()) => {
-            world.count_blocks(count);
-            world.put(addr, Thing::Object(object));
-            Ok(())
-        }
-        Err(error) => {
-            world.put(addr, Thing::Object(object));
-            Err(error)
-        }
-    }
-}
+use sdr_model::Pending;
 
 // Takes the next blocks for the object at an address, so many and one more, and adds a component in the
 // last of them. Want of memory leaves the world as before.
@@ -73,7 +36,7 @@ fn take_component(
 {
     let marks = world.marks();
     world.reserve_blocks(addr, before + 1)?;
-    match put_component(world, addr, component, before + 1) {
+    match world.grow(addr, component, before + 1) {
         Ok(()) => Ok(()),
         Err(error) => {
             world.unmark(marks);

@@ -4,7 +4,8 @@
 //! 1. Contracts see the world at the begin and the world now, and which addresses were touched since.
 //! 2. Where a change is refused, the world is as before. Where one finds no memory, the world now is as before: what was charged is
 //!    given back.
-//! 3. Sums over all things and what names a source or a raw object are found where they are asked for, in one pass.
+//! 3. What an account is charged and how many extents name a source are asked of the store, which keeps both. A source that names a raw
+//!    object is looked for in the things where one ever did.
 //!
 //! Proved: by the invariant of `DraftWorld` things own the blocks inside them (`AllOwnInside`). Blocks, charges,
 //! rooms, uses and the source of a raw object are found as defined (`block`, `occupied`, `room`, `uses`,

@@ -130,8 +130,7 @@ fn append_raw(world: &mut DraftWorld, asked: &Append) -> Result<Reply, NoMemory>
     }
 }
 
-/// Appends a part of a source, or of a raw object, to an object. It is linear in what is in the object, and goes over
-/// all things and extents.
+/// Appends a part of a source, or of a raw object, to an object. It is linear in what is in the object.
 pub fn append_extent(world: &mut DraftWorld, asked: &Append) -> Result<Reply, NoMemory>
     requires may { MayCall world.old.now }
     ensures { CallsMemory (Call.AppendExtent asked.now.object asked.now.ticket asked.now.named

@@ -99,8 +99,8 @@ fn bond_charge(capsules: &[Capsule]) -> Amounts
 }
 
 /// Makes an extent of each header and trailer of an object: its text becomes a raw object with a source of
-/// its own. The part is then the whole. It is linear in the object, takes the logarithm of the world for
-/// each header and trailer, and goes over all things for the charge.
+/// its own. The part is then the whole. It is linear in the object, and takes the logarithm of the world for
+/// each header and trailer.
 pub fn bond(
     alloc: Global,
     world: &mut DraftWorld,

@@ -58,8 +58,8 @@ fn cloned(
 }
 
 /// Makes an object of a part of another's part, in the same account. It has extents of the same sources, and
-/// no header or trailer. No byte is copied. It is linear in the object, takes the logarithm of the world for
-/// each extent, and goes over all things for the charge.
+/// no header or trailer. No byte is copied. It is linear in the object, and takes the logarithm of the world for
+/// each extent.
 pub fn clone_part(
     alloc: Global,
     world: &mut DraftWorld,

@@ -11,8 +11,7 @@ use sdr_base::{Addr, NoMemory};
 use sdr_model::{Call, Reply};
 use std::alloc::Global;
 
-/// Destroys an object, with each source that goes with its last extent. It goes over all things and extents, times the
-/// logarithm of the object's sources.
+/// Destroys an object, with each source that goes with its last extent. It takes the logarithm of the world for each extent.
 pub fn destroy(alloc: Global, world: &mut DraftWorld, addr: Addr) -> Result<Reply, NoMemory>
     requires may { MayCall world.old.now }
     ensures { CallsMemory (Call.Destroy addr) world.old world.new result }

@@ -60,20 +60,22 @@ fn add_if_last(
     Ok(())
 }
 
-// Counts a source, which none is counted to name.
-fn add_source(uses: &mut BTreeMap<Addr, u64>, source: Addr) -> Result<(), NoMemory>
-    ensures here { OnOk result (get nat_cmp uses.new source ≡ Some 0) }
-    ensures others { OnOk result ((at : ℕ) → get nat_cmp uses.old at ≡ Some 0 → get nat_cmp uses.new
-        at ≡ Some 0) }
-    ensures none { OnOk result ((at : ℕ) → unwrap_or (get nat_cmp uses.old at) 0 ≡ 0 → unwrap_or
-        (get nat_cmp uses.new at) 0 ≡ 0) }
+// Counts how many extents name a source.
+fn add_source(
+    world: &DraftWorld,
+    uses: &mut BTreeMap<Addr, u64>,
+    source: Addr,
+) -> Result<(), NoMemory>
+    requires bound { IsBound world.now.now }
+    ensures here { OnOk result (get nat_cmp uses.new source ≡ Some (uses_of world.now.now source)) }
+    ensures others { OnOk result ((at : ℕ) → get nat_cmp uses.old at ≡ Some (uses_of world.now.now at)
+        → get nat_cmp uses.new at ≡ Some (uses_of world.now.now at)) }
 {
-    uses.insert(source, 0)?;
+    uses.insert(source, world.uses(source))?;
     Ok(())
 }
 
-// How many extents name each source of these extents. It goes over all things and extents, times the logarithm
-// of these.
+// How many extents name each source of these extents. It takes the logarithm of the named sources for each.
 fn count_uses(
     alloc: Global,
     world: &DraftWorld,
@@ -85,9 +87,8 @@ fn count_uses(
 {
     let mut uses = BTreeMap::new(alloc);
     for extent in extents {
-        add_source(&mut uses, extent.source)?;
+        add_source(world, &mut uses, extent.source)?;
     }
-    world.add_uses(&mut uses);
     Ok(uses)
 }
 
@@ -99,8 +100,7 @@ fn count_at(counts: &BTreeMap<Addr, u64>, addr: Addr) -> u64
 }
 
 /// The addresses of the things that go where these extents of an object go: each source that loses its last
-/// extent and goes with it, behind the raw object that it has taken over. Where there are extents it goes over all
-/// things and all extents, times a logarithm.
+/// extent and goes with it, behind the raw object that it has taken over. It takes a logarithm for each extent.
 pub fn gone_things(
     alloc: Global,
     world: &DraftWorld,

@@ -51,8 +51,8 @@ pub fn discard_first_header(world: &mut DraftWorld, addr: Addr) -> Result<Reply,
     Ok(Reply::Done)
 }
 
-/// Takes the last trailer of an object off, and serves the queue of its account. That goes over all things; all else
-/// takes about the logarithm of the world.
+/// Takes the last trailer of an object off, and serves the queue of its account. It is linear in the object and in the
+/// queue.
 pub fn discard_last_trailer(world: &mut DraftWorld, addr: Addr) -> Result<Reply, NoMemory>
     requires may { MayCall world.old.now }
     ensures { CallsMemory (Call.DiscardLastTrailer addr) world.old world.new result }

@@ -63,7 +63,7 @@ pub fn bulk_ref(world: &mut DraftWorld, item: u64, length: u64) -> Result<Reply,
     made(world, Subject::Bulk(item), length)
 }
 
-/// Makes a source of a raw object. It goes over all things.
+/// Makes a source of a raw object.
 pub fn obj_ref(world: &mut DraftWorld, addr: Addr) -> Result<Reply, NoMemory>
     requires may { MayCall world.old.now }
     ensures { CallsMemory (Call.ObjRef addr) world.old world.new result }
@@ -95,7 +95,7 @@ fn flag(world: &mut DraftWorld, addr: Addr) -> Result<(), NoMemory>
     Ok(())
 }
 
-/// Lets a source go that no extent names, and flags it where one does. It goes over all things and extents.
+/// Lets a source go that no extent names, and flags it where one does.
 pub fn destroy_ref(world: &mut DraftWorld, addr: Addr) -> Result<Reply, NoMemory>
     requires may { MayCall world.old.now }
     ensures { CallsMemory (Call.DestroyRef addr) world.old world.new result }
@@ -118,7 +118,7 @@ pub fn destroy_ref(world: &mut DraftWorld, addr: Addr) -> Result<Reply, NoMemory
     Ok(Reply::Done)
 }
 
-/// The extents that name a source. It goes over all things and extents.
+/// The extents that name a source.
 pub fn count(world: &mut DraftWorld, addr: Addr) -> Result<Reply, NoMemory>
     requires may { MayCall world.old.now }
     ensures { CallsMemory (Call.Count addr) world.old world.new result }

@@ -13,8 +13,7 @@ use sdr_base::{Acct, Addr, Amounts};
 use sdr_model::ZcoSource;
 
 impl DraftWorld {
-    /// Whether an extent of an account's objects names the source at an address. It goes over all things and extents, until
-    /// one does.
+    /// Whether an extent of an account's objects names the source at an address.
     pub fn is_used(&self, source: Addr, acct: Acct) -> bool
         ensures { result ≡ is_used self.now.now source acct }
     {
@@ -33,8 +32,7 @@ impl DraftWorld {
         bytes_charge(source.subject.space(), source.length)
     }
 
-    /// What is occupied in an account, as far as words hold it. It is linear in the account's queue, and goes over all things
-    /// as the store's `charged` does.
+    /// What is occupied in an account, as far as words hold it. It is linear in the account's queue.
     pub fn occupied(&mut self, acct: Acct) -> Amounts
         ensures value { result ≡ capped_by (occupancy self.old.now acct) }
         ensures same { self.new ≡ self.old }
@@ -44,7 +42,7 @@ impl DraftWorld {
         capped_plus(&charged, &left(account.tickets.as_slice()))
     }
 
-    /// The room of an account: what of its maxima isn't occupied. It goes over all things as `occupied` does.
+    /// The room of an account: what of its maxima isn't occupied. It is linear in the account's queue.
     pub fn room(&mut self, acct: Acct) -> Amounts
         ensures value { result ≡ rooms self.old.now acct }
         ensures same { self.new ≡ self.old }

@@ -29,7 +29,7 @@ impl DraftWorld {
         self.accounts.save()
     }
 
-    /// Serves the queue of an account. It is linear in the queue, and goes over all things as `occupied` does.
+    /// Serves the queue of an account. It is linear in the queue.
     pub fn serve(&mut self, acct: Acct)
         requires saved { self.old.saved ≡ true }
         ensures { self.new ≡ record self.old { now = with_served self.old.now acct } }

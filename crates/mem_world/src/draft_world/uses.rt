@@ -1,17 +1,14 @@
-// What names sources and raw objects, found in one pass over all things.
-ghost use Rattle.std.specs.BTreeMap.{get};
-ghost use Rattle.std.specs.Option.{option_copied, option_map};
-ghost use Rattle.std.specs.Ordering.{nat_cmp};
-ghost use Rattle.std.specs.Prelude.{◌≡◌, ◌==◌, ◌≤◌, ◌<◌, ◌+◌, ◌^◌, ℕ, if◌then◌else◌, length, unwrap_or};
+// What names sources and raw objects.
+ghost use Rattle.std.specs.Option.{option_copied};
+ghost use Rattle.std.specs.Prelude.{◌≡◌};
 ghost use Rattle.mem_world.specs.Calling.{IsBound};
 ghost use Rattle.mem_world.specs.Uses.{extents_in, names_at};
-ghost use Rattle.sdr_model.specs.Zco.{naming, source_naming, uses_of};
+ghost use Rattle.sdr_model.specs.Zco.{source_naming, uses_of};
 
 use crate::DraftWorld;
-use mem_parts::naming::{add_naming, naming};
-use sdr_base::Addr;
+use mem_parts::naming::naming;
+use sdr_base::{Acct, Addr};
 use sdr_model::{Extent, Thing};
-use std::collections::BTreeMap;
 
 // The extents of an object, none of anything else.
 fn extents_of(thing: Option<&Thing>) -> &[Extent]
@@ -34,10 +31,13 @@ fn names_raw(raw: Addr, thing: Option<&Thing>) -> bool
 }
 
 impl DraftWorld {
-    /// The source that names the raw object at an address. It goes over all things.
+    /// The source that names the raw object at an address. Where a source named it before, it goes over all things.
     pub fn source_on(&self, raw: Addr) -> Option<Addr>
         ensures { result ≡ source_naming self.now.now raw }
     {
+        if !self.things.may_name(raw) {
+            return None;
+        }
         for (addr, place) in self.things.places() {
             if names_raw(raw, place.current()) {
                 return Some(*addr);
@@ -46,8 +46,21 @@ impl DraftWorld {
         None
     }
 
-    /// How many extents name the source at an address. It goes over all things and extents.
+    /// How many extents name the source at an address.
     pub fn uses(&self, source: Addr) -> u64
+        requires bound { IsBound self.now.now }
+        ensures { result ≡ uses_of self.now.now source }
+    {
+        let inbound = self.things.uses(source, Acct::Inbound);
+        let outbound = self.things.uses(source, Acct::Outbound);
+        match (inbound, outbound) {
+            (Some(inbound), Some(outbound)) => inbound + outbound,
+            _ => self.found_uses(source),
+        }
+    }
+
+    // How many extents name the source at an address. It goes over all things and extents.
+    fn found_uses(&self, source: Addr) -> u64
         requires bound { IsBound self.now.now }
         ensures { result ≡ uses_of self.now.now source }
     {
@@ -56,18 +69,5 @@ impl DraftWorld {
             uses += naming(source, extents_of(place.current()));
         }
         uses
-    }
-
-    /// Adds to each source that is counted how many extents name it. It goes over all things and extents, times
-    /// the logarithm of what is counted.
-    pub fn add_uses(&self, counts: &mut BTreeMap<Addr, u64>)
-        requires bound { IsBound self.now.now }
-        requires few { (source : ℕ) → unwrap_or (get nat_cmp counts.old source) 0 ≤ 2 ^ 41 }
-        ensures { (source : ℕ) → get nat_cmp counts.new source
-            ≡ option_map (λ n. n + uses_of self.now.now source) (get nat_cmp counts.old source) }
-    {
-        for (_, place) in self.things.places() {
-            add_naming(counts, extents_of(place.current()));
-        }
     }
 }

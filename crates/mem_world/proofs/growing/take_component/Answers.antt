@@ -6,8 +6,8 @@ use Rattle.sdr_model.specs.World.{World}
 use Rattle.mem_store.proofs.TakenLemmas.{addr_after-next}
 use Rattle.mem_world.proofs.growing.take_component.Goals as goal
 
-pub put_component-requires-clause-owned : goal.put_component-requires-clause-owned
-put_component-requires-clause-owned c =
+pub grow-requires-clause-owned : goal.grow-requires-clause-owned
+grow-requires-clause-owned c =
     let w = c.args.world.now.now in
     let taken : c.reserve_blocks.new.self.now.taken ≡ w.taken = ap (λ (w : World). w.taken) c.in_ok-reserve_blocks.ensures.marked in
     record {
@@ -18,12 +18,12 @@ put_component-requires-clause-owned c =
 
 pub returns-in-Err-clause-touched : goal.returns-in-Err-clause-touched
 returns-in-Err-clause-touched c addr has =
-    c.unmark.ensures.others addr (c.put_component.ensures.touched addr (c.reserve_blocks.ensures.touched addr has))
+    c.unmark.ensures.others addr (c.grow.ensures.touched addr (c.reserve_blocks.ensures.touched addr has))
 
 pub returns-in-Err-clause-same : goal.returns-in-Err-clause-same
 returns-in-Err-clause-same c =
     let w = c.args.world.now.now in
-    let kept : c.put_component.new.world.now ≡ record w { marks = w.marks ++ next_addrs w.taken (c.args.before + 1) } =
+    let kept : c.grow.new.self.now ≡ record w { marks = w.marks ++ next_addrs w.taken (c.args.before + 1) } =
     c.in-Err.ensures.same ∙ c.in_ok-reserve_blocks.ensures.marked in
     c.unmark.ensures.unmarked
     ∙ ap (λ (v : World). record v { marks = take c.marks-marks.result v.marks }) kept

@@ -1,29 +1,26 @@
 use Rattle.std.proofs.Common.{◌≡◌, [], ◌-◌, Option, false, append-nil, ap, arith, sym, subst, ◌∙◌}
 use Rattle.std.specs.List.{Contains}
-use Rattle.std.specs.Option.{option_and_then, option_map}
+use Rattle.std.specs.Option.{option_and_then}
 use Rattle.std.specs.Prelude.{take}
 use Rattle.mem_store.specs.Store.{is_saved, place_at, settled, staying}
 use Rattle.mem_store.specs.declared.place.Place.{Place}
 use Rattle.mem_store.specs.declared.place.Stays.{Stays}
 use Rattle.mem_store.specs.declared.place.Stays.TheVariants as stays
-use Rattle.mem_store.proofs.StoreLemmas.{nothing_touched, things_at-kept, touched-pop}
+use Rattle.mem_store.proofs.StoreLemmas.{nothing_touched, same_staying, things_at-kept, touched-pop}
 use Rattle.mem_store.proofs.store.Store.settle.Goals as goal
 
--- what stays at a place is there
-same_staying : (s : Stays) (o : Option Place) → option_and_then (staying s) (option_map (settled s) o) ≡ option_and_then (staying s) o
-same_staying s o = grind arith
-
-none_saved : (s : Stays) (o : Option Place) → is_saved (option_map (settled s) o) ≡ false
+none_saved : (s : Stays) (o : Option Place) → is_saved (option_and_then (settled s) o) ≡ false
 none_saved s o = grind arith
 
 pub loop-addr-preserved : goal.loop-addr-preserved
 loop-addr-preserved c =
     let there = place_at c.loop-addr.self-inside.places.entries c.in-Some.addr in
     record {
-      things = things_at-kept _ _ c.in-Some.addr (option_map (settled c.args.stays)) c.settle.ensures (staying c.args.stays) (same_staying c.args.stays there)
+      things = things_at-kept _ _ c.in-Some.addr (option_and_then (settled c.args.stays)) c.settle.ensures.settled (staying c.args.stays) (same_staying c.args.stays there)
           ∙ c.loop-addr.invariant.things;
-      among = touched-pop _ _ c.in-Some.addr (option_map (settled c.args.stays)) c.settle.ensures c.pop.new.self.items (none_saved c.args.stays there)
+      among = touched-pop _ _ c.in-Some.addr (option_and_then (settled c.args.stays)) c.settle.ensures.settled c.pop.new.self.items (none_saved c.args.stays there)
           (λ q was. subst (λ xs. Contains xs q) c.in-Some.ensures.items (c.loop-addr.invariant.among q was));
+      tallied = c.settle.ensures.tallied c.loop-addr.invariant.tallied;
     }
 
 pub returns : goal.returns

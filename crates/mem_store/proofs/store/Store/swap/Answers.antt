@@ -19,18 +19,21 @@ module _ (thing : Option Thing) (o : Option Place) where
   same_begun saved = grind arith
 
 pub invariant_of-self : goal.invariant_of-self
-invariant_of-self c =
-    touched-kept _ _ c.args.addr (option_map (with_thing c.args.thing)) c.swap.ensures.now c.self.inside.touched.items
-    (same_saved c.args.thing (place_at c.self.inside.places.entries c.args.addr)) c.self.invariant
+invariant_of-self c = record {
+  touched =
+      touched-kept _ _ c.args.addr (option_map (with_thing c.args.thing)) c.swap.ensures.now c.self.inside.touched.items
+      (same_saved c.args.thing (place_at c.self.inside.places.entries c.args.addr)) c.self.invariant.touched;
+  tallied = c.swap.ensures.tallied c.self.invariant.tallied;
+}
 
 pub returns-clause-now : goal.returns-clause-now
 returns-clause-now c =
     things_at-put _ _ c.args.addr (option_map (with_thing c.args.thing)) c.swap.ensures.now now_at c.args.thing
-    (thing_there c.args.thing (place_at c.self.inside.places.entries c.args.addr) ((c.self.invariant c.args.addr).1 (subst (λ s. Contains s.touched c.args.addr) (sym c.self.view_is) c.requires.touched)))
+    (thing_there c.args.thing (place_at c.self.inside.places.entries c.args.addr) ((c.self.invariant.touched c.args.addr).1 (subst (λ s. Contains s.touched c.args.addr) (sym c.self.view_is) c.requires.touched)))
     ∙ ap (λ s. with_at s.now c.args.addr c.args.thing) c.self.view_is
 
 pub returns-clause-begun : goal.returns-clause-begun
 returns-clause-begun c =
     things_at-kept _ _ c.args.addr (option_map (with_thing c.args.thing)) c.swap.ensures.now begun_at
-    (same_begun c.args.thing (place_at c.self.inside.places.entries c.args.addr) ((c.self.invariant c.args.addr).1 (subst (λ s. Contains s.touched c.args.addr) (sym c.self.view_is) c.requires.touched)))
+    (same_begun c.args.thing (place_at c.self.inside.places.entries c.args.addr) ((c.self.invariant.touched c.args.addr).1 (subst (λ s. Contains s.touched c.args.addr) (sym c.self.view_is) c.requires.touched)))
     ∙ ap (λ s. s.begun) c.self.view_is

@@ -1,14 +1,20 @@
 use Rattle.std.proofs.Common.{◌∷◌, [], ◌++◌, ap, sym, ◌∙◌, refl, subst}
 use Rattle.mem_store.specs.Store.{AreTouched, begun_at, now_at, place_at, saving}
+use Rattle.mem_store.specs.Tallies.{AreTallied}
 use Rattle.mem_store.specs.declared.place.Stays.TheVariants as stays
 use Rattle.mem_store.proofs.StoreLemmas.{thing_at, things_at-kept, touched-push, unsaved}
 use Rattle.mem_store.proofs.store.Store.touch.Goals as goal
 
 pub invariant_of-self-3 : goal.invariant_of-self-3
-invariant_of-self-3 c =
-    subst (AreTouched c.save.new.places.entries)
-    (ap (λ xs. xs ++ c.args.addr ∷ []) (sym c.in_ok-reserve.ensures.items) ∙ sym c.push_reserved.ensures.items)
-    (touched-push _ _ c.args.addr (saving c.in_ok-begun.begun) c.in_ok-save.ensures.saved c.self.inside.touched.items refl c.self.invariant)
+invariant_of-self-3 c = record {
+  touched =
+      subst (AreTouched c.save.new.places.entries)
+      (ap (λ xs. xs ++ c.args.addr ∷ []) (sym c.in_ok-reserve.ensures.items) ∙ sym c.push_reserved.ensures.items)
+      (touched-push _ _ c.args.addr (saving c.in_ok-begun.begun) c.in_ok-save.ensures.saved c.self.inside.touched.items refl c.self.invariant.touched);
+  tallied =
+      subst (λ all. AreTallied all c.self.inside.tallies)
+      (sym (things_at-kept _ _ c.args.addr (saving c.in_ok-begun.begun) c.in_ok-save.ensures.saved now_at refl)) c.self.invariant.tallied;
+}
 
 pub returns-clause-begun : goal.returns-clause-begun
 returns-clause-begun c =

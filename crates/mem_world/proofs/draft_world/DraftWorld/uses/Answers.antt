@@ -1,43 +1,22 @@
-use Rattle.std.proofs.Common.{arith, ap, ◌∙◌}
-use Rattle.std.specs.Prelude.{sum_by}
-use Rattle.sdr_model.specs.Zco.{naming, uses_of}
-use Rattle.mem_store.specs.Store.{things_in}
-use Rattle.mem_world.specs.contracts.draft_world.DraftWorld.{the_view}
-use Rattle.mem_world.specs.Uses.{extents_in, naming_in}
-use Rattle.mem_world.proofs.PassLemmas.{naming-pass, naming-world}
+use Rattle.std.proofs.Common.{◌≡◌, ap, arith, subst}
+use Rattle.std.specs.Prelude.{IfSome}
+use Rattle.sdr_base.specs.declared.account.Acct.TheVariants as accts
+use Rattle.sdr_model.specs.Zco.{count_of}
+use Rattle.mem_store.specs.Charged.{world_of}
 use Rattle.mem_world.proofs.SumBounds.{uses-small}
 use Rattle.mem_world.proofs.draft_world.DraftWorld.uses.Goals as goal
 
-pub loop-place-init : goal.loop-place-init
-loop-place-init c =
+pub overflow_add-result : goal.overflow_add-result
+overflow_add-result c =
     let source = c.args.source in
-    let inside = c.self.inside in
-    let all = ap (λ l. sum_by (naming_in source) (things_in l)) c.into_iter-place-iterator.ensures.into_iter_gives
-    ∙ ap (sum_by (naming_in source)) c.places-place-items.ensures
-    ∙ naming-world (the_view inside).now source ∙ ap (λ d. uses_of d.now source) c.self.view_is in
-    record { sum = omega (arith, all) }
-
-pub overflow_add-uses : goal.overflow_add-uses
-overflow_add-uses c =
-    let source = c.args.source in
-    omega (
-      arith,
-      uses-small c.args.self.now.now c.requires.bound source,
-      c.naming-uses.ensures.value ∙ ap (naming source) (c.extents_of.ensures ∙ ap extents_in c.current.ensures),
-      naming-pass (c.in-Some.field-0-0.now, c.in-Some.place.now) c.next.new.self c.loop-place.place-iterator
-          c.in-Some.ensures.steps source,
-      c.loop-place.invariant.sum,
-    )
-
-pub loop-place-preserved : goal.loop-place-preserved
-loop-place-preserved c =
-    let source = c.args.source in
-    record {
-      sum = omega (
-        arith,
-        c.naming-uses.ensures.value ∙ ap (naming source) (c.extents_of.ensures ∙ ap extents_in c.current.ensures),
-        naming-pass (c.in-Some.field-0-0.now, c.in-Some.place.now) c.next.new.self c.loop-place.place-iterator
-            c.in-Some.ensures.steps source,
-        c.loop-place.invariant.sum,
-      );
-    }
+    let w = c.args.self.now.now in
+    let kept = world_of c.self.inside.things.now in
+    let inbound : c.in-Some-Some.inbound ≡ count_of kept source accts.Inbound =
+    subst (λ o. IfSome o (λ n. n ≡ count_of kept source accts.Inbound)) c.in-Some-Some.is-0 c.uses-inbound.ensures in
+    let outbound : c.in-Some-Some.outbound ≡ count_of kept source accts.Outbound =
+    subst (λ o. IfSome o (λ n. n ≡ count_of kept source accts.Outbound)) c.in-Some-Some.is-1 c.uses-outbound.ensures in
+    let in_world : count_of kept source accts.Inbound ≡ count_of w source accts.Inbound =
+    ap (λ d. count_of d.now source accts.Inbound) c.self.view_is in
+    let out_world : count_of kept source accts.Outbound ≡ count_of w source accts.Outbound =
+    ap (λ d. count_of d.now source accts.Outbound) c.self.view_is in
+    omega (arith, inbound, outbound, in_world, out_world, uses-small w c.requires.bound source)

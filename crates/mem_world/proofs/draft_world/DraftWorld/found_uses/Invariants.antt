@@ -3,7 +3,7 @@ use Rattle.std.specs.Prelude.{sum_by}
 use Rattle.sdr_model.specs.Zco.{uses_of}
 use Rattle.mem_store.specs.Store.{things_in}
 use Rattle.mem_world.specs.Uses.{naming_in}
-use Rattle.mem_world.proofs.draft_world.DraftWorld.uses.Given as goal
+use Rattle.mem_world.proofs.draft_world.DraftWorld.found_uses.Given as goal
 
 abbrev pub invariant-loop-place : goal.invariant-loop-place
 invariant-loop-place l = record {
