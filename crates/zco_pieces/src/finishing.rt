@@ -1,4 +1,11 @@
 // Clones become one object.
+ghost use Rattle.std.specs.Prelude.{◌≡◌, ◌*◌, ◌+◌, ◌≤◌, [], List, length, map, IfErr, IfOk, OnOk};
+ghost use Rattle.sdr_base.specs.Moves.{KeepsSome};
+ghost use Rattle.sdr_base.specs.Works.{Spends};
+ghost use Rattle.zco_pieces.specs.Finishing.{AppendsAll, AppendsClone, DestroysEach, DestroysSomeOf};
+ghost use Rattle.zco_pieces.specs.Finishing.{Finishes, FinishStops, IsIncomplete, KeepsToFinish};
+ghost use Rattle.zco_pieces.specs.Finishing.{SomeToFinish, Together, pieces_in};
+ghost use Rattle.zco_pieces.specs.Places.{AreInOrder, Rebuilt, filled_length, first_missing, missing_of};
 
 use crate::cutting::bad_range;
 use crate::filled::Filled;
