@@ -1,7 +1,7 @@
 -- A piece that is added: the gaps that it meets are filled with clones of its bytes.
-use Rattle.std.specs.Prelude.{◌≡◌, ◌≢◌, ◌+◌, ◌-◌, ◌<◌, ◌≤◌, ◌⊎◌, ◌^◌, ◌==◌, ◌*◌, ℕ, Bool, not, List, [], ◌∷◌, ◌++◌, filter, length, sum_by, All, MatchBool, Result, Ok, Err, if◌then◌else◌}
+use Rattle.std.specs.Prelude.{◌≡◌, ◌≢◌, ◌+◌, ◌-◌, ◌<◌, ◌≤◌, ◌⊎◌, ◌^◌, ◌==◌, ℕ, Bool, not, List, [], ◌∷◌, ◌++◌, filter, length, sum_by, All, MatchBool, Result, Ok, Err, if◌then◌else◌}
 use Rattle.sdr_base.specs.Blocks.{IsKind}
-use Rattle.sdr_base.specs.Objects.{Heap, Misses}
+use Rattle.sdr_base.specs.Objects.{Heap, Misses, OnlyFault}
 use Rattle.sdr_base.specs.Works.{Looks, Spends}
 use Rattle.sdr_base.specs.ZcoObjects.{ObjectRow}
 use Rattle.sdr_base.specs.declared.has_heap.HasHeap.{Ghosts}
@@ -42,21 +42,30 @@ module _ (object number offset : ℕ) where
   FillsParts ps qs old new = ⊥
 
   -- why a part isn't filled: it is a gap, and the object's bytes aren't cloned; or a fault
-  pub record StopsPart (p : Filled) (old new : Heap) (stop : Stop) : Type 0 where
-    pub stops : CloneStops object number (p.offset - offset) p.length old new stop
+  abbrev pub StopsPart : Filled → Heap → Heap → Stop → Type 0
+  StopsPart p old new (Refused refusal) =
+      (p.object ≡ 0) × CloneStops object number (p.offset - offset) p.length old new (Refused refusal)
+  StopsPart p old new stop = OnlyFault stop
 
-  -- some first ones of these are filled, and the next one isn't; of the others those stay that have a clone
+  -- why the first of these isn't filled, or none is
+  abbrev pub StopsFirst : List Filled → Heap → Heap → Stop → Type 0
+  StopsFirst [] old new stop = OnlyFault stop
+  StopsFirst (p ∷ ps) old new stop = StopsPart p old new stop
+
+  -- some first ones of these are filled, and those behind them aren't
   pub record FillsSome (ps qs : List Filled) (old new : Heap) (stop : Stop) : Type 0 where
     pub done : List Filled
-    pub one : Filled
     pub left : List Filled
-    pub whole : ps ≡ done ++ one ∷ left
+    pub whole : ps ≡ done ++ left
     pub filled : List Filled
     pub mid : Heap
     pub fills : FillsParts done filled old mid
-    pub is_gap : one.object ≡ 0
-    pub stops : CloneStops object number (one.offset - offset) one.length mid new stop
-    pub kept : qs ≡ filled ++ one ∷ left
+    pub stops : StopsFirst left mid new stop
+    pub kept : qs ≡ filled ++ left
+
+-- the gaps among these parts begin at an offset or behind it
+abbrev pub BeginAt : ℕ → List Filled → Type 0
+BeginAt offset = All (λ p. p.object ≡ 0 → offset ≤ p.offset)
 
 -- so many moves are made where the gaps among these parts are filled from an object, whose bytes are those of the text from an
 -- offset on: one for each clone, and one for each of its extents
@@ -98,7 +107,7 @@ IsToAdd heap r piece = IsKind (heap.blocks piece.object) kinds.Object → SomeTo
 pub record IsPieceOf (total : ℕ) (piece : Piece) (length : ℕ) : Type 0 where
   pub some : 1 ≤ length
   pub within : piece.offset + length ≤ total
-  pub total : piece.total ≡ total
+  pub same : piece.total ≡ total
 
 -- a piece was added: just its bytes that weren't filled are cloned, each gap from its place on
 pub record AddsPiece (number : ℕ) (piece : Piece) (r r' : Rebuilt) (old new : Heap) : Type 0 where

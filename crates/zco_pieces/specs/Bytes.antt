@@ -1,7 +1,7 @@
 -- The bytes of objects, where each source holds these: `held` tells the byte of a source at a place.
 use Rattle.std.specs.Prelude.{◌≡◌, ◌+◌, ◌≤◌, ℕ, List, drop, flat_map, length, map, take}
 use Rattle.std.specs.List.{range_with_len}
-use Rattle.sdr_base.specs.ZcoObjects.{ExtentRow, ObjectRow}
+use Rattle.sdr_base.specs.ZcoObjects.{ObjectRow}
 use Rattle.zco_obj.specs.Links.{piece_of}
 use Rattle.zco_obj.specs.declared.extent.ExtentPiece.{ExtentPiece}
 use Rattle.zco_pieces.specs.declared.piece.Piece.{Piece}

@@ -2,6 +2,4 @@ pub mod Places
 pub mod Bytes
 pub mod Cutting
 pub mod Adding
-pub mod Stocks
-pub mod Finishing
 pub mod Runs

@@ -7,14 +7,14 @@
 //! 3. Where nothing is missing, the extents of the clones make one object, in order, and the clones go.
 #![tactic(auto)]
 
-mod adding;
 mod cutting;
 mod filled;
-mod finishing;
+mod laws;
 mod piece;
 mod rebuild;
 
 pub use cutting::{count, cut};
 pub use filled::Filled;
+pub use laws::pieces_rebuild;
 pub use piece::{Piece, PieceStop};
 pub use rebuild::{LONGEST_TEXT, Rebuild};

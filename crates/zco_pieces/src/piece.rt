@@ -21,6 +21,7 @@ pub enum PieceStop {
 }
 
 impl From<Stop> for PieceStop {
+    ghost use Rattle.std.specs.Prelude.{◌≡◌};
     ghost use Rattle.zco_pieces.specs.declared.piece.PieceStop.TheVariants as stops;
 
     ghost from_gives = { λ stop e. e ≡ stops.Stop stop };
@@ -31,6 +32,7 @@ impl From<Stop> for PieceStop {
 }
 
 impl From<NoMemory> for PieceStop {
+    ghost use Rattle.std.specs.Prelude.{◌≡◌};
     ghost use Rattle.zco_pieces.specs.declared.piece.PieceStop.TheVariants.{NoMemory};
 
     ghost from_gives = { λ _ e. e ≡ NoMemory };
