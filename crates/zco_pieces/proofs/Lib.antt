@@ -1,7 +1,6 @@
 pub mod PlaceLemmas
 pub mod BytesLemmas
-mod SourceLemmas
-pub mod CountedLemmas
 pub mod CutLemmas
 pub mod RunLemmas
 pub mod CutLawLemmas
+mod RowsOfPieces
