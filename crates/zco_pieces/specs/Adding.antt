@@ -63,6 +63,12 @@ module _ (object number offset : ℕ) where
     pub stops : StopsFirst left mid new stop
     pub kept : qs ≡ filled ++ left
 
+  -- so it is, and those are left out that aren't
+  pub record KeepsFilled (ps qs : List Filled) (old new : Heap) (stop : Stop) : Type 0 where
+    pub parts : List Filled
+    pub some : FillsSome ps parts old new stop
+    pub kept : qs ≡ filter has_clone parts
+
 -- the gaps among these parts begin at an offset or behind it
 abbrev pub BeginAt : ℕ → List Filled → Type 0
 BeginAt offset = All (λ p. p.object ≡ 0 → offset ≤ p.offset)
@@ -136,9 +142,7 @@ pub record StopsAdding (number : ℕ) (piece : Piece) (r r' : Rebuilt) (old new 
   pub has : HasLength piece.object length old
   pub fits : IsPieceOf r.total piece length
   pub total : r'.total ≡ r.total
-  pub parts : List Filled
-  pub some : FillsSome piece.object number piece.offset (opened 0 r.total r.parts piece.offset length) parts old new stop
-  pub kept : r'.parts ≡ filter has_clone parts
+  pub some : KeepsFilled piece.object number piece.offset (opened 0 r.total r.parts piece.offset length) r'.parts old new stop
 
 -- why a piece isn't added: for the object's address, or since it is none of the text, and all is as before; or since a gap
 -- isn't filled; or for want of memory, and all is as before

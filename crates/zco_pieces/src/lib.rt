@@ -7,8 +7,10 @@
 //! 3. Where nothing is missing, the extents of the clones make one object, in order, and the clones go.
 #![tactic(auto)]
 
+mod adding;
 mod cutting;
 mod filled;
+mod finishing;
 mod laws;
 mod piece;
 mod rebuild;
