@@ -81,7 +81,7 @@ struct Overlapped {
     bytes: [u8; 9],
 }
 
-fn overlapped<O: Objects>(o: &mut O, alloc: Global) -> Result<Overlapped, PieceStop>
+fn overlap<O: Objects>(o: &mut O, alloc: Global) -> Result<Overlapped, PieceStop>
 {
     let (_, object) = payload(o)?;
     let by_four = cut(o, object, 0, 4, 0)?;
@@ -107,7 +107,7 @@ fn second_row(alloc: Global) -> Option<Result<Overlapped, PieceStop>> {
     let Some(mut heap) = begun(alloc) else {
         return None;
     };
-    Some(overlapped(&mut heap, alloc))
+    Some(overlap(&mut heap, alloc))
 }
 
 #[test]
