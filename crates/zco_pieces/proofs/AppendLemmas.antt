@@ -1,16 +1,15 @@
 -- An object gets an extent more of what clones name.
-use Rattle.std.proofs.Common.{◌≡◌, ◌≢◌, ◌+◌, ◌-◌, ◌*◌, ◌≤◌, ◌<◌, ◌^◌, ℕ, List, [], ◌∷◌, ◌++◌, length, Option, Some, refl, sym, ap, ◌∙◌, subst, arith, append_assoc, append-nil, length-append, inl, inr}
-use Rattle.std.specs.Prelude.{All, ◌⊎◌, map}
+use Rattle.std.proofs.Common.{◌≡◌, ◌-◌, ◌≤◌, ◌<◌, ◌^◌, ℕ, List, [], ◌∷◌, ◌++◌, length, Option, Some, refl, sym, ap, ◌∙◌, subst, arith, append_assoc, append-nil, length-append, inl, inr}
+use Rattle.std.specs.Prelude.{All}
 use Rattle.std.proofs.lemmas.List.{map-append}
 use Rattle.std.proofs.lemmas.List.Elements.{All-head, All-push, All-weaker}
-use Rattle.sdr_base.specs.Blocks.{Block, Blocks, IsKind}
+use Rattle.sdr_base.specs.Blocks.{Block, IsKind}
 use Rattle.sdr_base.specs.Entries.{BlocksAre, Entries}
 use Rattle.sdr_base.specs.Objects.{Heap}
 use Rattle.sdr_base.specs.ZcoObjects.{ExtentRow, ObjectRow, object_entries}
 use Rattle.sdr_base.specs.declared.account.Acct.{Acct}
 use Rattle.sdr_base.specs.declared.account.Acct.TheVariants as accts
 use Rattle.sdr_base.specs.declared.account.Amounts.{Amounts}
-use Rattle.sdr_base.specs.declared.kind.Kind.{Kind}
 use Rattle.sdr_base.specs.declared.kind.Kind.TheVariants as kinds
 use Rattle.sdr_base.specs.declared.moves.Move.{Move}
 use Rattle.sdr_base.specs.declared.moves.Move.TheVariants.{Took}
@@ -21,8 +20,8 @@ use Rattle.zco_acct.specs.Charges.{charged}
 use Rattle.zco_acct.specs.Kept.{queue_entries}
 use Rattle.zco_acct.specs.Words.{first_word, last_word, with_occupied}
 use Rattle.zco_obj.specs.Amounts.{use_amounts}
-use Rattle.zco_obj.specs.Appending.{AppendsPiece, AppendsRaw, AppendsSource}
-use Rattle.zco_obj.specs.Beside.{IsWithRaw, IsWithSource, KeepsWithSource, SomeWithRaw, SomeWithSource}
+use Rattle.zco_obj.specs.Appending.{AppendsPiece, AppendsSource}
+use Rattle.zco_obj.specs.Beside.{IsWithRaw, IsWithSource, KeepsWithSource}
 use Rattle.zco_obj.specs.Charging.{Pays}
 use Rattle.zco_obj.specs.Extents.{extent_of, with_extent}
 use Rattle.zco_obj.specs.Gone.{NamedSource, source_at, sources_entries}
@@ -31,14 +30,14 @@ use Rattle.zco_obj.specs.Uses.{IsThere}
 use Rattle.zco_obj.specs.declared.extent.ExtentPiece.{ExtentPiece}
 use Rattle.zco_obj.proofs.SpotLemmas.{SpotOf, find_spot}
 use Rattle.zco_ref.specs.Counting.{attached}
-use Rattle.zco_ref.specs.Kept.{CountedSource, count_in, counted_block, counted_entries}
+use Rattle.zco_ref.specs.Kept.{CountedSource, counted_block, counted_entries}
 use Rattle.zco_part.specs.Cloning.{takes_clone}
 use Rattle.zco_part.specs.Pieces.{extents_at, whole_row}
-use Rattle.zco_part.specs.Sources.{MayCount, all_counted, counted, more_uses, pieces_of}
+use Rattle.zco_part.specs.Sources.{MayCount, all_counted, more_uses, pieces_of}
 use Rattle.zco_pieces.proofs.WholeLemmas.{length-extents_at, placed_more, whole_fits, whole_longer}
 use Rattle.zco_pieces.proofs.SourceLemmas.{focus, more_below, more_fits, of_most, others_now, source_now, unfocus}
 use Rattle.zco_pieces.specs.Appending.{HasAppended}
-use Rattle.zco_pieces.specs.Finishing.{AppendsEach, KeepsToFinish, Together, pieces_in}
+use Rattle.zco_pieces.specs.Finishing.{AppendsEach, Together}
 use Rattle.zco_pieces.specs.Stocks.{Queue, TellsQueue, objects_entries, queues_entries}
 use Rattle.zco_pieces.specs.declared.filled.Filled.{Filled}
 use Rattle.zco_pieces.proofs.ClonesLemmas.{PieceFits, pieces_are_fit, pieces_there, sources_may, sources_short}

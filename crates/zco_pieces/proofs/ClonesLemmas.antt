@@ -1,10 +1,10 @@
 -- Clones that are kept of parts, and the sources that they name.
-use Rattle.std.proofs.Common.{◌≡◌, ◌≢◌, ◌+◌, ◌≤◌, ◌<◌, ◌^◌, ℕ, Bool, true, false, cond, List, [], ◌∷◌, ◌++◌, length, Some, refl, sym, ap, ◌∙◌, subst, arith, length-append}
-use Rattle.std.specs.Prelude.{All, flat_map, map, if◌then◌else◌}
+use Rattle.std.proofs.Common.{◌≡◌, ◌+◌, ◌≤◌, ◌<◌, ◌^◌, List, [], ◌∷◌, ◌++◌, length, refl, subst, arith}
+use Rattle.std.specs.Prelude.{All, map, if◌then◌else◌}
 use Rattle.std.proofs.lemmas.List.Concat.{flat_map-append}
 use Rattle.std.proofs.lemmas.List.Elements.{All-cons, All-head, All-nil, All-tail}
 use Rattle.sdr_base.specs.Objects.{Heap}
-use Rattle.sdr_base.specs.ZcoObjects.{ExtentRow, ObjectRow}
+use Rattle.sdr_base.specs.ZcoObjects.{ExtentRow}
 use Rattle.sdr_base.specs.declared.account.Acct.{Acct}
 use Rattle.sdr_base.specs.declared.account.Acct.TheVariants as accts
 use Rattle.sdr_model.specs.Accounts.{is_same_account}
@@ -12,7 +12,7 @@ use Rattle.sdr_model.specs.Limits.{longest_source}
 use Rattle.zco_obj.specs.Gone.{NamedSource, source_at}
 use Rattle.zco_obj.specs.Kept.{ExtentFits, ObjectFits}
 use Rattle.zco_obj.specs.Links.{piece_of}
-use Rattle.zco_obj.specs.Uses.{AreNamed, CountsUses, IsThere}
+use Rattle.zco_obj.specs.Uses.{CountsUses, IsThere}
 use Rattle.zco_obj.specs.declared.extent.ExtentPiece.{ExtentPiece}
 use Rattle.zco_part.specs.Sources.{MayCount}
 use Rattle.zco_pieces.specs.Adding.{CountsMore}

@@ -1,18 +1,15 @@
 -- A clone goes, and its sources stay, since another object names them too.
-use Rattle.std.proofs.Common.{◌≡◌, ◌≢◌, ◌+◌, ◌-◌, ◌*◌, ◌≤◌, ◌<◌, ◌^◌, ℕ, zero, suc, Bool, true, false, cond, List, [], ◌∷◌, ◌++◌, length, Some, refl, sym, ap, ◌∙◌, subst, arith, append_assoc, append-nil, length-append}
-use Rattle.std.specs.Prelude.{◌==◌, ◌&&◌, All, filter, flat_map, map, nat_lt, not, if◌then◌else◌}
+use Rattle.std.proofs.Common.{◌≡◌, ◌+◌, ◌-◌, ◌*◌, ◌≤◌, ℕ, zero, suc, Bool, true, false, cond, List, [], ◌∷◌, ◌++◌, length, Some, refl, sym, ap, ◌∙◌, subst, arith, append_assoc, length-append}
+use Rattle.std.specs.Prelude.{◌==◌, ◌&&◌, All, filter, flat_map, map, nat_lt, if◌then◌else◌}
 use Rattle.std.proofs.lemmas.Bool.{ne_eqb}
 use Rattle.std.proofs.lemmas.List.{length-map}
-use Rattle.std.proofs.lemmas.List.Concat.{flat_map-append}
 use Rattle.std.proofs.lemmas.List.Elements.{All-cons, All-head, All-nil, All-tail, All-weaker}
-use Rattle.sdr_base.specs.Blocks.{Blocks, IsKind}
 use Rattle.sdr_base.specs.Entries.{BlocksAre, Entries}
 use Rattle.sdr_base.specs.Making.{gave}
 use Rattle.sdr_base.specs.Objects.{Heap}
-use Rattle.sdr_base.specs.ZcoObjects.{CapsuleRow, ExtentRow, ObjectRow, capsule_addr, object_entries}
+use Rattle.sdr_base.specs.ZcoObjects.{ExtentRow, ObjectRow, capsule_addr, object_entries}
 use Rattle.sdr_base.specs.declared.account.Acct.{Acct}
 use Rattle.sdr_base.specs.declared.account.Acct.TheVariants as accts
-use Rattle.sdr_base.specs.declared.moves.Move.{Move}
 use Rattle.sdr_base.specs.declared.moves.Move.TheVariants.{Gave}
 use Rattle.sdr_model.specs.Accounts.{is_same_account}
 use Rattle.zco_acct.specs.Words.{first_word, last_word, with_occupied}
@@ -20,7 +17,7 @@ use Rattle.zco_obj.specs.Destroying.{DestroysObject, KeepsSources, ObjectGone, S
 use Rattle.zco_obj.specs.Gone.{NamedSource, goes_with, going_before, gone_blocks, naming, source_at, sources_entries}
 use Rattle.zco_obj.specs.Kept.{ObjectFits}
 use Rattle.zco_obj.specs.Links.{piece_of}
-use Rattle.zco_obj.specs.Leaving.{LeavesSources, raws_left, sources_staying, together}
+use Rattle.zco_obj.specs.Leaving.{LeavesSources, raws_left, sources_staying}
 use Rattle.zco_obj.specs.Uses.{AreNamed, CountsUses, IsThere}
 use Rattle.zco_obj.proofs.CountLemmas.{naming-append}
 use Rattle.zco_obj.proofs.LeavingLemmas.{destroy_leaves}
@@ -28,14 +25,14 @@ use Rattle.zco_ref.specs.Going.{blocks_left, gone_with, is_passing}
 use Rattle.zco_ref.specs.Kept.{count_in, uses_of}
 use Rattle.zco_part.specs.Naming.{IsWholeRow}
 use Rattle.zco_pieces.specs.Finishing.{AreClones, pieces_in}
-use Rattle.zco_pieces.specs.Leaving.{Doomed, KeepsToDestroy, NamesMore, doomed_stock}
+use Rattle.zco_pieces.specs.Leaving.{Doomed, KeepsToDestroy, NamesMore}
 use Rattle.zco_pieces.specs.Stocks.{Standing, extents_for, objects_entries, own_extents, queues_entries}
 use Rattle.zco_pieces.specs.declared.filled.Filled.{Filled}
 use Rattle.zco_pieces.proofs.AppendLemmas.{all_tell}
 use Rattle.zco_pieces.proofs.ClonesLemmas.{own_all}
 use Rattle.zco_pieces.proofs.CountedLemmas.{all_front}
 use Rattle.zco_pieces.proofs.TicketLemmas.{occupied_first, occupied_last}
-use Rattle.zco_pieces.proofs.TurnLemmas.{stack, turn}
+use Rattle.zco_pieces.proofs.TurnLemmas.{turn}
 
 -- some first ones of extents are named too
 pub named_front : (acct : Acct) (sources : List NamedSource) (xs ys : List ExtentRow) → AreNamed acct (xs ++ ys) sources → AreNamed acct xs sources

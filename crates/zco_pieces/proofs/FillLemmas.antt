@@ -1,6 +1,6 @@
 -- Gaps are filled from an object, one after another.
-use Rattle.std.proofs.Common.{◌≡◌, ◌≢◌, ◌+◌, ◌-◌, ◌*◌, ◌≤◌, ◌<◌, ◌^◌, ℕ, Bool, true, false, cond, List, [], ◌∷◌, ◌++◌, length, refl, sym, ap, ◌∙◌, subst, arith, append_assoc, append-nil, eq-eqb, get_or, length-append, set}
-use Rattle.std.specs.Prelude.{◌==◌, All, MatchBool, filter, if◌then◌else◌}
+use Rattle.std.proofs.Common.{◌≡◌, ◌≢◌, ◌+◌, ◌-◌, ◌≤◌, ◌<◌, ◌^◌, ℕ, Bool, true, false, List, [], ◌∷◌, ◌++◌, length, refl, sym, ap, ◌∙◌, subst, arith, append_assoc, append-nil, eq-eqb, get_or, length-append, set}
+use Rattle.std.specs.Prelude.{◌==◌, All, MatchBool, if◌then◌else◌}
 use Rattle.std.proofs.lemmas.Bool.{ne_eqb}
 use Rattle.std.proofs.lemmas.List.{length-map}
 use Rattle.std.proofs.lemmas.List.Elements.{All-cons, All-head, All-nil, All-tail, All-weaker}
@@ -9,7 +9,6 @@ use Rattle.sdr_base.specs.Entries.{BlocksAre, Entries}
 use Rattle.sdr_base.specs.Objects.{Heap, OnlyFault}
 use Rattle.sdr_base.specs.ZcoObjects.{ExtentRow, ObjectRow, object_entries}
 use Rattle.sdr_base.specs.declared.account.Acct.{Acct}
-use Rattle.sdr_base.specs.declared.account.Amounts.{Amounts}
 use Rattle.sdr_base.specs.declared.moves.Move.TheVariants.{Took}
 use Rattle.sdr_base.specs.declared.stop.Stop.{Stop}
 use Rattle.sdr_base.specs.declared.stop.Stop.TheVariants.{DiskFault, Failed, MediaFault, Refused}
@@ -20,19 +19,18 @@ use Rattle.zco_acct.specs.Words.{first_word, last_word, with_occupied}
 use Rattle.zco_obj.specs.Gone.{NamedSource, sources_entries}
 use Rattle.zco_obj.specs.Links.{piece_of}
 use Rattle.zco_obj.specs.declared.extent.ExtentPiece.{ExtentPiece}
-use Rattle.zco_ref.specs.Kept.{SourceFits}
 use Rattle.zco_part.specs.Charging.{clone_amounts}
 use Rattle.zco_part.specs.Cloning.{ClonesPart, IsCloned, KeepsToClone, SomeToClone, takes_clone}
 use Rattle.zco_part.specs.Copying.{takes_extents}
 use Rattle.zco_part.specs.Pieces.{asked, cut, extents_at, filled, pieces, whole_row}
-use Rattle.zco_part.specs.Sources.{AreCountable, MayCount, all_counted, counted, pieces_of}
+use Rattle.zco_part.specs.Sources.{MayCount, all_counted, counted, pieces_of}
 use Rattle.zco_pieces.proofs.SourceLemmas.{more_fits, of_most}
 use Rattle.zco_pieces.proofs.WholeLemmas.{filled_most}
 use Rattle.zco_pieces.specs.Adding.{BeginAt, CountsMore, FillsGap, FillsPart, FillsParts, FillsSome, KeepsToFill, SomeToFill, StopsFirst, StopsPart, moves_to_fill}
 use Rattle.zco_pieces.specs.declared.filled.Filled.{Filled}
 use Rattle.zco_pieces.proofs.CountedLemmas.{all_behind, all_less, all_there_still, counts_less}
 use Rattle.zco_pieces.proofs.TicketLemmas.{first_charged, fits_charged, last_charged, occupied_first, occupied_last}
-use Rattle.zco_pieces.proofs.TurnLemmas.{stack, swapped, turn}
+use Rattle.zco_pieces.proofs.TurnLemmas.{swapped, turn}
 
 -- no more pieces are asked for than there are extents
 pub pieces_most : (from to : ℕ) (es : List ExtentRow) → length (pieces from to es) ≤ length es

@@ -1,7 +1,7 @@
 -- The tickets of an account that was charged.
-use Rattle.std.proofs.Common.{◌≡◌, ◌-◌, ◌<◌, ◌^◌, ℕ, List, [], ◌∷◌, true, false, refl, sym, ap, ◌∙◌, subst, arith}
+use Rattle.std.proofs.Common.{◌≡◌, ℕ, List, [], ◌∷◌, true, false, refl, arith}
 use Rattle.std.specs.Prelude.{◌==◌, All, if◌then◌else◌}
-use Rattle.std.proofs.lemmas.List.Elements.{All-cons, All-head, All-nil, All-tail}
+use Rattle.std.proofs.lemmas.List.Elements.{All-cons, All-head, All-tail}
 use Rattle.sdr_base.specs.Blocks.{with_at}
 use Rattle.sdr_base.specs.Linked.{first_of, last_of}
 use Rattle.sdr_base.specs.Objects.{Heap}
@@ -11,7 +11,7 @@ use Rattle.sdr_base.specs.declared.account.Amounts.{Amounts}
 use Rattle.sdr_model.specs.Amounts.{minus}
 use Rattle.sdr_model.specs.declared.accounts.Ticket.{Ticket}
 use Rattle.zco_acct.specs.Charges.{charged, tickets_covered}
-use Rattle.zco_acct.specs.Kept.{AmountsFit, TicketFits, block_of}
+use Rattle.zco_acct.specs.Kept.{TicketFits, block_of}
 use Rattle.zco_acct.specs.Words.{first_word, last_word, with_occupied}
 
 first_covered : (number : ℕ) (amounts : Amounts) (ts : List Ticket) → first_of block_of 0 (tickets_covered number amounts ts) ≡ first_of block_of 0 ts

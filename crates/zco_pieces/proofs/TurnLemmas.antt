@@ -1,5 +1,5 @@
 -- Groups of blocks in another order.
-use Rattle.std.proofs.Common.{◌≡◌, ℕ, zero, suc, List, [], ◌∷◌, ◌++◌, refl, sym, ap, ◌∙◌, subst, append_assoc}
+use Rattle.std.proofs.Common.{ℕ, zero, suc, List, [], ◌∷◌, ◌++◌, sym, subst, append_assoc}
 use Rattle.sdr_base.specs.Blocks.{Blocks}
 use Rattle.sdr_base.specs.Entries.{BlocksAre, Entries}
 use Rattle.sdr_base.proofs.StandingLemmas.{moved, moved_back}
