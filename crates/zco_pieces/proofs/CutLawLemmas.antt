@@ -100,8 +100,7 @@ cut_covers total most place some below =
     let d = div-add-mod' place most in
     let r = mod_below place most some in
     let c = div_ceil_times total most some in
-    let reach = c.0 in
-    (
+    let reach = c.0 in (
       record { some = some; below = by (place / most) (div_ceil total most) d r reach },
       lies (place / most * most) (cut_length total most (place / most)) place (omega (arith, d)) (omega (arith, d, r, below)),
     )

@@ -13,3 +13,4 @@ pub mod AddLemmas
 pub mod ClonesLemmas
 pub mod AppendLemmas
 pub mod DestroyLemmas
+mod RowsOfPieces

@@ -15,8 +15,12 @@ use Rattle.zco_pieces.specs.Places.{AreInOrder, Rebuilt, gap, is_covered, is_fil
 use Rattle.zco_pieces.specs.Runs.{AddStep, Added, GapFilled, GapsFilled, Rebuilds, clone_bytes, range_of}
 use Rattle.zco_pieces.specs.declared.filled.Filled.{Filled}
 use Rattle.zco_pieces.proofs.BytesLemmas.{asked_bytes, pieces_placed}
-use Rattle.zco_pieces.proofs.CountedLemmas.{all_joined}
 use Rattle.zco_pieces.proofs.PlaceLemmas.{HasText, count_same, filled_most, opened_fills, opened_order, places_left, text_whole}
+
+-- what holds of some and of others holds of all
+all_joined : {X : Type 0} (P : X → Type 0) (xs ys : List X) → All P xs → All P ys → All P (xs ++ ys)
+all_joined P [] ys a b = b
+all_joined P (x ∷ xs) ys a b = All-cons P x (xs ++ ys) (All-head P x xs a) (all_joined P xs ys (All-tail P x xs a) b)
 
 -- the gaps that a piece meets lie within it
 pub record LiesWithin (offset length : ℕ) (p : Filled) : Type 0 where
@@ -89,8 +93,7 @@ module _ (clone_at : ℕ → ObjectRow) (held : ℕ → ℕ → ℕ) where
       let o = same_offset a p q g.0 in
       let l = same_length a p q g.0 in
       let x = order.0 in
-      let y = order.1 in
-      (
+      let y = order.1 in (
         omega (arith, o, x),
         omega (arith, l, y),
         subst (λ n. AreInOrder n total qs) (let e : p.offset + p.length ≡ q.offset + q.length = omega (arith, o, l) in e)

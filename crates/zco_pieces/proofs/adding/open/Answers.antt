@@ -1,9 +1,7 @@
 -- Each part ends within the text, and the gap before it comes first.
-use Rattle.std.proofs.Common.{◌<◌, ◌++◌, ◌∷◌, [], length, drop, refl, sym, ap, ◌∙◌, arith, append_assoc, append-nil, List}
-use Rattle.std.proofs.lemmas.List.{drop_all}
-use Rattle.zco_pieces.specs.Places.{gap, opened}
+use Rattle.std.proofs.Common.{arith}
 use Rattle.zco_pieces.specs.declared.filled.Filled.{Filled}
-use Rattle.zco_pieces.proofs.PlaceLemmas.{opened_at, order_at}
+use Rattle.zco_pieces.proofs.PlaceLemmas.{order_at}
 use Rattle.zco_pieces.proofs.adding.open.Goals as goal
 
 -- no part
