@@ -1,5 +1,5 @@
 -- Which places are filled once a piece was added, and how many aren't.
-use Rattle.std.proofs.Common.{◌≡◌, ◌≢◌, ◌+◌, ◌-◌, ◌≤◌, ◌<◌, ℕ, zero, suc, Bool, true, false, cond, List, [], ◌∷◌, ◌++◌, refl, sym, ap, ◌∙◌, subst, arith, append-nil, drop, drop-drop, eq-eqb, length, take, take-append-drop}
+use Rattle.std.proofs.Common.{◌≡◌, ◌≢◌, ◌+◌, ◌-◌, ◌≤◌, ◌<◌, ℕ, zero, suc, Bool, true, false, cond, List, [], ◌∷◌, ◌++◌, refl, sym, ap, ◌∙◌, subst, arith, append-nil, drop, drop-drop, eq-eqb, get_or, length, take, take-append-drop}
 use Rattle.std.specs.Prelude.{◌||◌, not, max, min, nat_lt, count_by, flat_map, All, if◌then◌else◌}
 use Rattle.std.specs.List.{range_with_len}
 use Rattle.std.proofs.lemmas.Bool.{ne_eqb}
@@ -217,3 +217,24 @@ first_is from p ps at = ap (λ v. if v then first_missing (p.offset + p.length) 
 
 pub first_here : (from : ℕ) (p : Filled) (ps : List Filled) → p.offset ≢ from → first_missing from (p ∷ ps) ≡ from
 first_here from p ps off = ap (λ v. if v then first_missing (p.offset + p.length) ps else from) (ne_eqb p.offset from off)
+
+-- the part at a place among parts in order, and those behind it
+pub order_at : (from total i : ℕ) (parts : List Filled) (d : Filled) → AreInOrder from total (drop i parts) → i < length parts →
+    (from ≤ (get_or parts i d).offset) × ((get_or parts i d).offset + (get_or parts i d).length ≤ total)
+    × AreInOrder ((get_or parts i d).offset + (get_or parts i d).length) total (drop (i + 1) parts)
+order_at from total i [] d order less = absurd (omega (arith, less))
+order_at from total zero (p ∷ ps) d order less = let m = filled_most (p.offset + p.length) total ps order.2 in (order.0, omega (arith, m), order.2)
+order_at from total (suc i) (p ∷ ps) d order less =
+    let o = order_at from total i ps d order (omega (arith, less)) in
+    let e : suc (i + 1) ≡ suc i + 1 = omega arith in
+    (o.0, o.1, subst (λ n. AreInOrder ((get_or ps i d).offset + (get_or ps i d).length) total (drop n (p ∷ ps))) e o.2)
+
+pub opened_at : (from total i : ℕ) (parts : List Filled) (d : Filled) (offset length' : ℕ) → i < length parts →
+    opened from total (drop i parts) offset length'
+    ≡ gap from (get_or parts i d).offset offset length' ++ (get_or parts i d ∷ opened ((get_or parts i d).offset + (get_or parts i d).length) total (drop (i + 1) parts) offset length')
+opened_at from total i [] d offset length' less = absurd (omega (arith, less))
+opened_at from total zero (p ∷ ps) d offset length' less = refl
+opened_at from total (suc i) (p ∷ ps) d offset length' less =
+    let e : suc (i + 1) ≡ suc i + 1 = omega arith in
+    opened_at from total i ps d offset length' (omega (arith, less))
+    ∙ ap (λ n. gap from (get_or ps i d).offset offset length' ++ (get_or ps i d ∷ opened ((get_or ps i d).offset + (get_or ps i d).length) total (drop n (p ∷ ps)) offset length')) e
