@@ -13,4 +13,6 @@ pub mod AddLemmas
 pub mod ClonesLemmas
 pub mod AppendLemmas
 pub mod DestroyLemmas
+mod PassedLemmas
+pub mod DestroyedLemmas
 mod RowsOfPieces
