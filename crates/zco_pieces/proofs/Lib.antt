@@ -12,6 +12,7 @@ pub mod CutLawLemmas
 pub mod AddLemmas
 pub mod ClonesLemmas
 pub mod AppendLemmas
+pub mod ExtendLemmas
 pub mod DestroyLemmas
 mod PassedLemmas
 pub mod DestroyedLemmas
