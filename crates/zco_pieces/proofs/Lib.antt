@@ -16,4 +16,5 @@ pub mod ExtendLemmas
 pub mod DestroyLemmas
 mod PassedLemmas
 pub mod DestroyedLemmas
+pub mod AppendedLemmas
 mod RowsOfPieces
