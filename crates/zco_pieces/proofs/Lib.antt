@@ -17,4 +17,5 @@ pub mod DestroyLemmas
 mod PassedLemmas
 pub mod DestroyedLemmas
 pub mod AppendedLemmas
+pub mod FinishLemmas
 mod RowsOfPieces
