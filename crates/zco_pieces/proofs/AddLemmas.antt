@@ -68,8 +68,7 @@ module _ (object number offset : ℕ) where
       let a = o.0 in
       let b = o.1 in
       let x = order.0 in
-      let y = order.1 in
-      (
+      let y = order.1 in (
         omega (arith, a, x),
         omega (arith, b, y),
         subst (λ n. AreInOrder n total qs) (let e : p.offset + p.length ≡ q.offset + q.length = omega (arith, a, b) in e)
@@ -96,8 +95,7 @@ module _ (object number offset : ℕ) where
       let a = o.0 in
       let b = o.1 in
       let x = order.0 in
-      let y = order.1 in
-      (
+      let y = order.1 in (
         omega (arith, a, x),
         omega (arith, b, y),
         subst (λ n. AreInOrder n total (qs ++ left)) (let e : p.offset + p.length ≡ q.offset + q.length = omega (arith, a, b) in e)

@@ -208,8 +208,7 @@ fill_on object number offset p q ps old mid f {row} {tickets} {sources} k = by (
         let A = asked (p.offset - offset) p.length row in
         let n = moves_cons offset row p ps in
         let m : part_moves offset row p ≡ 1 + length A = ap (λ v. if v then 1 + length A else 0) e in
-        let s = clone_spare g.clones k.keeps in
-        (
+        let s = clone_spare g.clones k.keeps in (
           tickets_then g.clones k.keeps,
           sources_then g.clones k.keeps,
           record {
@@ -393,8 +392,7 @@ module _ {object number offset : ℕ} {all now : List Filled} {old heap : Heap} 
   fill_kept {row} {tickets} {sources} k =
       let rest =
       fill_steps object number offset l.done l.filled l.left old heap l.fills
-      (subst (λ (xs : List Filled). KeepsToFill old object offset xs row tickets sources) l.whole k) in
-      (
+      (subst (λ (xs : List Filled). KeepsToFill old object offset xs row tickets sources) l.whole k) in (
         rest.0,
         rest.1,
         fill_first next_part.0 next_part.1

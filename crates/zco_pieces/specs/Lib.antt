@@ -2,8 +2,4 @@ pub mod Places
 pub mod Bytes
 pub mod Cutting
 pub mod Adding
-pub mod Stocks
-pub mod Finishing
-pub mod Appending
-pub mod Leaving
 pub mod Runs

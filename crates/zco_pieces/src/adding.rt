@@ -55,7 +55,13 @@ impl Rebuild {
     {
         let length = source_length(o, piece.object)?;
         check_piece(piece, length, self.total)?;
-        let opened = open(self.alloc, self.total, self.parts.as_slice(), piece.offset, length)?;
+        let opened = open(
+            self.alloc,
+            self.total,
+            self.parts.as_slice(),
+            piece.offset,
+            length,
+        )?;
         let Filling { parts, outcome } = fill(o, ticket, piece, opened);
         self.parts = parts;
         outcome?;
@@ -199,6 +205,12 @@ fn fill_gap<O: Objects>(o: &mut O, ticket: u64, piece: &Piece, part: Filled) -> 
         check_failed(o)?;
         return Ok(part);
     }
-    let object = clone_part(o, piece.object, ticket, part.offset - piece.offset, part.length)?;
+    let object = clone_part(
+        o,
+        piece.object,
+        ticket,
+        part.offset - piece.offset,
+        part.length,
+    )?;
     Ok(Filled { object, ..part })
 }

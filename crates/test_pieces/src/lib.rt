@@ -1,7 +1,0 @@
-//! Tests of `zco_pieces`, as rows of literals.
-#![tactic(auto)]
-
-#[cfg(test)]
-mod heaps;
-#[cfg(test)]
-mod piece_tests;
