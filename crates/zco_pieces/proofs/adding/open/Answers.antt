@@ -1,0 +1,14 @@
+-- Each part ends within the text, and the gap before it comes first.
+use Rattle.std.proofs.Common.{arith}
+use Rattle.zco_pieces.specs.declared.filled.Filled.{Filled}
+use Rattle.zco_pieces.proofs.PlaceLemmas.{order_at}
+use Rattle.zco_pieces.proofs.adding.open.Goals as goal
+
+-- no part
+abbrev nothing : Filled
+nothing = record { offset = 0; length = 0; object = 0 }
+
+pub overflow_add-from : goal.overflow_add-from
+overflow_add-from c =
+    let o = order_at c.loop-part.from c.args.total c.loop-part.part-index c.args.parts.now nothing c.loop-part.invariant.order (omega (arith, c.loop-part-test.true)) in
+    let e = o.1 in let l = c.requires.long in omega (arith, e, l)

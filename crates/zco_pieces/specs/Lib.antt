@@ -1,0 +1,5 @@
+pub mod Places
+pub mod Bytes
+pub mod Cutting
+pub mod Adding
+pub mod Runs
