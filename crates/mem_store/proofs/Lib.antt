@@ -4,6 +4,7 @@ pub mod GrowthLemmas
 pub mod NamesLemmas
 pub mod OwnersLemmas
 pub mod PlacesLemmas
+pub mod PlainLemmas
 pub mod RawsLemmas
 pub mod SpotLemmas
 pub mod StoreLemmas

@@ -2,7 +2,7 @@
 use Rattle.std.specs.BTreeMap.{BTreeMap, get}
 use Rattle.std.specs.FinMap as finite
 use Rattle.std.specs.Ordering.{nat_cmp}
-use Rattle.std.specs.Prelude.{◌≡◌, ℕ, ◌==◌, Bool, false, IfSome, Option, None, Some, sum_by, unwrap_or, if◌then◌else◌}
+use Rattle.std.specs.Prelude.{◌≡◌, ℕ, ◌==◌, Bool, false, true, IfSome, Option, None, Some, sum_by, unwrap_or, if◌then◌else◌}
 use Rattle.sdr_base.specs.declared.account.Acct.{Acct}
 use Rattle.sdr_base.specs.declared.account.Acct.TheVariants as accts
 use Rattle.sdr_base.specs.declared.kind.Space.{Space}
@@ -74,6 +74,12 @@ component_charge space (components.Trailer c) = capsule_charge space c
 abbrev pub component_source : Component → Option ℕ
 component_source (components.Extent e) = Some e.source
 component_source component = None
+
+-- whether it is neither a source nor an object, so that it charges nothing and names nothing
+abbrev pub is_plain : Option Thing → Bool
+is_plain (Some (things.Source s)) = false
+is_plain (Some (things.Object z)) = false
+is_plain thing = true
 
 -- whether it is an object of an account
 abbrev pub is_object_of : Acct → Option Thing → Bool

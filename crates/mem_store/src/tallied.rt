@@ -13,7 +13,7 @@ ghost use Rattle.mem_parts.specs.Components.{KeepsLimits, with_component};
 ghost use Rattle.mem_parts.specs.declared.component.Component.{Component as GhostComponent};
 ghost use Rattle.mem_store.specs.Store.{ChangesAt, growing, now_at, place_at, settled, things_at, with_thing};
 ghost use Rattle.mem_store.specs.declared.place.Stays.TheVariants as stays;
-ghost use Rattle.mem_store.specs.Tallies.{AreNoted, AreTallied, IsGrowth, Tallies, is_object_of, raw_named, sources_on, tally_of};
+ghost use Rattle.mem_store.specs.Tallies.{AreNoted, AreTallied, IsGrowth, Tallies, is_object_of, is_plain, raw_named, sources_on, tally_of};
 
 use crate::place;
 use crate::place::{Place, Stays, thing_at};
@@ -96,6 +96,13 @@ fn noted(
     }
 }
 
+// Whether it is neither a source nor an object.
+fn is_plain(thing: Option<&Thing>) -> bool
+    ensures { result ≡ is_plain (option_copied thing.entry) }
+{
+    !matches!(thing, Some(Thing::Source(_) | Thing::Object(_)))
+}
+
 // Whether it is an object of an account.
 fn is_object_of(acct: Acct, thing: Option<&Thing>) -> bool
     ensures { result ≡ is_object_of acct (option_copied thing.entry) }
@@ -166,6 +173,9 @@ impl Tallied {
         ensures { AreTallied (map.remove (things_at now_at places.now.entries) addr) self.old
             → AreTallied (things_at now_at places.now.entries) self.new }
     {
+        if is_plain(thing_at(places, addr)) {
+            return;
+        }
         self.inbound = entered(self.inbound.take(), places, Acct::Inbound, addr);
         self.outbound = entered(self.outbound.take(), places, Acct::Outbound, addr);
         self.raws = noted(self.raws.take(), places, addr);
@@ -176,6 +186,9 @@ impl Tallied {
         ensures { AreTallied (things_at now_at places.now.entries) self.old
             → AreTallied (map.remove (things_at now_at places.now.entries) addr) self.new }
     {
+        if is_plain(thing_at(places, addr)) {
+            return;
+        }
         self.inbound = left(self.inbound.take(), places, Acct::Inbound, addr);
         self.outbound = left(self.outbound.take(), places, Acct::Outbound, addr);
     }
