@@ -10,7 +10,7 @@ use Rattle.sdr_shell.specs.Words.{AnswersWords}
 use Rattle.sdr_forms.specs.declared.outcome.RunOutcome.{RunOutcome}
 use Rattle.sdr_command.specs.declared.answering.Answered.{Answered}
 
--- The top call was made on a disk, and the status and the disk that it gave stand.
+-- This is what the top call answers on a disk, and the status and the disk that were given stand.
 pub record IsAnswered {D M S K : Type 0} (d : DiskGhosts D) (m : MediaGhosts M) (s : SourceGhosts S) (k : SinkGhosts K)
     (words : List (RcStr Global)) (disk : D) (files : M) (input input' : S) (output output' : K) (result : Answered D) : Type 0 where
   pub outcome : RunOutcome D M

@@ -58,7 +58,7 @@ pub record IsStarved {S K : Type 0} (k : SinkGhosts K) (input input' : S) (outpu
   pub unread : input' ≡ input
   pub written : Wrote (seen k.taken k.faults output) (seen k.taken k.faults output') (codes "no memory\n")
 
--- a file couldn't be opened, or there was no memory for its bytes, or the top call was made on it
+-- a file couldn't be opened, or there was no memory for its bytes, or it is answered as the top call does on it
 abbrev pub IsStatusOnFile : {D M S K : Type 0} → DiskGhosts D → MediaGhosts M → SourceGhosts S → SinkGhosts K
     → List (RcStr Global) → M → S → S → K → K → ℕ → Type 0
 IsStatusOnFile d m s k words files input input' output output' status =
@@ -95,7 +95,7 @@ pub data ComesHeld {D E M S K : Type 0} (d : DiskGhosts D) (e : DiskGhosts E) (m
   -- there is no memory for the input
   starved : status ≡ NO_MEMORY → Wrote (seen k.taken k.faults output) (seen k.taken k.faults output') (codes "no memory\n")
       → ComesHeld d e m s h k words files input input' output output' status
-  -- the input failed or spells no script: the top call was made with what is held, on an empty disk in memory
+  -- the input failed or spells no script: it is answered as the top call does with what is held, on an empty disk in memory
   unread : (held : Held) → HoldsInput (s.left input) (s.left input') (s.faults input) (s.faults input') held → SpellsNone held → (last : HeldFeed)
       → IsStatusOf d (IsEmpty d) m h k words files (feed_of held) last output output' status
       → ComesHeld d e m s h k words files input input' output output' status

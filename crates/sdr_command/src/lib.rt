@@ -8,7 +8,8 @@
 //! 4. For `replay` and `run` the input is read whole, and a script that is refused opens no disk.
 //! 5. A file that can't be opened, lengthened or locked, and what isn't a file, ends the program with status 1.
 //!    `inspect` opens its file beside others that look at it.
-//! 6. The words, the disk and the input go to the top call, whose status the program ends with.
+//! 6. The words, the disk and the input go to `top`, and for a script that is accepted and runs on a file the script goes to `top_read`, which
+//!    answers as `top` does. The program ends with the status.
 //!
 //! Proved: the exit code is the status that `top` gave to the words, on an empty disk in memory or on a file (`EndsWith`, the clause of
 //! `exit_code`, whose result the program's `main` returns). Besides, it may be 1, and then nothing is printed; 9, on a file, where
