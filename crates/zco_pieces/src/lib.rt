@@ -14,13 +14,13 @@
 
 mod adding;
 mod cutting;
-mod filled;
+mod finishing;
 mod laws;
 mod piece;
 mod rebuild;
 
 pub use cutting::{count, cut};
-pub use filled::Filled;
 pub use laws::pieces_rebuild;
 pub use piece::{Piece, PieceStop};
 pub use rebuild::{LONGEST_TEXT, Rebuild};
+pub use zco_join::Filled;

@@ -1,0 +1,7 @@
+//! Tests of `zco_pieces`, as rows of literals.
+#![tactic(auto)]
+
+#[cfg(test)]
+mod heaps;
+#[cfg(test)]
+mod piece_tests;
