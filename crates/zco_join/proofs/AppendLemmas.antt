@@ -231,6 +231,7 @@ module _ {start : Heap} {acct : Acct} {parts : List Filled} {t : Together} {obje
           pays_moves pays ∙ ap (λ (ms : List Move). ms ++ (Took 32 a.addr ∷ [])) h.moves
           ∙ append_assoc start.moves (takes_clone object h.addrs) (Took 32 a.addr ∷ [])
           ∙ ap (λ (ms : List Move). start.moves ++ (Took 72 object ∷ ms)) (sym (map-append (λ x. Took 32 x) h.addrs (a.addr ∷ [])));
+      spent = let s = pays_spare pays in let n = length-append done (p ∷ []) in let u = h.spent in omega (arith, s, n, u);
       room = let s = pays_spare pays in let r = h.room in omega (arith, s, r);
     }
 

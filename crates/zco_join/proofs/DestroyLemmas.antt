@@ -1,6 +1,6 @@
 -- A clone goes, and its sources stay, since another object names them too.
 use Rattle.std.proofs.Common.{◌≡◌, ◌+◌, ◌-◌, ◌*◌, ◌≤◌, ℕ, zero, suc, Bool, true, false, cond, List, [], ◌∷◌, ◌++◌, length, Some, refl, sym, ap, ◌∙◌, subst, arith, append_assoc, length-append}
-use Rattle.std.specs.Prelude.{◌==◌, ◌&&◌, All, filter, flat_map, map, nat_lt, if◌then◌else◌}
+use Rattle.std.specs.Prelude.{◌==◌, ◌&&◌, All, filter, flat_map, map, nat_lt, not, if◌then◌else◌}
 use Rattle.std.proofs.lemmas.Bool.{ne_eqb}
 use Rattle.std.proofs.lemmas.List.{length-map}
 use Rattle.std.proofs.lemmas.List.Elements.{All-cons, All-head, All-nil, All-tail, All-weaker}
@@ -14,7 +14,7 @@ use Rattle.sdr_base.specs.declared.moves.Move.TheVariants.{Gave}
 use Rattle.sdr_model.specs.Accounts.{is_same_account}
 use Rattle.zco_acct.specs.Words.{first_word, last_word, with_occupied}
 use Rattle.zco_obj.specs.Destroying.{DestroysObject, KeepsSources, ObjectGone, SomeWithSources, gone_object, parts_lines}
-use Rattle.zco_obj.specs.Gone.{NamedSource, goes_with, going_before, gone_blocks, naming, source_at, sources_entries}
+use Rattle.zco_obj.specs.Gone.{NamedSource, goes_with, going_before, gone_blocks, less_source, naming, source_at, sources_entries}
 use Rattle.zco_obj.specs.Kept.{ObjectFits}
 use Rattle.zco_obj.specs.Links.{piece_of}
 use Rattle.zco_obj.specs.Leaving.{LeavesSources, raws_left, sources_staying}
@@ -173,6 +173,18 @@ module _ {old : Heap} {p : Filled} {ps : List Filled} {d : Doomed} {z : Standing
   no_raws =
       ap (flat_map (λ (s : NamedSource). blocks_left s.source.row.medium s.source.row.subject s.bytes)) (none_left d.sources all_stay)
 
+  all_staying : (ss : List NamedSource) → All (λ s. goes_with es s ≡ false) ss → filter (λ s. not (goes_with es s)) ss ≡ ss
+  all_staying [] all = refl
+  all_staying (s ∷ ss) all =
+      let P : NamedSource → Type 0 = λ x. goes_with es x ≡ false in
+      let others = filter (λ x. not (goes_with es x)) ss in
+      ap (λ v. cond (not v) (s ∷ others) others) (All-head P s ss all)
+      ∙ ap (λ (xs : List NamedSource). s ∷ xs) (all_staying ss (All-tail P s ss all))
+
+  -- so all stay
+  all_left : sources_staying acct es d.sources ≡ map (less_source acct es) d.sources
+  all_left = ap (λ (ss : List NamedSource). map (less_source acct es) ss) (all_staying d.sources all_stay)
+
   -- nothing goes with its extents
   found_stays : (addr : ℕ) (later : List ExtentRow) (ss : List NamedSource) → All (λ s. goes_with es s ≡ false) ss →
       going_before es later (source_at addr ss) ≡ []
@@ -265,7 +277,7 @@ module _ {old : Heap} {p : Filled} {ps : List Filled} {d : Doomed} {z : Standing
         (subst (BlocksAre old.blocks) (sym (append_assoc (object_entries z.addr z.row) (sources_entries d.sources) beside)) stands)
 
     abbrev pub doomed_then : Doomed
-    doomed_then = record d { clones = zs; sources = sources_staying acct es d.sources }
+    doomed_then = record d { clones = zs; sources = map (less_source acct es) d.sources }
 
     gone_first : (other : Acct) → mid.roots (first_word other) ≡ old.roots (first_word other)
     gone_first other =
@@ -280,7 +292,7 @@ module _ {old : Heap} {p : Filled} {ps : List Filled} {d : Doomed} {z : Standing
     pub gone_moves : mid.moves ≡ old.moves ++ gave gone
     gone_moves = ap (λ (h : Heap). h.moves) object_gone.others
 
-    gone_spare : mid.spare ≡ old.spare - (1 + length es)
+    pub gone_spare : mid.spare ≡ old.spare - (1 + length es)
     gone_spare =
         let s : mid.spare ≡ old.spare - length (gave gone) = ap (λ (h : Heap). h.spare) object_gone.others in
         let l = length-map gone (λ a. Gave a) in
@@ -294,13 +306,15 @@ module _ {old : Heap} {p : Filled} {ps : List Filled} {d : Doomed} {z : Standing
             let S' = sources_entries (sources_staying acct es d.sources) in
             let O' = objects_entries more in
             let Q = queues_entries d.queues in
-            turn (2 ∷ 2 ∷ []) (S' ∷ O' ∷ Q ∷ []) d.rest
-            (subst (λ (raws : Entries). BlocksAre mid.blocks (S' ++ (raws ++ beside))) no_raws leaves.stands);
+            subst (λ (ss : List NamedSource). BlocksAre mid.blocks (O' ++ (Q ++ (sources_entries ss ++ d.rest)))) all_left
+            (turn (2 ∷ 2 ∷ []) (S' ∷ O' ∷ Q ∷ []) d.rest
+            (subst (λ (raws : Entries). BlocksAre mid.blocks (S' ++ (raws ++ beside))) no_raws leaves.stands));
         fits = All-tail (λ (x : Standing). ObjectFits x.row) z more (subst (All (λ (x : Standing). ObjectFits x.row)) whole k.keeps.fits);
         queues = all_tell gone_first gone_last d.queues k.keeps.queues;
         named = λ other.
-            leaves.named other (extents_for other more)
-            (subst (λ (xs : List ExtentRow). AreNamed other xs d.sources) (together_is (is_same_account acct other) (extents_for other more)) (named_all other));
+            subst (λ (ss : List NamedSource). AreNamed other (extents_for other more) ss) all_left
+            (leaves.named other (extents_for other more)
+            (subst (λ (xs : List ExtentRow). AreNamed other xs d.sources) (together_is (is_same_account acct other) (extents_for other more)) (named_all other)));
       };
       clones = clones.2;
       named = All-tail (NamesMore d.object) z zs (subst (All (NamesMore d.object)) is k.named);

@@ -14,12 +14,12 @@ use Rattle.sdr_base.specs.declared.moves.Move.TheVariants.{Gave}
 use Rattle.zco_obj.specs.Gone.{NamedSource}
 use Rattle.zco_obj.specs.Destroying.{DestroysObject, DestroyStops, KeepsSources, SomeWithSources, parts_lines}
 use Rattle.zco_obj.specs.Links.{piece_of}
-use Rattle.zco_join.specs.Joining.{AreClones, DestroysEach, DestroysSomeOf, StopsDestroy, pieces_in}
+use Rattle.zco_join.specs.Joining.{AreClones, DestroysEach, DestroysSomeOf, StopsDestroy, left_by, pieces_in}
 use Rattle.zco_join.specs.Leaving.{Doomed, KeepsToDestroy}
 use Rattle.zco_join.specs.Stocks.{Standing}
 use Rattle.zco_join.specs.declared.filled.Filled.{Filled}
 use Rattle.zco_join.proofs.PassedLemmas.{PassedParts, next_part, passed_all, passed_next, passed_none}
-use Rattle.zco_join.proofs.DestroyLemmas.{addr_is, destroy_step, doomed_then, gone, gone_count, gone_moves, keeps_sources, lines_most, with_sources}
+use Rattle.zco_join.proofs.DestroyLemmas.{addr_is, destroy_step, doomed_then, gone, gone_count, gone_moves, gone_spare, keeps_sources, lines_most, with_sources}
 
 -- the objects of parts
 abbrev pub objects_of : List Filled → List ℕ
@@ -40,8 +40,10 @@ pub record Went (d : Doomed) (left : List Filled) (old now : Heap) (lines : ℕ)
   pub doomed : Doomed
   pub keeps : KeepsToDestroy now left doomed
   pub same : (doomed.object ≡ d.object) × (doomed.others ≡ d.others) × (doomed.queues ≡ d.queues) × (doomed.rest ≡ d.rest)
+  pub sources : left_by doomed.clones doomed.sources ≡ left_by d.clones d.sources
   pub gone : List ℕ
   pub moves : now.moves ≡ old.moves ++ gave gone
+  pub spent : old.spare ≤ now.spare + length gone
   pub few : length gone + (length doomed.clones + length (pieces_in doomed.clones)) ≡ length d.clones + length (pieces_in d.clones)
   pub most : lines + (27 * length doomed.clones + 28 * length (pieces_in doomed.clones)) ≡ 27 * length d.clones + 28 * length (pieces_in d.clones)
 
@@ -51,8 +53,10 @@ went_none {d} {parts} {old} {now} e k = record {
   doomed = d;
   keeps = subst (λ (h : Heap). KeepsToDestroy h parts d) (sym e) k;
   same = (refl, refl, refl, refl);
+  sources = refl;
   gone = [];
   moves = ap (λ (h : Heap). h.moves) e ∙ sym (append-nil old.moves);
+  spent = let s = ap (λ (h : Heap). h.spare) e in omega (arith, s);
   few = omega arith;
   most = omega arith;
 }
@@ -93,11 +97,17 @@ module _ {d : Doomed} {p : Filled} {ps : List Filled} {old now : Heap} {lines : 
     doomed = doomed_then w.keeps next.2 g;
     keeps = destroy_step w.keeps next.2 g;
     same = w.same;
+    sources = sym (ap (λ (zs : List Standing). left_by zs w.doomed.sources) next.2) ∙ w.sources;
     gone = w.gone ++ gone w.keeps next.2;
     moves =
         gone_moves w.keeps next.2 g ∙ ap (λ (ms : List Move). ms ++ gave (gone w.keeps next.2)) w.moves
         ∙ append_assoc old.moves (gave w.gone) (gave (gone w.keeps next.2))
         ∙ ap (λ (ms : List Move). old.moves ++ ms) (sym (map-append (λ a. Gave a) w.gone (gone w.keeps next.2)));
+    spent =
+        let s = gone_spare w.keeps next.2 g in
+        let a = length-append w.gone (gone w.keeps next.2) in
+        let n = gone_count w.keeps next.2 in
+        let u = w.spent in omega (arith, s, a, n, u);
     few =
         let a = length-append w.gone (gone w.keeps next.2) in
         let n = gone_count w.keeps next.2 in

@@ -127,6 +127,7 @@ module _ {old : Heap} {acct : Acct} {parts : List Filled} {t : Together} (k : Ke
       queue = pays_queue pays queue_told;
       more = all_tell (pays_first pays) (pays_last pays) t.more (All-tail (TellsQueue old) (record { acct = acct; tickets = t.tickets }) t.more k.keeps.queues);
       moves = pays_moves pays;
+      spent = let s = pays_spare pays in omega (arith, s);
       room = let s = pays_spare pays in let r = k.room in omega (arith, s, r);
     }
 

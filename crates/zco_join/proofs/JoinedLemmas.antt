@@ -22,7 +22,7 @@ use Rattle.zco_part.specs.Cloning.{takes_clone}
 use Rattle.zco_part.specs.Pieces.{extents_at, whole_row}
 use Rattle.zco_part.specs.Sources.{all_counted, pieces_of}
 use Rattle.zco_join.specs.Appending.{HasAppended}
-use Rattle.zco_join.specs.Joining.{AppendsEach, DestroysEach, Joined, KeepsToJoin, Together, pieces_in, stock_of}
+use Rattle.zco_join.specs.Joining.{AppendsEach, DestroysEach, Joined, KeepsToJoin, Together, left_by, pieces_in, stock_of}
 use Rattle.zco_join.specs.Leaving.{Doomed, KeepsToDestroy, NamesMore, SomeToDestroy, doomed_stock}
 use Rattle.zco_join.specs.Stocks.{KeepsStock, Queue, Standing, Stock, TellsQueue, extents_for, objects_entries, own_extents, queues_entries}
 use Rattle.zco_join.specs.declared.filled.Filled.{Filled}
@@ -152,7 +152,7 @@ module _ {old : Heap} {acct : Acct} {parts : List Filled} {t : Together} {object
   some_may_go = record { doomed = doomed; keeps = may_go }
 
 -- they went
-module _ {old : Heap} {acct : Acct} {parts : List Filled} {t : Together} {number object : ℕ} {made appended new : Heap} (k : KeepsToJoin old acct parts t)
+module _ {old : Heap} {acct : Acct} {parts : List Filled} {t : Together} {number object : ℕ} (made appended new : Heap) (k : KeepsToJoin old acct parts t)
     (c : CreatesObject acct number object old made) (e : AppendsEach object number (pieces_in t.clones) made appended)
     (d : DestroysEach (objects_of parts) appended new) where
   abbrev h : HasAppended old acct parts t object (pieces_in t.clones) [] appended
@@ -172,7 +172,7 @@ module _ {old : Heap} {acct : Acct} {parts : List Filled} {t : Together} {number
     others = t.others;
     tickets = h.tickets;
     more = t.more;
-    sources = went.1.doomed.sources;
+    sources = left_by t.clones (all_counted acct (pieces_in t.clones) t.sources);
     rest = t.rest;
   }
 
@@ -184,7 +184,8 @@ module _ {old : Heap} {acct : Acct} {parts : List Filled} {t : Together} {number
       let x : w.doomed.others ≡ t.others = w.same.1 in
       let q : w.doomed.queues ≡ record { acct = acct; tickets = h.tickets } ∷ t.more = w.same.2 in
       let r : w.doomed.rest ≡ t.rest = w.same.3 in
-      λ i. record { objects = a i ++ (o i ∷ x i); queues = q i; sources = w.doomed.sources; rest = r i }
+      let s : w.doomed.sources ≡ together.sources = sym (ap (λ (zs : List Standing). left_by zs w.doomed.sources) none) ∙ w.sources in
+      λ i. record { objects = a i ++ (o i ∷ x i); queues = q i; sources = s i; rest = r i }
 
   gone_few : length went.1.gone ≡ length (pieces_in t.clones) + length parts
   gone_few =
@@ -203,11 +204,11 @@ module _ {old : Heap} {acct : Acct} {parts : List Filled} {t : Together} {number
     addrs = h.addrs;
     each = h.each;
     tickets = h.tickets;
-    sources = went.1.doomed.sources;
     keeps = subst (KeepsStock new) stock_is went.1.keeps.keeps;
     gone = went.1.gone;
     few = gone_few;
     moves =
         went.1.moves ∙ ap (λ (ms : List Move). ms ++ gave went.1.gone) h.moves
         ∙ append_assoc old.moves (takes_clone object h.addrs) (gave went.1.gone);
+    spent = let s = h.spent in let w = went.1.spent in let n = gone_few in omega (arith, s, w, n);
   }

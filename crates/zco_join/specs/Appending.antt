@@ -34,6 +34,7 @@ pub record HasAppended (start : Heap) (acct : Acct) (parts : List Filled) (t : T
   pub queue : TellsQueue heap (record { acct = acct; tickets = tickets })
   pub more : All (TellsQueue heap) t.more
   pub moves : heap.moves ≡ start.moves ++ takes_clone object addrs
+  pub spent : start.spare ≤ heap.spare + (1 + length done)
   pub room : length left + length (pieces_in t.clones) + length parts ≤ heap.spare
 
 -- the next extents that are to come are those of this clone

@@ -9,13 +9,14 @@ use Rattle.sdr_model.specs.declared.accounts.Ticket.{Ticket}
 use Rattle.zco_obj.specs.Appending.{AppendsSource}
 use Rattle.zco_obj.specs.AppendStops.{AppendStops}
 use Rattle.zco_obj.specs.Destroying.{DestroysObject, DestroyStops}
-use Rattle.zco_obj.specs.Gone.{NamedSource}
+use Rattle.zco_obj.specs.Gone.{NamedSource, less_source}
 use Rattle.zco_obj.specs.Links.{piece_of}
 use Rattle.zco_obj.specs.Making.{CreatesObject, CreateStops}
 use Rattle.zco_obj.specs.declared.extent.ExtentPiece.{ExtentPiece}
 use Rattle.zco_part.specs.Cloning.{takes_clone}
 use Rattle.zco_part.specs.Naming.{IsWholeRow}
 use Rattle.zco_part.specs.Pieces.{extents_at, whole_row}
+use Rattle.zco_part.specs.Sources.{all_counted}
 use Rattle.zco_join.specs.Stocks.{CountsMore, KeepsStock, Queue, Standing, Stock}
 use Rattle.zco_join.specs.declared.filled.Filled.{Filled}
 
@@ -99,8 +100,14 @@ pub record SomeToJoin (heap : Heap) (acct : Acct) (parts : List Filled) : Type 0
   pub together : Together
   pub keeps : KeepsToJoin heap acct parts together
 
+-- the sources once the clones are gone: each counts their extents no more
+abbrev pub left_by : List Standing → List NamedSource → List NamedSource
+left_by [] sources = sources
+left_by (z ∷ zs) sources = left_by zs (map (less_source z.row.account z.row.extents) sources)
+
 -- The object was made, it got the clones' extents in order, and the clones were destroyed. So it has extents of what they named, its
--- part is its whole, and it stands in their place; the only blocks that were taken are its own and its extents'.
+-- part is its whole, and it stands in their place; the only blocks that were taken are its own and its extents', and each source counts
+-- its extents and those of the clones no more.
 pub record Joined (acct : Acct) (number : ℕ) (parts : List Filled) (t : Together) (object : ℕ) (old new : Heap) : Type 0 where
   pub made : Heap
   pub appended : Heap
@@ -110,18 +117,18 @@ pub record Joined (acct : Acct) (number : ℕ) (parts : List Filled) (t : Togeth
   pub addrs : List ℕ
   pub each : length addrs ≡ length (pieces_in t.clones)
   pub tickets : List Ticket
-  pub sources : List NamedSource
   pub keeps : KeepsStock new (stock_of acct (record {
       clones = record { addr = object; row = whole_row acct (extents_at addrs (pieces_in t.clones)) } ∷ [];
       others = t.others;
       tickets = tickets;
       more = t.more;
-      sources = sources;
+      sources = left_by t.clones (all_counted acct (pieces_in t.clones) t.sources);
       rest = t.rest;
     }))
   pub gone : List ℕ
   pub few : length gone ≡ length (pieces_in t.clones) + length parts
   pub moves : new.moves ≡ old.moves ++ (takes_clone object addrs ++ gave gone)
+  pub spent : old.spare ≤ new.spare + (1 + 2 * length (pieces_in t.clones) + length parts)
 
 -- so it is with whichever clones are kept
 pub record Joins (acct : Acct) (number : ℕ) (parts : List Filled) (old new : Heap) (object : ℕ) : Type 0 where

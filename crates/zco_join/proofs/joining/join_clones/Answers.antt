@@ -91,7 +91,8 @@ pub returns-clause-joined : goal.returns-clause-joined
 returns-clause-joined g c = record {
   joins = λ t k.
       let made = c.in_ok-object.ensures.made in
-      has_joined k made (c.in_ok-append_clones.ensures.appended.appends _ c.args.acct t (has_begun k made)) c.in_ok-destroy_clones.ensures.destroyed;
+      has_joined (g.O.HasHeap.heap c.create.new.o) (g.O.HasHeap.heap c.append_clones.new.o) (g.O.HasHeap.heap c.destroy_clones.new.o) k made
+      (c.in_ok-append_clones.ensures.appended.appends _ c.args.acct t (has_begun k made)) c.in_ok-destroy_clones.ensures.destroyed;
 }
 
 pub returns-clause-works : goal.returns-clause-works
