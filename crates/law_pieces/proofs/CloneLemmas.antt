@@ -1,5 +1,5 @@
 -- An object that stands among others is cloned.
-use Rattle.std.proofs.Common.{◌≡◌, ◌+◌, ◌-◌, ◌≤◌, ◌<◌, ◌^◌, ℕ, Bool, true, false, cond, List, [], ◌∷◌, ◌++◌, length, min, refl, sym, ap, ◌∙◌, subst, arith, append_assoc}
+use Rattle.std.proofs.Common.{◌≡◌, ◌+◌, ◌-◌, ◌≤◌, ◌<◌, ◌^◌, ℕ, Bool, true, false, cond, List, [], ◌∷◌, ◌++◌, length, min, Option, Some, None, refl, sym, ap, ◌∙◌, subst, arith, append_assoc}
 use Rattle.std.specs.Prelude.{◌==◌, All, map, if◌then◌else◌}
 use Rattle.std.proofs.lemmas.List.Elements.{All-cons, All-head, All-nil, All-tail}
 use Rattle.sdr_base.specs.Entries.{BlocksAre, Entries}
@@ -17,14 +17,16 @@ use Rattle.zco_obj.specs.Uses.{AreNamed, CountsUses, IsThere}
 use Rattle.zco_obj.specs.declared.extent.ExtentPiece.{ExtentPiece}
 use Rattle.zco_part.specs.Cloning.{ClonesPart, KeepsToClone}
 use Rattle.zco_part.specs.Pieces.{asked, cut, extents_at, filled, pieces, whole_row}
-use Rattle.zco_part.specs.Sources.{MayCount, all_counted}
+use Rattle.zco_part.specs.Sources.{MayCount, all_counted, counted}
 use Rattle.zco_join.specs.Stocks.{CountsMore, KeepsStock, Queue, Standing, TellsQueue, extents_for, objects_entries, own_extents, queues_entries}
 use Rattle.zco_join.proofs.AppendLemmas.{all_tell, pays_first, pays_last, pays_queue}
 use Rattle.zco_join.proofs.ClonesLemmas.{PieceFits, all_both, own_all}
-use Rattle.zco_join.proofs.CountedLemmas.{all_behind, all_front, all_joined, may_count, named_placed}
+use Rattle.zco_join.proofs.CountedLemmas.{all_front, all_joined, all_less, may_count, named_placed}
 use Rattle.zco_join.proofs.TurnLemmas.{turn}
 use Rattle.zco_join.proofs.WholeLemmas.{length-extents_at, whole_fits}
-use Rattle.zco_pieces.proofs.FillLemmas.{asked_for, clone_stands, is_cloned, pieces_few, sources_then, tickets_then}
+use Rattle.zco_pieces.proofs.FillLemmas.{clone_spare, clone_stands, is_cloned, pieces_few, pieces_most, tickets_then}
+use Rattle.law_pieces.specs.Texts.{HasAllBytes, HasBytes, Holds}
+use Rattle.law_pieces.proofs.HoldLemmas.{all_kept, counted_same}
 
 -- what holds of what extents name, and of each cut of it, holds of what is asked for
 pub all_pieces_of : (P : ExtentPiece → Type 0) → ((from to : ℕ) (p : ExtentPiece) → P p → P (cut from to p)) → (from to : ℕ) (es : List ExtentRow) →
@@ -179,4 +181,54 @@ module _ {old : Heap} {z : Standing} {os : List Standing} {tickets : List Ticket
           All-cons (TellsQueue new) (record { acct = acct; tickets = tickets_then c may }) qs (pays_queue p told)
           (all_tell (pays_first p) (pays_last p) qs (All-tail (TellsQueue old) q qs k.queues));
       named = λ other. named_placed acct c.addrs ps each few other (extents_for other (z ∷ os)) sources counts_here pieces_there (k.named other);
+    }
+
+extents_have : (ss : List NamedSource) (addrs : List ℕ) (ps : List ExtentPiece) → All (λ p. HasBytes p (source_at p.of ss)) ps →
+    All (λ e. HasBytes (piece_of e) (source_at e.source ss)) (extents_at addrs ps)
+extents_have ss [] ps all = All-nil (λ (e : ExtentRow). HasBytes (piece_of e) (source_at e.source ss))
+extents_have ss (a ∷ as') [] all = All-nil (λ (e : ExtentRow). HasBytes (piece_of e) (source_at e.source ss))
+extents_have ss (a ∷ as') (p ∷ ps) all =
+    let P : ExtentPiece → Type 0 = λ x. HasBytes x (source_at x.of ss) in
+    All-cons (λ (e : ExtentRow). HasBytes (piece_of e) (source_at e.source ss)) (record { addr = a; source = p.of; offset = p.offset; length = p.bytes })
+    (extents_at as' ps) (All-head P p ps all) (extents_have ss as' ps (All-tail P p ps all))
+
+cut_has : (ss : List NamedSource) (from to : ℕ) (p : ExtentPiece) → HasBytes p (source_at p.of ss) → HasBytes (cut from to p) (source_at p.of ss)
+cut_has ss from to p h = by (source_at p.of ss) h
+  where
+    by : (o : Option NamedSource) → HasBytes p o → HasBytes (cut from to p) o
+    by None h = absurd h
+    by (Some s) h = (h.0, h.1, let i = h.2 in omega (arith, i))
+
+-- so the stock is held, with the clone in front
+pub holds_clone : {old : Heap} {z : Standing} {os : List Standing} {tickets : List Ticket} {qs : List Queue} {sources : List NamedSource} {rest : Entries}
+    {most room number offset bytes clone : ℕ} {new : Heap} →
+    (h : Holds old most (room + (1 + most)) (record { objects = z ∷ os; queues = record { acct = z.row.account; tickets = tickets } ∷ qs; sources = sources; rest = rest })) →
+    (c : ClonesPart z.addr number offset bytes old new clone) →
+    Holds new most room (record {
+        objects = record { addr = clone; row = whole_row z.row.account (extents_at c.addrs (asked offset bytes z.row)) } ∷ z ∷ os;
+        queues = record { acct = z.row.account; tickets = tickets_then c (to_clone h.keeps h.counts) } ∷ qs;
+        sources = all_counted z.row.account (asked offset bytes z.row) sources;
+        rest = rest;
+      })
+holds_clone {old} {z} {os} {tickets} {qs} {sources} {rest} {most} {room} {number} {offset} {bytes} {clone} {new} h c =
+    let may = to_clone h.keeps h.counts in
+    let A = asked offset bytes z.row in
+    let n = pieces_most (z.row.part_offset + offset) (z.row.part_offset + offset + bytes) z.row.extents in
+    let S : Standing → Type 0 = λ x. length x.row.extents ≤ most in
+    let m = All-head S z os h.most in
+    let few : length A ≤ most = omega (arith, n, m) in
+    let l = length-extents_at c.addrs A (is_cloned c may).each in
+    let B = HasAllBytes sources in
+    let have : All (λ p. HasBytes p (source_at p.of sources)) A =
+    all_pieces_of (λ p. HasBytes p (source_at p.of sources)) (cut_has sources) (z.row.part_offset + offset) (z.row.part_offset + offset + bytes) z.row.extents
+    (All-head B z os h.bytes) in
+    let own : Standing = record { addr = clone; row = whole_row z.row.account (extents_at c.addrs A) } in
+    record {
+      keeps = clone_step h.keeps c h.counts (omega (arith, few));
+      most = All-cons S own (z ∷ os) (omega (arith, few, l)) h.most;
+      bytes =
+          all_kept (counted z.row.account A) (counted_same z.row.account A) sources (own ∷ z ∷ os)
+          (All-cons B own (z ∷ os) (extents_have sources c.addrs A have) h.bytes);
+      counts = all_less z.row.account A (room + (1 + most)) room sources (omega (arith, few)) h.counts;
+      spare = let s = clone_spare c may in let r = h.spare in omega (arith, s, r, few);
     }

@@ -1,1 +1,4 @@
 pub mod StockLemmas
+pub mod HoldLemmas
+pub mod CloneLemmas
+pub mod GapLemmas
