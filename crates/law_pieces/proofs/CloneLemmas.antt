@@ -75,19 +75,19 @@ module _ {old : Heap} {z : Standing} {os : List Standing} {tickets : List Ticket
   abbrev q : Queue
   q = record { acct = acct; tickets = tickets }
 
-  told : TellsQueue old q
+  pub told : TellsQueue old q
   told = All-head (TellsQueue old) q qs k.queues
 
-  fits : ObjectFits z.row
+  pub fits : ObjectFits z.row
   fits = All-head (λ (x : Standing). ObjectFits x.row) z os k.fits
 
-  named : AreNamed acct (z.row.extents ++ extents_for acct os) sources
+  pub named : AreNamed acct (z.row.extents ++ extents_for acct os) sources
   named = subst (λ (es : List ExtentRow). AreNamed acct (es ++ extents_for acct os) sources) (own_all z) (k.named acct)
 
   pub there_own : All (λ e. IsThere (source_at e.source sources)) z.row.extents
   there_own = all_front (λ (e : ExtentRow). IsThere (source_at e.source sources)) z.row.extents (extents_for acct os) named.there
 
-  stands : BlocksAre old.blocks (object_entries z.addr z.row ++ (queue_entries acct tickets ++ (sources_entries sources
+  pub stands : BlocksAre old.blocks (object_entries z.addr z.row ++ (queue_entries acct tickets ++ (sources_entries sources
       ++ (objects_entries os ++ (queues_entries qs ++ rest)))))
   stands =
       let O = object_entries z.addr z.row in
@@ -100,7 +100,7 @@ module _ {old : Heap} {z : Standing} {os : List Standing} {tickets : List Ticket
       k.stands in
       turn (4 ∷ 3 ∷ 2 ∷ []) (O ∷ X ∷ Q ∷ M ∷ S ∷ []) rest one
 
-  pub to_clone : {n : ℕ} → All (CountsMore n) sources → KeepsToClone old z.addr z.row tickets sources
+  abbrev pub to_clone : {n : ℕ} → All (CountsMore n) sources → KeepsToClone old z.addr z.row tickets sources
   to_clone {n} counts = record {
     beside = record {
       keeps = record {
@@ -127,48 +127,48 @@ module _ {old : Heap} {z : Standing} {os : List Standing} {tickets : List Ticket
     abbrev may : KeepsToClone old z.addr z.row tickets sources
     may = to_clone counts
 
-    abbrev pub ps : List ExtentPiece
-    ps = asked offset bytes z.row
+    abbrev pub asked_now : List ExtentPiece
+    asked_now = asked offset bytes z.row
 
     abbrev pub cloned : Standing
-    cloned = record { addr = clone; row = whole_row acct (extents_at c.addrs ps) }
+    cloned = record { addr = clone; row = whole_row acct (extents_at c.addrs asked_now) }
 
-    each : length c.addrs ≡ length ps
+    each : length c.addrs ≡ length asked_now
     each = (is_cloned c may).each
 
-    few : length ps < 2 ^ 22
+    few : length asked_now < 2 ^ 22
     few = pieces_few c may
 
-    pieces_fit : All PieceFits ps
+    pieces_fit : All PieceFits asked_now
     pieces_fit =
         all_pieces_of PieceFits cut_fits (z.row.part_offset + offset) (z.row.part_offset + offset + bytes) z.row.extents
         (row_pieces_fit z.row.extents fits.extents)
 
-    pieces_there : All (λ p. IsThere (source_at p.of sources)) ps
+    pieces_there : All (λ p. IsThere (source_at p.of sources)) asked_now
     pieces_there =
         all_pieces_of (λ p. IsThere (source_at p.of sources)) (λ from to p h. h) (z.row.part_offset + offset) (z.row.part_offset + offset + bytes) z.row.extents
         there_own
 
     cloned_fits : ObjectFits cloned.row
     cloned_fits =
-        whole_fits acct (extents_at c.addrs ps)
-        (placed_fit (IsFree old.blocks) (λ addr f. f.small) c.addrs ps c.new_blocks pieces_fit)
-        (let l = length-extents_at c.addrs ps each in let f = few in omega (arith, l, f))
+        whole_fits acct (extents_at c.addrs asked_now)
+        (placed_fit (IsFree old.blocks) (λ addr f. f.small) c.addrs asked_now c.new_blocks pieces_fit)
+        (let l = length-extents_at c.addrs asked_now each in let f = few in omega (arith, l, f))
 
-    counts_here : All (CountsMore (length ps)) sources
+    counts_here : All (CountsMore (length asked_now)) sources
     counts_here =
-        all_both (CountsMore n) (CountsMore n) (CountsMore (length ps))
+        all_both (CountsMore n) (CountsMore n) (CountsMore (length asked_now))
         (λ s a b. record { inbound = let i = a.inbound in omega (arith, i, some); outbound = let o = a.outbound in omega (arith, o, some) }) sources counts counts
 
     pub clone_step : KeepsStock new (record { objects = cloned ∷ z ∷ os; queues = record { acct = acct; tickets = tickets_then c may } ∷ qs;
-        sources = all_counted acct ps sources; rest = rest })
+        sources = all_counted acct asked_now sources; rest = rest })
     clone_step = record {
       stands =
           let O = object_entries z.addr z.row in
           let X = objects_entries os in
           let Q = queue_entries acct (tickets_then c may) in
           let M = queues_entries qs in
-          let S = sources_entries (all_counted acct ps sources) in
+          let S = sources_entries (all_counted acct asked_now sources) in
           let C = object_entries clone cloned.row in
           let one : BlocksAre new.blocks (C ++ (O ++ (X ++ (Q ++ (M ++ (S ++ rest)))))) =
           turn (2 ∷ 5 ∷ 3 ∷ 5 ∷ 4 ∷ 5 ∷ []) (O ∷ Q ∷ S ∷ C ∷ X ∷ M ∷ []) rest (clone_stands c may) in
@@ -180,7 +180,7 @@ module _ {old : Heap} {z : Standing} {os : List Standing} {tickets : List Ticket
           let p = (is_cloned c may).pays in
           All-cons (TellsQueue new) (record { acct = acct; tickets = tickets_then c may }) qs (pays_queue p told)
           (all_tell (pays_first p) (pays_last p) qs (All-tail (TellsQueue old) q qs k.queues));
-      named = λ other. named_placed acct c.addrs ps each few other (extents_for other (z ∷ os)) sources counts_here pieces_there (k.named other);
+      named = λ other. named_placed acct c.addrs asked_now each few other (extents_for other (z ∷ os)) sources counts_here pieces_there (k.named other);
     }
 
 extents_have : (ss : List NamedSource) (addrs : List ℕ) (ps : List ExtentPiece) → All (λ p. HasBytes p (source_at p.of ss)) ps →
@@ -215,7 +215,7 @@ holds_clone {old} {z} {os} {tickets} {qs} {sources} {rest} {most} {room} {number
     let A = asked offset bytes z.row in
     let n = pieces_most (z.row.part_offset + offset) (z.row.part_offset + offset + bytes) z.row.extents in
     let S : Standing → Type 0 = λ x. length x.row.extents ≤ most in
-    let m = All-head S z os h.most in
+    let m = All-head S z os h.short in
     let few : length A ≤ most = omega (arith, n, m) in
     let l = length-extents_at c.addrs A (is_cloned c may).each in
     let B = HasAllBytes sources in
@@ -225,7 +225,7 @@ holds_clone {old} {z} {os} {tickets} {qs} {sources} {rest} {most} {room} {number
     let own : Standing = record { addr = clone; row = whole_row z.row.account (extents_at c.addrs A) } in
     record {
       keeps = clone_step h.keeps c h.counts (omega (arith, few));
-      most = All-cons S own (z ∷ os) (omega (arith, few, l)) h.most;
+      short = All-cons S own (z ∷ os) (omega (arith, few, l)) h.short;
       bytes =
           all_kept (counted z.row.account A) (counted_same z.row.account A) sources (own ∷ z ∷ os)
           (All-cons B own (z ∷ os) (extents_have sources c.addrs A have) h.bytes);

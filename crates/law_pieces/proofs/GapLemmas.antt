@@ -33,14 +33,14 @@ module _ (z : Standing) (qs : List Queue) (rest : Entries) where
   }
 
   -- a clone is told among the others
-  to_others : {heap : Heap} {most room : ℕ} {e : Standing} {clones others : List Standing} {tickets : List Ticket} {sources : List NamedSource} →
+  to_others : {heap : Heap} {most room : ℕ} (e : Standing) (clones others : List Standing) {tickets : List Ticket} {sources : List NamedSource} →
       Holds heap most room (stock (e ∷ clones) others tickets sources) → Holds heap most room (stock clones (e ∷ others) tickets sources)
-  to_others {e = e} {clones = clones} {others = others} h =
+  to_others e clones others h =
       holds_moved (e ∷ []) (z ∷ clones) others (holds_moved (z ∷ []) (e ∷ []) (clones ++ others) h)
 
-  to_clones : {heap : Heap} {most room : ℕ} {e : Standing} {clones others : List Standing} {tickets : List Ticket} {sources : List NamedSource} →
+  to_clones : {heap : Heap} {most room : ℕ} (e : Standing) (clones others : List Standing) {tickets : List Ticket} {sources : List NamedSource} →
       Holds heap most room (stock clones (e ∷ others) tickets sources) → Holds heap most room (stock (e ∷ clones) others tickets sources)
-  to_clones {e = e} {clones = clones} {others = others} h =
+  to_clones e clones others h =
       holds_moved (e ∷ []) (z ∷ []) (clones ++ others) (holds_moved (z ∷ clones) (e ∷ []) others h)
 
   -- what is held once parts were filled
@@ -69,7 +69,8 @@ module _ (z : Standing) (qs : List Queue) (rest : Entries) where
     fill_all [] [] old new room (e ∷ clones) others tickets sources a h f = absurd a
     fill_all [] (q ∷ qs') old new room clones others tickets sources a h f = absurd f
     fill_all (p ∷ ps) [] old new room clones others tickets sources a h f = absurd f
-    fill_all (p ∷ ps) (q ∷ qs') old new room clones others tickets sources a h f = by (p.object == 0) refl a f.1
+    fill_all (p ∷ ps) (q ∷ qs') old new room clones others tickets sources a h f =
+        by (p.object == 0) refl a f.1 (λ cs os ts ss a' h'. fill_all ps qs' f.0 new room cs os ts ss a' h' f.2)
       where
         long : room_for most (p ∷ ps) ≡ (1 + most) + room_for most ps
         long = sum_by-cons (λ (x : Filled). 1 + most) p ps
@@ -82,28 +83,30 @@ module _ (z : Standing) (qs : List Queue) (rest : Entries) where
           tickets = w.tickets;
           sources = w.sources;
           are = (addr, is, w.are);
-          holds = to_clones w.holds;
+          holds = to_clones e w.clones others w.holds;
         }
 
         by : (b : Bool) → (p.object == 0) ≡ b → AreClones (cond (not b) (p ∷ kept ps) (kept ps)) clones →
-            MatchBool b (FillsGap z.addr number offset p q old f.0) ((q ≡ p) × (f.0 ≡ old)) → FilledSo (q ∷ qs') others most room new
-        by true e are g =
+            MatchBool b (FillsGap z.addr number offset p q old f.0) ((q ≡ p) × (f.0 ≡ old)) →
+            ((cs os : List Standing) (ts : List Ticket) (ss : List NamedSource) → AreClones (kept ps) cs →
+            Holds f.0 most (room + room_for most ps) (stock cs os ts ss) → FilledSo qs' os most room new) → FilledSo (q ∷ qs') others most room new
+        by true e are g again =
             let c = g.clones in
             let h' : Holds old most ((room + room_for most ps) + (1 + most)) (stock clones others tickets sources) =
             holds_less (omega (arith, long)) (omega arith) h in
             let made : Standing = record { addr = q.object; row = whole_row z.row.account (extents_at c.addrs (asked (p.offset - offset) p.length z.row)) } in
             let held = holds_clone h' c in
             front made refl refl
-            (fill_all ps qs' f.0 new room clones (made ∷ others) (tickets_then c (to_clone h'.keeps h'.counts))
+            (again clones (made ∷ others) (tickets_then c (to_clone h'.keeps h'.counts))
             (all_counted z.row.account (asked (p.offset - offset) p.length z.row) sources) are
-            (holds_moved (made ∷ []) (z ∷ clones) others held) f.2)
-        by false e are g = next clones are h
+            (holds_moved (made ∷ []) (z ∷ clones) others held))
+        by false e are g again = next clones are h
           where
             next : (xs : List Standing) → AreClones (p ∷ kept ps) xs → Holds old most (room + room_for most (p ∷ ps)) (stock xs others tickets sources) →
                 FilledSo (q ∷ qs') others most room new
             next [] a' h' = absurd a'
             next (x ∷ xs) a' h' =
                 front x (a'.0 ∙ ap (λ (y : Filled). y.object) (sym g.0)) a'.1
-                (fill_all ps qs' f.0 new room xs (x ∷ others) tickets sources a'.2
+                (again xs (x ∷ others) tickets sources a'.2
                 (subst (λ (heap : Heap). Holds heap most (room + room_for most ps) (stock xs (x ∷ others) tickets sources)) (sym g.1)
-                (holds_less (omega (arith, long)) (omega arith) (to_others h'))) f.2)
+                (holds_less (omega (arith, long)) (omega arith) (to_others x xs others h'))))

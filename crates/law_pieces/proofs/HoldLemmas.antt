@@ -31,27 +31,28 @@ tickets_by i o accts.Outbound = o
 abbrev pub before_other : Acct → (Acct → List Ticket) → List Queue
 before_other acct tickets = record { acct = acct; tickets = tickets acct } ∷ record { acct = other acct; tickets = tickets (other acct) } ∷ []
 
-module _ {heap : Heap} {objects : List Standing} {sources : List NamedSource} {rest : Entries} where
-  abbrev with_queues : List Queue → Stock
-  with_queues queues = record { objects = objects; queues = queues; sources = sources; rest = rest }
+-- a stock with other queues
+abbrev pub with_queues : Stock → List Queue → Stock
+with_queues s queues = record s { queues = queues }
 
-  pub queue_first : (acct : Acct) (tickets : Acct → List Ticket) → KeepsStock heap (with_queues (both tickets)) →
-      KeepsStock heap (with_queues (before_other acct tickets))
+module _ {heap : Heap} (s : Stock) where
+  pub queue_first : (acct : Acct) (tickets : Acct → List Ticket) → KeepsStock heap (with_queues s (both tickets)) →
+      KeepsStock heap (with_queues s (before_other acct tickets))
   queue_first accts.Inbound tickets k = k
   queue_first accts.Outbound tickets k =
       queues_swapped (record { acct = accts.Inbound; tickets = tickets accts.Inbound }) (record { acct = accts.Outbound; tickets = tickets accts.Outbound }) k
 
   pub queues_back : (acct : Acct) (ts us : List Ticket) →
-      KeepsStock heap (with_queues (record { acct = acct; tickets = ts } ∷ record { acct = other acct; tickets = us } ∷ [])) →
-      (tickets : Acct → List Ticket) × KeepsStock heap (with_queues (both tickets))
+      KeepsStock heap (with_queues s (record { acct = acct; tickets = ts } ∷ record { acct = other acct; tickets = us } ∷ [])) →
+      (tickets : Acct → List Ticket) × KeepsStock heap (with_queues s (both tickets))
   queues_back accts.Inbound ts us k = (tickets_by ts us, k)
   queues_back accts.Outbound ts us k =
       (tickets_by us ts, queues_swapped (record { acct = accts.Outbound; tickets = ts }) (record { acct = accts.Inbound; tickets = us }) k)
 
   -- with the stock told in another way
-  pub holds_as : {most room : ℕ} {queues : List Queue} (queues' : List Queue) → KeepsStock heap (with_queues queues') →
-      Holds heap most room (with_queues queues) → Holds heap most room (with_queues queues')
-  holds_as queues' k h = record { keeps = k; most = h.most; bytes = h.bytes; counts = h.counts; spare = h.spare }
+  pub holds_as : {most room : ℕ} (queues : List Queue) → KeepsStock heap (with_queues s queues) →
+      Holds heap most room s → Holds heap most room (with_queues s queues)
+  holds_as queues k h = record { keeps = k; short = h.short; bytes = h.bytes; counts = h.counts; spare = h.spare }
 
 -- objects that stand behind others stand before them
 pub holds_moved : {heap : Heap} {most room : ℕ} {queues : List Queue} {sources : List NamedSource} {rest : Entries} (as' bs cs : List Standing) →
@@ -59,7 +60,7 @@ pub holds_moved : {heap : Heap} {most room : ℕ} {queues : List Queue} {sources
     Holds heap most room (record { objects = bs ++ (as' ++ cs); queues = queues; sources = sources; rest = rest })
 holds_moved {most = most} {sources = sources} as' bs cs h = record {
   keeps = objects_moved as' bs cs h.keeps;
-  most = all_moved (λ (z : Standing). length z.row.extents ≤ most) as' bs cs h.most;
+  short = all_moved (λ (z : Standing). length z.row.extents ≤ most) as' bs cs h.short;
   bytes = all_moved (HasAllBytes sources) as' bs cs h.bytes;
   counts = h.counts;
   spare = h.spare;
@@ -75,7 +76,7 @@ counts_fewer n m ss le all = All-weaker (CountsMore n) (CountsMore m) (λ s c. c
 pub holds_less : {heap : Heap} {most most' room room' : ℕ} {s : Stock} → room' ≤ room → most ≤ most' → Holds heap most room s → Holds heap most' room' s
 holds_less {most = most} {most' = most'} {room = room} {room' = room'} {s = s} le more h = record {
   keeps = h.keeps;
-  most = All-weaker (λ (z : Standing). length z.row.extents ≤ most) (λ (z : Standing). length z.row.extents ≤ most') (λ z l. omega (arith, l, more)) s.objects h.most;
+  short = All-weaker (λ (z : Standing). length z.row.extents ≤ most) (λ (z : Standing). length z.row.extents ≤ most') (λ z l. omega (arith, l, more)) s.objects h.short;
   bytes = h.bytes;
   counts = counts_fewer room room' s.sources le h.counts;
   spare = let r = h.spare in omega (arith, r, le);

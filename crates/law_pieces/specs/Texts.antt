@@ -26,7 +26,7 @@ HasAllBytes sources z = All (λ e. HasBytes (piece_of e) (source_at e.source sou
 -- so many moves, and for as many extents more of each source.
 pub record Holds (heap : Heap) (most room : ℕ) (s : Stock) : Type 0 where
   pub keeps : KeepsStock heap s
-  pub most : All (λ z. length z.row.extents ≤ most) s.objects
+  pub short : All (λ z. length z.row.extents ≤ most) s.objects
   pub bytes : All (HasAllBytes s.sources) s.objects
   pub counts : All (CountsMore room) s.sources
   pub spare : room ≤ heap.spare
@@ -55,7 +55,7 @@ stock_of x = record { objects = x.clones ++ x.others; queues = both x.tickets; s
 pub record KeepsText (heap : Heap) (parts : List Filled) (loose : List ℕ) (most room : ℕ) (x : Beside) : Type 0 where
   pub holds : Holds heap most room (stock_of x)
   pub clones : AreClones parts x.clones
-  pub loose : map (λ z. z.addr) x.others ≡ loose
+  pub at : map (λ z. z.addr) x.others ≡ loose
 
 -- some are kept so
 pub record SomeText (heap : Heap) (parts : List Filled) (loose : List ℕ) (most room : ℕ) : Type 0 where
