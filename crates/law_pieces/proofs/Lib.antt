@@ -2,3 +2,5 @@ pub mod StockLemmas
 pub mod HoldLemmas
 pub mod CloneLemmas
 pub mod GapLemmas
+pub mod PayloadLemmas
+pub mod TextLemmas
