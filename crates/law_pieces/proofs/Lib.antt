@@ -4,3 +4,4 @@ pub mod CloneLemmas
 pub mod GapLemmas
 pub mod PayloadLemmas
 pub mod TextLemmas
+pub mod AddedLemmas

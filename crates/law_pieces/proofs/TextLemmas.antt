@@ -70,8 +70,8 @@ find_standing addr (b ∷ before) behind (z ∷ zs) e =
     }
 
 -- An object is among those beside a text.
-module _ {heap : Heap} {parts : List Filled} {object : ℕ} (before behind : List ℕ) {most room : ℕ} (t : SomeText heap parts (before ++ (object ∷ behind)) most room) where
-  abbrev x : Beside
+module _ {heap : Heap} {parts : List Filled} (object : ℕ) (before behind : List ℕ) {most room : ℕ} (t : SomeText heap parts (before ++ (object ∷ behind)) most room) where
+  abbrev pub x : Beside
   x = t.beside
 
   pub spot : Spot object before behind x.others
@@ -146,13 +146,13 @@ some_text {heap} {most} {room} parts loose clones others acct ts us sources rest
     }
 
 -- a piece of it was cut
-pub text_cut : {old new : Heap} {parts : List Filled} {object : ℕ} (before behind : List ℕ) {most room number offset bytes clone : ℕ} →
+pub text_cut : {old new : Heap} {parts : List Filled} (object : ℕ) (before behind : List ℕ) {most room number offset bytes clone : ℕ} →
     SomeText old parts (before ++ (object ∷ behind)) most (room + (1 + most)) → ClonesPart object number offset bytes old new clone →
     SomeText new parts (clone ∷ (object ∷ (before ++ behind))) most room
-text_cut {old} {new} {parts} {object} before behind {most} {room} {number} {offset} {bytes} {clone} t c =
-    let f = focused before behind t in
+text_cut {old} {new} {parts} object before behind {most} {room} {number} {offset} {bytes} {clone} t c =
+    let f = focused object before behind t in
     let x = t.beside in
-    let s = spot before behind t in
+    let s = spot object before behind t in
     let z = s.here in
     let c' : ClonesPart z.addr number offset bytes old new clone = subst (λ a. ClonesPart a number offset bytes old new clone) (sym s.at) c in
     let made : Standing = record { addr = clone; row = whole_row z.row.account (extents_at c'.addrs (asked offset bytes z.row)) } in

@@ -1,5 +1,5 @@
 -- What stands in a heap beside a text that is rebuilt, from an empty heap on.
-use Rattle.std.specs.Prelude.{◌≡◌, ◌+◌, ◌≤◌, ℕ, List, [], ◌∷◌, ◌++◌, length, map, All, Option, None, Some}
+use Rattle.std.specs.Prelude.{◌≡◌, ◌+◌, ◌*◌, ◌≤◌, ℕ, List, [], ◌∷◌, ◌++◌, length, map, All, Option, None, Some}
 use Rattle.sdr_base.specs.Entries.{Entries}
 use Rattle.sdr_base.specs.Objects.{Heap}
 use Rattle.sdr_base.specs.declared.account.Acct.{Acct}
@@ -61,3 +61,10 @@ pub record KeepsText (heap : Heap) (parts : List Filled) (loose : List ℕ) (mos
 pub record SomeText (heap : Heap) (parts : List Filled) (loose : List ℕ) (most room : ℕ) : Type 0 where
   pub beside : Beside
   pub keeps : KeepsText heap parts loose most room beside
+
+-- so many moves are enough to add a piece to a text of so many parts at most, and to make one object of it
+abbrev pub room_to_add : ℕ → ℕ → ℕ
+room_to_add most n = (2 * n + 1) * (1 + most)
+
+abbrev pub room_to_join : ℕ → ℕ → ℕ
+room_to_join most n = 1 + 2 * (n * most) + n
