@@ -3,31 +3,33 @@ use Rattle.std.proofs.Common.{◌≡◌, ◌≢◌, ◌+◌, ◌-◌, ◌*◌, �
 use Rattle.std.specs.Prelude.{◌==◌, All, filter, flat_map, map, max, min, nat_lt, not, sum_by, if◌then◌else◌}
 use Rattle.std.proofs.lemmas.Bool.{ne_eqb}
 use Rattle.std.proofs.lemmas.List.{length-map}
-use Rattle.std.proofs.lemmas.List.Elements.{All-cons, All-head, All-nil, All-tail}
+use Rattle.std.proofs.lemmas.List.Elements.{All-cons, All-head, All-nil, All-tail, All-weaker}
 use Rattle.std.proofs.lemmas.List.Sums.{sum_by-append, sum_by-cons}
 use Rattle.sdr_base.specs.Blocks.{Blocks}
 use Rattle.sdr_base.specs.Entries.{BlocksAre, Entries}
 use Rattle.sdr_base.specs.Objects.{Heap}
-use Rattle.sdr_base.specs.ZcoObjects.{ObjectRow, capsule_entries, extent_entries, object_block, object_entries}
+use Rattle.sdr_base.specs.ZcoObjects.{ExtentRow, ObjectRow, capsule_entries, extent_entries, object_block, object_entries}
 use Rattle.sdr_base.specs.declared.account.Acct.{Acct}
 use Rattle.sdr_base.proofs.StandingLemmas.{nonzero}
 use Rattle.sdr_model.specs.declared.accounts.Ticket.{Ticket}
-use Rattle.zco_obj.specs.Gone.{NamedSource, sources_entries}
+use Rattle.zco_obj.specs.Gone.{NamedSource, source_at, sources_entries}
 use Rattle.zco_obj.specs.Links.{piece_of}
+use Rattle.zco_obj.specs.declared.extent.ExtentPiece.{ExtentPiece}
 use Rattle.zco_part.specs.Cloning.{KeepsToClone}
 use Rattle.zco_part.specs.Pieces.{asked, extents_at, whole_row}
-use Rattle.zco_part.specs.Sources.{all_counted}
-use Rattle.zco_join.specs.Joining.{AreClones, Joins, KeepsToJoin, SomeToJoin, Together, pieces_in}
+use Rattle.zco_part.specs.Sources.{all_counted, counted}
+use Rattle.zco_join.specs.Joining.{AreClones, Joins, KeepsToJoin, SomeToJoin, Together, left_by, pieces_in}
 use Rattle.zco_join.specs.Stocks.{CountsMore, KeepsStock, Queue, Standing, Stock, objects_entries, queues_entries}
 use Rattle.zco_join.specs.declared.filled.Filled.{Filled}
-use Rattle.zco_join.proofs.CountedLemmas.{all_front, all_less}
+use Rattle.zco_join.proofs.CountedLemmas.{all_behind, all_front, all_joined, all_less, all_mapped}
 use Rattle.zco_join.proofs.ClonesLemmas.{clones_length}
 use Rattle.zco_join.proofs.WholeLemmas.{length-extents_at}
 use Rattle.zco_pieces.specs.Adding.{AddsPiece, FillsParts, IsToAdd, has_clone, moves_to_fill}
 use Rattle.zco_pieces.specs.Places.{Rebuilt, gap, opened}
 use Rattle.zco_pieces.specs.declared.piece.Piece.{Piece}
 use Rattle.zco_pieces.proofs.FillLemmas.{fills_length, pieces_most}
-use Rattle.law_pieces.specs.Texts.{HasAllBytes, Holds, SomeText, both, room_to_add, room_to_join, stock_of}
+use Rattle.law_pieces.specs.Texts.{HasAllBytes, HasBytes, Holds, SomeText, both, room_to_add, room_to_join, stock_of}
+use Rattle.law_pieces.proofs.CloneLemmas.{extents_have}
 use Rattle.law_pieces.proofs.GapLemmas.{FilledSo, fill_all, room_for}
 use Rattle.law_pieces.proofs.HoldLemmas.{all_kept, before_other, counted_same, counts_fewer, holds_less, holds_moved, left_bytes, left_counts, other, queue_first}
 use Rattle.law_pieces.proofs.TextLemmas.{Spot, focused, may_clone, short, some_text, spot}
@@ -216,3 +218,44 @@ module _ {heap : Heap} {parts : List Filled} {loose : List ℕ} {most room : ℕ
 
   pub some_to_join : n * most < 2 ^ 22 → room_to_join most n ≤ room → SomeToJoin heap acct parts
   some_to_join low enough = record { together = together; keeps = to_join low enough }
+
+-- what clones name, the sources have
+pieces_have : (ss : List NamedSource) (zs : List Standing) → All (HasAllBytes ss) zs → All (λ p. HasBytes p (source_at p.of ss)) (pieces_in zs)
+pieces_have ss [] all = All-nil (λ (p : ExtentPiece). HasBytes p (source_at p.of ss))
+pieces_have ss (z ∷ zs) all =
+    let P : ExtentPiece → Type 0 = λ p. HasBytes p (source_at p.of ss) in
+    all_joined P (map piece_of z.row.extents) (pieces_in zs)
+    (all_mapped (λ (e : ExtentRow). HasBytes (piece_of e) (source_at e.source ss)) P piece_of (λ e h. h) z.row.extents (All-head (HasAllBytes ss) z zs all))
+    (pieces_have ss zs (All-tail (HasAllBytes ss) z zs all))
+
+-- the clones became one object
+pub text_joined : {old new : Heap} {parts : List Filled} {loose : List ℕ} {most room number object : ℕ} (n : ℕ) (acct : Acct) →
+    SomeText old parts loose most (room + room_to_join most n) → length parts ≤ n → n * most < 2 ^ 22 → Joins acct number parts old new object →
+    SomeText new [] (object ∷ loose) (most + n * most) room
+text_joined {old} {new} {parts} {loose} {most} {room} {number} {object} n acct t few low joins =
+    let x = t.beside in
+    let k = t.keeps.holds in
+    let A = pieces_in x.clones in
+    let j = joins.joins (together n acct t few) (to_join n acct t few low (omega arith)) in
+    let m = total n acct t few in
+    let l = length-extents_at j.addrs A j.each in
+    let o : Standing = record { addr = object; row = whole_row acct (extents_at j.addrs A) } in
+    let S : Standing → Type 0 = λ z. length z.row.extents ≤ most + n * most in
+    let B = HasAllBytes x.sources in
+    let C = all_counted acct A x.sources in
+    some_text [] (object ∷ loose) [] (o ∷ x.others) acct j.tickets (x.tickets (other acct)) (left_by x.clones C) x.rest tt
+    (ap (λ (xs : List ℕ). object ∷ xs) t.keeps.at)
+    (record {
+      keeps = j.keeps;
+      short =
+          All-cons S o x.others (omega (arith, l, m))
+          (All-weaker (λ (z : Standing). length z.row.extents ≤ most) S (λ z e. omega (arith, e)) x.others
+          (all_behind (λ (z : Standing). length z.row.extents ≤ most) x.clones x.others k.short));
+      bytes =
+          left_bytes x.clones C (o ∷ x.others)
+          (all_kept (counted acct A) (counted_same acct A) x.sources (o ∷ x.others)
+          (All-cons B o x.others (extents_have x.sources j.addrs A (pieces_have x.sources x.clones (all_front B x.clones x.others k.bytes)))
+          (all_behind B x.clones x.others k.bytes)));
+      counts = left_counts room x.clones C (all_less acct A (room + room_to_join most n) room x.sources (omega (arith, m)) k.counts);
+      spare = let s = j.spent in let r = k.spare in omega (arith, s, r, m, few);
+    })

@@ -183,7 +183,7 @@ module _ {old : Heap} {z : Standing} {os : List Standing} {tickets : List Ticket
       named = λ other. named_placed acct c.addrs asked_now each few other (extents_for other (z ∷ os)) sources counts_here pieces_there (k.named other);
     }
 
-extents_have : (ss : List NamedSource) (addrs : List ℕ) (ps : List ExtentPiece) → All (λ p. HasBytes p (source_at p.of ss)) ps →
+pub extents_have : (ss : List NamedSource) (addrs : List ℕ) (ps : List ExtentPiece) → All (λ p. HasBytes p (source_at p.of ss)) ps →
     All (λ e. HasBytes (piece_of e) (source_at e.source ss)) (extents_at addrs ps)
 extents_have ss [] ps all = All-nil (λ (e : ExtentRow). HasBytes (piece_of e) (source_at e.source ss))
 extents_have ss (a ∷ as') [] all = All-nil (λ (e : ExtentRow). HasBytes (piece_of e) (source_at e.source ss))

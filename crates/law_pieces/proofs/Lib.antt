@@ -5,3 +5,4 @@ pub mod GapLemmas
 pub mod PayloadLemmas
 pub mod TextLemmas
 pub mod AddedLemmas
+pub mod WireLemmas
