@@ -28,10 +28,10 @@ use Rattle.zco_pieces.specs.Adding.{AddsPiece, FillsParts, IsToAdd, has_clone, m
 use Rattle.zco_pieces.specs.Places.{Rebuilt, gap, opened}
 use Rattle.zco_pieces.specs.declared.piece.Piece.{Piece}
 use Rattle.zco_pieces.proofs.FillLemmas.{fills_length, pieces_most}
-use Rattle.law_pieces.specs.Texts.{HasAllBytes, HasBytes, Holds, SomeText, both, room_to_add, room_to_join, stock_of}
+use Rattle.law_pieces.specs.Texts.{HasAllBytes, HasBytes, Holds, SomeText, both, other, room_to_add, room_to_join, stock_of}
 use Rattle.law_pieces.proofs.CloneLemmas.{extents_have}
 use Rattle.law_pieces.proofs.GapLemmas.{FilledSo, fill_all, room_for}
-use Rattle.law_pieces.proofs.HoldLemmas.{all_kept, before_other, counted_same, counts_fewer, holds_less, holds_moved, left_bytes, left_counts, other, queue_first}
+use Rattle.law_pieces.proofs.HoldLemmas.{all_kept, before_other, counted_same, counts_fewer, holds_less, holds_moved, left_bytes, left_counts, queue_first}
 use Rattle.law_pieces.proofs.TextLemmas.{Spot, focused, may_clone, short, some_text, spot}
 
 -- no object stands at 0
@@ -145,10 +145,18 @@ module _ {heap : Heap} (r : Rebuilt) (object : ℕ) (before behind : List ℕ) {
         };
       }
 
+-- with a piece more, a text has so many parts at most
+pub parts_longer : {old new : Heap} {r r' : Rebuilt} {number : ℕ} (n : ℕ) (piece : Piece) → length r.parts ≤ n → AddsPiece number piece r r' old new →
+    length r'.parts ≤ 2 * n + 1
+parts_longer {old} {new} {r} {r'} {number} n piece few a =
+    let m = opened_most 0 r.total r.parts piece.offset a.length in
+    let f = fills_length piece.object number piece.offset (opened 0 r.total r.parts piece.offset a.length) r'.parts old new a.fills in
+    omega (arith, m, f, few)
+
 -- a piece was added
 pub text_added : {old new : Heap} {r r' : Rebuilt} (object : ℕ) (before behind : List ℕ) {most room number : ℕ} (n : ℕ) (piece : Piece) →
     SomeText old r.parts (before ++ (object ∷ behind)) most (room + room_to_add most n) → piece.object ≡ object → length r.parts ≤ n →
-    AddsPiece number piece r r' old new → SomeText new r'.parts (object ∷ (before ++ behind)) most room × (length r'.parts ≤ 2 * n + 1)
+    AddsPiece number piece r r' old new → SomeText new r'.parts (object ∷ (before ++ behind)) most room
 text_added {old} {new} {r} {r'} object before behind {most} {room} {number} n piece t at few a =
     let x = t.beside in
     let s = spot object before behind t in
@@ -166,12 +174,9 @@ text_added {old} {new} {r} {r'} object before behind {most} {room} {number} n pi
     let w : FilledSo z (queue ∷ []) x.rest r'.parts os most room new =
     fill_all z (queue ∷ []) x.rest number piece.offset most all r'.parts old new room x.clones os (x.tickets acct) x.sources clones
     (holds_less (omega (arith, k)) (omega arith) (focused object before behind t)) fills in
-    (
-      some_text r'.parts (object ∷ (before ++ behind)) w.clones (z ∷ os) acct w.tickets (x.tickets (other acct)) w.sources x.rest w.are
-      (ap (λ (xs : List ℕ). z.addr ∷ xs) s.others ∙ ap (λ (b : ℕ). b ∷ (before ++ behind)) s.at)
-      (holds_moved (z ∷ []) w.clones os w.holds),
-      let m = fills_length piece.object number piece.offset all r'.parts old new a.fills in omega (arith, m, l),
-    )
+    some_text r'.parts (object ∷ (before ++ behind)) w.clones (z ∷ os) acct w.tickets (x.tickets (other acct)) w.sources x.rest w.are
+    (ap (λ (xs : List ℕ). z.addr ∷ xs) s.others ∙ ap (λ (b : ℕ). b ∷ (before ++ behind)) s.at)
+    (holds_moved (z ∷ []) w.clones os w.holds)
 
 -- clones have so many extents together at most
 pieces_total : (most n : ℕ) (zs : List Standing) → length zs ≤ n → All (λ z. length z.row.extents ≤ most) zs → length (pieces_in zs) ≤ n * most

@@ -14,13 +14,8 @@ use Rattle.zco_obj.specs.declared.extent.ExtentPiece.{ExtentPiece}
 use Rattle.zco_part.specs.Sources.{all_counted, counted}
 use Rattle.zco_join.specs.Joining.{left_by}
 use Rattle.zco_join.specs.Stocks.{CountsMore, KeepsStock, Queue, Standing, Stock}
-use Rattle.law_pieces.specs.Texts.{HasAllBytes, HasBytes, Holds, both}
+use Rattle.law_pieces.specs.Texts.{HasAllBytes, HasBytes, Holds, both, other}
 use Rattle.law_pieces.proofs.StockLemmas.{all_moved, objects_moved, queues_swapped}
-
--- the account that it isn't
-abbrev pub other : Acct → Acct
-other accts.Inbound = accts.Outbound
-other accts.Outbound = accts.Inbound
 
 -- the tickets of both
 abbrev pub tickets_by : List Ticket → List Ticket → Acct → List Ticket

@@ -6,3 +6,4 @@ pub mod PayloadLemmas
 pub mod TextLemmas
 pub mod AddedLemmas
 pub mod WireLemmas
+pub mod BeginLemmas

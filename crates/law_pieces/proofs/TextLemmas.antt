@@ -21,9 +21,9 @@ use Rattle.zco_pieces.specs.Cutting.{IsToCut}
 use Rattle.zco_pieces.specs.Places.{cut_length}
 use Rattle.zco_pieces.proofs.CutLemmas.{kept_object}
 use Rattle.zco_pieces.proofs.FillLemmas.{pieces_most, tickets_then}
-use Rattle.law_pieces.specs.Texts.{Beside, Holds, KeepsText, SomeText, both, stock_of}
+use Rattle.law_pieces.specs.Texts.{Beside, Holds, KeepsText, SomeText, both, other, stock_of}
 use Rattle.law_pieces.proofs.CloneLemmas.{holds_clone, to_clone}
-use Rattle.law_pieces.proofs.HoldLemmas.{before_other, holds_as, holds_less, holds_moved, other, queue_first, queues_back, with_queues}
+use Rattle.law_pieces.proofs.HoldLemmas.{before_other, holds_as, holds_less, holds_moved, queue_first, queues_back, with_queues}
 use Rattle.law_pieces.proofs.PayloadLemmas.{queue_kept}
 
 -- one of some objects, by its address

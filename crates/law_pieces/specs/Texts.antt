@@ -1,13 +1,15 @@
 -- What stands in a heap beside a text that is rebuilt, from an empty heap on.
-use Rattle.std.specs.Prelude.{◌≡◌, ◌+◌, ◌*◌, ◌≤◌, ℕ, List, [], ◌∷◌, ◌++◌, length, map, All, Option, None, Some}
+use Rattle.std.specs.Prelude.{◌≡◌, ◌+◌, ◌*◌, ◌<◌, ◌≤◌, ◌^◌, ℕ, List, [], ◌∷◌, ◌++◌, length, map, All, Option, None, Some}
 use Rattle.sdr_base.specs.Entries.{Entries}
 use Rattle.sdr_base.specs.Objects.{Heap}
+use Rattle.sdr_base.specs.Raws.{raw_entries}
 use Rattle.sdr_base.specs.declared.account.Acct.{Acct}
 use Rattle.sdr_base.specs.declared.account.Acct.TheVariants as accts
 use Rattle.sdr_base.specs.declared.medium.Medium.TheVariants as media
 use Rattle.sdr_model.specs.declared.accounts.Ticket.{Ticket}
 use Rattle.zco_obj.specs.Gone.{NamedSource, source_at}
 use Rattle.zco_obj.specs.Links.{piece_of}
+use Rattle.zco_obj.specs.Making.{empty_row}
 use Rattle.zco_obj.specs.declared.extent.ExtentPiece.{ExtentPiece}
 use Rattle.zco_join.specs.Joining.{AreClones}
 use Rattle.zco_join.specs.Stocks.{CountsMore, KeepsStock, Queue, Standing, Stock}
@@ -36,9 +38,36 @@ abbrev pub both : (Acct → List Ticket) → List Queue
 both tickets =
     record { acct = accts.Inbound; tickets = tickets accts.Inbound } ∷ record { acct = accts.Outbound; tickets = tickets accts.Outbound } ∷ []
 
+-- the account that it isn't
+abbrev pub other : Acct → Acct
+other accts.Inbound = accts.Outbound
+other accts.Outbound = accts.Inbound
+
 -- nothing but a list of blocks, and no ticket
 abbrev pub with_rest : Entries → Stock
 with_rest rest = record { objects = []; queues = both (λ acct. []); sources = []; rest = rest }
+
+-- no block is in use, and no ticket waits
+abbrev pub HasNothing : Heap → Type 0
+HasNothing heap = KeepsStock heap (with_rest [])
+
+-- nothing but a raw object of these bytes, which no source names
+pub record HasRaw (heap : Heap) (raw : ℕ) (bytes : List ℕ) (room : ℕ) : Type 0 where
+  pub keeps : KeepsStock heap (with_rest (raw_entries raw 0 bytes))
+  pub small : raw < 2 ^ 32
+  pub spare : room ≤ heap.spare
+
+-- the same, and an object of an account, which has nothing in it
+pub record HasEmpty (heap : Heap) (acct : Acct) (object raw : ℕ) (bytes : List ℕ) (room : ℕ) : Type 0 where
+  pub tickets : List Ticket
+  pub keeps : KeepsStock heap (record {
+      objects = record { addr = object; row = empty_row acct } ∷ [];
+      queues = record { acct = acct; tickets = tickets } ∷ record { acct = other acct; tickets = [] } ∷ [];
+      sources = [];
+      rest = raw_entries raw 0 bytes;
+    })
+  pub small : raw < 2 ^ 32
+  pub spare : room ≤ heap.spare
 
 -- What stands beside a text: its clones, other objects, the tickets of each account, the sources, and other blocks.
 pub record Beside : Type 0 where
