@@ -1,5 +1,11 @@
 // Heaps in memory.
+ghost use Rattle.std.specs.Prelude.{◌≤◌, IfSome};
+ghost use Rattle.sdr_base.specs.Moves.{KeepsSome};
+ghost use Rattle.law_pieces.specs.Texts.{HasNothing};
 
+use law_formatted::formatted_keeps;
+use law_pieces::texts_keep;
+use sdr_base::HasHeap;
 use sdr_disk::MemoryDisk;
 use sdr_heap::Heap;
 use sdr_image::{Image, format};
@@ -13,7 +19,15 @@ const FRAME: Frame = Frame {
 
 /// A heap over an image of a disk in memory, without a block or a ticket, in a transaction.
 pub fn begun(alloc: Global) -> Option<Heap<Image<MemoryDisk>>>
+    ensures kept { IfSome result (λ heap. KeepsSome
+        (⟦<Heap<Image<MemoryDisk>> as HasHeap>⟧.keeps heap)) }
+    ensures nothing { IfSome result (λ heap. HasNothing
+        (⟦<Heap<Image<MemoryDisk>> as HasHeap>⟧.heap heap)) }
+    ensures spare { IfSome result (λ heap.
+        104 ≤ (⟦<Heap<Image<MemoryDisk>> as HasHeap>⟧.heap heap).spare) }
 {
+    formatted_keeps();
+    texts_keep();
     let Ok(bytes) = vec![in alloc; 7; FRAME.disk_bytes() as usize] else {
         return None;
     };
