@@ -21,7 +21,7 @@ pub struct Payload {
 }
 
 /// Makes an object of six bytes, in a heap that has nothing.
-pub fn payload<O: Objects>(o: &mut O) -> Result<Payload, Stop>
+pub fn make_payload<O: Objects>(o: &mut O) -> Result<Payload, Stop>
     requires kept { KeepsSome (O.keeps o.old) }
     requires nothing { HasNothing (O.heap o.old) }
     requires spare { 104 ≤ (O.heap o.old).spare }

@@ -4,7 +4,7 @@ ghost use Rattle.sdr_base.specs.Moves.{KeepsSome};
 ghost use Rattle.zco_pieces.specs.Places.{missing_of};
 ghost use Rattle.law_pieces.specs.Texts.{HasNothing, SomeText};
 
-use crate::calls::{Payload, Sent, finish_and_send, payload};
+use crate::calls::{Payload, Sent, finish_and_send, make_payload};
 use crate::heaps::begun;
 use law_pieces::texts_keep;
 use sdr_base::{Acct, Addr, Objects, Refusal, Stop};
@@ -78,7 +78,7 @@ fn rebuilt<O: Objects>(o: &mut O, alloc: Global) -> Result<Told, PieceStop>
     requires spare { 104 ≤ (O.heap o.old).spare }
 {
     texts_keep();
-    let Payload { raw, object } = payload(o)?;
+    let Payload { raw, object } = make_payload(o)?;
     let pieces = by_four(o, object)?;
     let mut text = Rebuild::new(alloc, 6);
     let left = add_by_four(o, &mut text, object, &pieces)?;
@@ -132,7 +132,7 @@ fn third<O: Objects>(o: &mut O) -> Result<Option<Stop>, Stop>
     requires spare { 104 ≤ (O.heap o.old).spare }
 {
     texts_keep();
-    let Payload { object, .. } = payload(o)?;
+    let Payload { object, .. } = make_payload(o)?;
     match cut(o, object, 0, 4, 2) {
         Ok(_) => Ok(None),
         Err(stop) => Ok(Some(stop)),
@@ -164,7 +164,7 @@ struct Overlapping {
     last: Piece,
 }
 
-fn overlapping<O: Objects>(o: &mut O, object: Addr) -> Result<Overlapping, Stop>
+fn cut_overlapping<O: Objects>(o: &mut O, object: Addr) -> Result<Overlapping, Stop>
     requires kept { KeepsSome (O.keeps o.old) }
     requires text { SomeText (O.heap o.old) [] (object ∷ []) 1 100 }
     ensures kept { OnOk result (KeepsSome (O.keeps o.new)) }
@@ -260,8 +260,8 @@ fn overlap<O: Objects>(o: &mut O, alloc: Global) -> Result<Option<Overlapped>, P
     requires nothing { HasNothing (O.heap o.old) }
     requires spare { 104 ≤ (O.heap o.old).spare }
 {
-    let Payload { object, .. } = payload(o)?;
-    let pieces = overlapping(o, object)?;
+    let Payload { object, .. } = make_payload(o)?;
+    let pieces = cut_overlapping(o, object)?;
     let mut text = Rebuild::new(alloc, 6);
     let left = add_two(o, &mut text, object, &pieces)?;
     finish_twice(o, &mut text, object, &pieces, left)
