@@ -63,7 +63,8 @@ fn add_next<O: Objects>(
 {
     texts_keep();
     let piece = cut(o, object, 0, most, k)?;
-    text.add(o, 0, &piece)
+    let missing = text.add(o, 0, &piece)?;
+    Ok(missing)
 }
 
 // Adds pieces by ten bytes and by seven, in an order of their own, and answers what is missing behind each.
