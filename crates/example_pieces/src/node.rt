@@ -68,11 +68,7 @@ fn add_next<O: Objects>(
 }
 
 // Adds pieces by ten bytes and by seven, in an order of their own, and answers what is missing behind each.
-fn add_all<O: Objects>(
-    o: &mut O,
-    object: Addr,
-    text: &mut Rebuild,
-) -> Result<[u64; 5], PieceStop>
+fn add_all<O: Objects>(o: &mut O, object: Addr, text: &mut Rebuild) -> Result<[u64; 5], PieceStop>
     requires kept { KeepsSome (O.keeps o.old) }
     requires payload { HasPayload (O.heap o.old) text.old.parts object 0 300 }
     ensures kept { OnOk result (KeepsSome (O.keeps o.new)) }

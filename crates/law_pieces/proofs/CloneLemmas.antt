@@ -160,8 +160,12 @@ module _ {old : Heap} {z : Standing} {os : List Standing} {tickets : List Ticket
         all_both (CountsMore n) (CountsMore n) (CountsMore (length asked_now))
         (λ s a b. record { inbound = let i = a.inbound in omega (arith, i, some); outbound = let o = a.outbound in omega (arith, o, some) }) sources counts counts
 
-    pub clone_step : KeepsStock new (record { objects = cloned ∷ z ∷ os; queues = record { acct = acct; tickets = tickets_then c may } ∷ qs;
-        sources = all_counted acct asked_now sources; rest = rest })
+    pub clone_step : KeepsStock new (record {
+      objects = cloned ∷ z ∷ os;
+      queues = record { acct = acct; tickets = tickets_then c may } ∷ qs;
+      sources = all_counted acct asked_now sources;
+      rest = rest;
+    })
     clone_step = record {
       stands =
           let O = object_entries z.addr z.row in
@@ -205,11 +209,11 @@ pub holds_clone : {old : Heap} {z : Standing} {os : List Standing} {tickets : Li
     (h : Holds old most (room + (1 + most)) (record { objects = z ∷ os; queues = record { acct = z.row.account; tickets = tickets } ∷ qs; sources = sources; rest = rest })) →
     (c : ClonesPart z.addr number offset bytes old new clone) →
     Holds new most room (record {
-        objects = record { addr = clone; row = whole_row z.row.account (extents_at c.addrs (asked offset bytes z.row)) } ∷ z ∷ os;
-        queues = record { acct = z.row.account; tickets = tickets_then c (to_clone h.keeps h.counts) } ∷ qs;
-        sources = all_counted z.row.account (asked offset bytes z.row) sources;
-        rest = rest;
-      })
+      objects = record { addr = clone; row = whole_row z.row.account (extents_at c.addrs (asked offset bytes z.row)) } ∷ z ∷ os;
+      queues = record { acct = z.row.account; tickets = tickets_then c (to_clone h.keeps h.counts) } ∷ qs;
+      sources = all_counted z.row.account (asked offset bytes z.row) sources;
+      rest = rest;
+    })
 holds_clone {old} {z} {os} {tickets} {qs} {sources} {rest} {most} {room} {number} {offset} {bytes} {clone} {new} h c =
     let may = to_clone h.keeps h.counts in
     let A = asked offset bytes z.row in

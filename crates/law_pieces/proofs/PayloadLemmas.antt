@@ -95,11 +95,11 @@ module _ {old : Heap} {acct : Acct} {tickets : List Ticket} {qs : List Queue} {o
     pays = c.pays tickets queue_kept
 
     pub create_step : KeepsStock new (record {
-        objects = record { addr = object; row = empty_row acct } ∷ os;
-        queues = record { acct = acct; tickets = charged tickets number object_amounts } ∷ qs;
-        sources = sources;
-        rest = rest;
-      })
+      objects = record { addr = object; row = empty_row acct } ∷ os;
+      queues = record { acct = acct; tickets = charged tickets number object_amounts } ∷ qs;
+      sources = sources;
+      rest = rest;
+    })
     create_step = record {
       stands =
           let O = objects_entries os in
@@ -141,11 +141,11 @@ naming_most addr e =
 -- an empty object, and a raw object that no source names
 module _ {old : Heap} {acct : Acct} {tickets : List Ticket} {qs : List Queue} {object : ℕ} (piece : ExtentPiece) (bytes : List ℕ)
     (k : KeepsStock old (record {
-        objects = record { addr = object; row = empty_row acct } ∷ [];
-        queues = record { acct = acct; tickets = tickets } ∷ qs;
-        sources = [];
-        rest = raw_entries piece.of 0 bytes;
-      })) (short : length bytes ≤ longest_source) (small : piece.of < 2 ^ 32) where
+      objects = record { addr = object; row = empty_row acct } ∷ [];
+      queues = record { acct = acct; tickets = tickets } ∷ qs;
+      sources = [];
+      rest = raw_entries piece.of 0 bytes;
+    })) (short : length bytes ≤ longest_source) (small : piece.of < 2 ^ 32) where
   stands : BlocksAre old.blocks (object_entries object (empty_row acct) ++ (queue_entries acct tickets ++ (raw_entries piece.of 0 bytes ++ (queues_entries qs ++ []))))
   stands =
       let O = object_entries object (empty_row acct) in
@@ -300,11 +300,11 @@ module _ {old : Heap} {acct : Acct} {tickets : List Ticket} {qs : List Queue} {o
     counts room few accts.Outbound = record { inbound = omega (arith, few); outbound = omega (arith, few) }
 
     pub payload_step : (room : ℕ) → room < 2 ^ 60 → room + 2 ≤ old.spare → Holds new 1 room (record {
-        objects = filled ∷ [];
-        queues = record { acct = acct; tickets = tickets_then } ∷ qs;
-        sources = source ∷ [];
-        rest = [];
-      })
+      objects = filled ∷ [];
+      queues = record { acct = acct; tickets = tickets_then } ∷ qs;
+      sources = source ∷ [];
+      rest = [];
+    })
     payload_step room few spare = record {
       keeps = record {
         stands = stands_then;

@@ -127,18 +127,18 @@ module _ {heap : Heap} {parts : List Filled} (object : ℕ) (before behind : Lis
 pub some_text : {heap : Heap} {most room : ℕ} (parts : List Filled) (loose : List ℕ) (clones others : List Standing) (acct : Acct) (ts us : List Ticket)
     (sources : List NamedSource) (rest : Entries) → AreClones parts clones → map (λ (z : Standing). z.addr) others ≡ loose →
     Holds heap most room (record {
-        objects = clones ++ others;
-        queues = record { acct = acct; tickets = ts } ∷ record { acct = other acct; tickets = us } ∷ [];
-        sources = sources;
-        rest = rest;
-      }) → SomeText heap parts loose most room
+      objects = clones ++ others;
+      queues = record { acct = acct; tickets = ts } ∷ record { acct = other acct; tickets = us } ∷ [];
+      sources = sources;
+      rest = rest;
+    }) → SomeText heap parts loose most room
 some_text {heap} {most} {room} parts loose clones others acct ts us sources rest are at h =
     let S : Stock = record {
-        objects = clones ++ others;
-        queues = record { acct = acct; tickets = ts } ∷ record { acct = other acct; tickets = us } ∷ [];
-        sources = sources;
-        rest = rest;
-      } in
+      objects = clones ++ others;
+      queues = record { acct = acct; tickets = ts } ∷ record { acct = other acct; tickets = us } ∷ [];
+      sources = sources;
+      rest = rest;
+    } in
     let back = queues_back S acct ts us h.keeps in
     record {
       beside = record { clones = clones; others = others; tickets = back.0; sources = sources; rest = rest };

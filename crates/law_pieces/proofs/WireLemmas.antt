@@ -68,8 +68,7 @@ module _ {b : Blocks} (before : Entries) (ss : List NamedSource) (rest : Entries
         let spot = find_spot e.source ss (is_there (piece_of e) (source_at e.source ss) h) in
         let s = spot.here in
         let has : HasBytes (piece_of e) (Some s) = subst (HasBytes (piece_of e)) spot.is_found h in
-        let fits = all_one (λ (y : NamedSource). SourceFits y.source) spot.before s spot.behind (subst (All (λ (y : NamedSource). SourceFits y.source)) spot.whole fit) in
-        (
+        let fits = all_one (λ (y : NamedSource). SourceFits y.source) spot.before s spot.behind (subst (All (λ (y : NamedSource). SourceFits y.source)) spot.whole fit) in (
           source_piece s.source.row s.bytes e.offset e.length,
           record {
             source = s.source;

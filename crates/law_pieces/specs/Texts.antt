@@ -61,11 +61,11 @@ pub record HasRaw (heap : Heap) (raw : ℕ) (bytes : List ℕ) (room : ℕ) : Ty
 pub record HasEmpty (heap : Heap) (acct : Acct) (object raw : ℕ) (bytes : List ℕ) (room : ℕ) : Type 0 where
   pub tickets : List Ticket
   pub keeps : KeepsStock heap (record {
-      objects = record { addr = object; row = empty_row acct } ∷ [];
-      queues = record { acct = acct; tickets = tickets } ∷ record { acct = other acct; tickets = [] } ∷ [];
-      sources = [];
-      rest = raw_entries raw 0 bytes;
-    })
+    objects = record { addr = object; row = empty_row acct } ∷ [];
+    queues = record { acct = acct; tickets = tickets } ∷ record { acct = other acct; tickets = [] } ∷ [];
+    sources = [];
+    rest = raw_entries raw 0 bytes;
+  })
   pub small : raw < 2 ^ 32
   pub spare : room ≤ heap.spare
 

@@ -1,15 +1,13 @@
 -- An object was made for clones, it has got their extents, and they may go.
-use Rattle.std.proofs.Common.{◌≡◌, ◌+◌, ◌-◌, ◌*◌, ◌≤◌, ◌<◌, ◌^◌, ℕ, List, [], ◌∷◌, ◌++◌, length, refl, sym, ap, ◌∙◌, subst, arith, append_assoc, append-nil, length-append}
-use Rattle.std.specs.Prelude.{All, flat_map, map, if◌then◌else◌}
-use Rattle.std.proofs.lemmas.List.Concat.{flat_map-append}
-use Rattle.std.proofs.lemmas.List.Elements.{All-cons, All-head, All-nil, All-tail, All-weaker}
+use Rattle.std.proofs.Common.{◌≡◌, ◌+◌, ◌≤◌, ℕ, List, [], ◌∷◌, ◌++◌, refl, sym, ap, ◌∙◌, subst, arith, append_assoc}
+use Rattle.std.proofs.lemmas.List.Elements.{All-head, All-nil, All-tail, All-weaker}
 use Rattle.sdr_base.specs.Entries.{BlocksAre, Entries}
 use Rattle.sdr_base.specs.Objects.{Heap}
 use Rattle.sdr_base.specs.ZcoObjects.{ExtentRow, object_entries}
 use Rattle.sdr_base.specs.declared.account.Acct.{Acct}
 use Rattle.sdr_model.specs.declared.accounts.Ticket.{Ticket}
 use Rattle.zco_acct.specs.Kept.{KeepsQueue, SomeQueue, queue_entries}
-use Rattle.zco_obj.specs.Gone.{NamedSource, naming, source_at, sources_entries}
+use Rattle.zco_obj.specs.Gone.{NamedSource, source_at, sources_entries}
 use Rattle.zco_acct.specs.Charges.{charged}
 use Rattle.zco_obj.specs.Amounts.{object_amounts}
 use Rattle.zco_obj.specs.Charging.{Pays}
@@ -21,11 +19,10 @@ use Rattle.sdr_base.specs.declared.moves.Move.TheVariants.{Took}
 use Rattle.sdr_base.specs.declared.account.Acct.TheVariants as accts
 use Rattle.zco_join.proofs.AppendLemmas.{all_tell, pays_first, pays_last, pays_moves, pays_queue, pays_spare}
 use Rattle.zco_obj.specs.Uses.{AreNamed, CountsUses, IsThere}
-use Rattle.zco_obj.specs.declared.extent.ExtentPiece.{ExtentPiece}
 use Rattle.zco_obj.proofs.CountLemmas.{naming-append}
 use Rattle.zco_join.specs.Appending.{HasAppended, SomeAppended}
 use Rattle.zco_join.specs.Joining.{KeepsToJoin, Together, pieces_in}
-use Rattle.zco_join.specs.Stocks.{Queue, Standing, TellsQueue, extents_for, objects_entries, queues_entries}
+use Rattle.zco_join.specs.Stocks.{TellsQueue, objects_entries, queues_entries}
 use Rattle.zco_join.specs.declared.filled.Filled.{Filled}
 use Rattle.zco_join.proofs.CountedLemmas.{all_behind, all_front, all_joined}
 use Rattle.zco_join.proofs.TurnLemmas.{turn}

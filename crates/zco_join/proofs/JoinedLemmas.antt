@@ -1,8 +1,8 @@
 -- An object has got the extents of clones, and the clones go.
-use Rattle.std.proofs.Common.{◌≡◌, ◌+◌, ◌*◌, ◌≤◌, ◌<◌, ◌^◌, ℕ, List, [], ◌∷◌, ◌++◌, length, refl, sym, ap, ◌∙◌, subst, arith, append_assoc, append-nil, length-append}
-use Rattle.std.specs.Prelude.{◌==◌, All, flat_map, map, if◌then◌else◌}
+use Rattle.std.proofs.Common.{◌≡◌, ◌+◌, ◌≤◌, ℕ, List, [], ◌∷◌, ◌++◌, length, refl, sym, ap, ◌∙◌, subst, arith, append_assoc, append-nil}
+use Rattle.std.specs.Prelude.{◌==◌, All, map, if◌then◌else◌}
 use Rattle.std.proofs.lemmas.List.Concat.{flat_map-append}
-use Rattle.std.proofs.lemmas.List.Elements.{All-cons, All-nil, All-weaker}
+use Rattle.std.proofs.lemmas.List.Elements.{All-cons, All-nil}
 use Rattle.std.proofs.lemmas.List.Sums.{sum_by-append, sum_by-cons}
 use Rattle.sdr_base.specs.Entries.{BlocksAre, Entries}
 use Rattle.sdr_base.specs.Making.{gave}
@@ -24,7 +24,7 @@ use Rattle.zco_part.specs.Sources.{all_counted, pieces_of}
 use Rattle.zco_join.specs.Appending.{HasAppended}
 use Rattle.zco_join.specs.Joining.{AppendsEach, DestroysEach, Joined, KeepsToJoin, Together, left_by, pieces_in, stock_of}
 use Rattle.zco_join.specs.Leaving.{Doomed, KeepsToDestroy, NamesMore, SomeToDestroy, doomed_stock}
-use Rattle.zco_join.specs.Stocks.{KeepsStock, Queue, Standing, Stock, TellsQueue, extents_for, objects_entries, own_extents, queues_entries}
+use Rattle.zco_join.specs.Stocks.{KeepsStock, Standing, TellsQueue, extents_for, objects_entries, own_extents, queues_entries}
 use Rattle.zco_join.specs.declared.filled.Filled.{Filled}
 use Rattle.zco_join.proofs.AppendLemmas.{append_steps}
 use Rattle.zco_join.proofs.ClonesLemmas.{clones_length, pieces_there}

@@ -118,13 +118,13 @@ pub record Joined (acct : Acct) (number : ℕ) (parts : List Filled) (t : Togeth
   pub each : length addrs ≡ length (pieces_in t.clones)
   pub tickets : List Ticket
   pub keeps : KeepsStock new (stock_of acct (record {
-      clones = record { addr = object; row = whole_row acct (extents_at addrs (pieces_in t.clones)) } ∷ [];
-      others = t.others;
-      tickets = tickets;
-      more = t.more;
-      sources = left_by t.clones (all_counted acct (pieces_in t.clones) t.sources);
-      rest = t.rest;
-    }))
+    clones = record { addr = object; row = whole_row acct (extents_at addrs (pieces_in t.clones)) } ∷ [];
+    others = t.others;
+    tickets = tickets;
+    more = t.more;
+    sources = left_by t.clones (all_counted acct (pieces_in t.clones) t.sources);
+    rest = t.rest;
+  }))
   pub gone : List ℕ
   pub few : length gone ≡ length (pieces_in t.clones) + length parts
   pub moves : new.moves ≡ old.moves ++ (takes_clone object addrs ++ gave gone)

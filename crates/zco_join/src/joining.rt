@@ -88,7 +88,14 @@ fn append_clone<O: Objects>(o: &mut O, object: Addr, ticket: u64, clone: Addr) -
             break;
         }
         let link = see_link(o, extent)?;
-        append_extent(o, object, ticket, link.piece.of, link.piece.offset, link.piece.bytes)?;
+        append_extent(
+            o,
+            object,
+            ticket,
+            link.piece.of,
+            link.piece.offset,
+            link.piece.bytes,
+        )?;
         extent = link.next;
     }
     Ok(())

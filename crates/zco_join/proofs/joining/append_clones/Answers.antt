@@ -1,12 +1,11 @@
 -- The extents of one clone come after those of another.
-use Rattle.std.proofs.Common.{◌≡◌, ◌+◌, ◌*◌, ◌≤◌, ◌<◌, [], ◌∷◌, List, length, refl, sym, subst, arith, ap}
+use Rattle.std.proofs.Common.{List, sym, subst, arith}
 use Rattle.std.proofs.lemmas.Result.{err_from_is_err_and}
 use Rattle.sdr_base.proofs.WorksLemmas.{looks_works, works_more, works_ok, works_stopped, works_then}
 use Rattle.zco_join.specs.Appending.{AppendsClone, SomeClone, StopsClone}
-use Rattle.zco_join.specs.Stocks.{Standing}
 use Rattle.zco_join.specs.Joining.{pieces_in}
 use Rattle.zco_join.specs.declared.filled.Filled.{Filled}
-use Rattle.zco_join.proofs.AppendedLemmas.{Appended, all_before, appended_all, appended_next, appended_none, appended_stopped, clone_at, lines_all, appended_as, lines_then, most_before, next, some_clone}
+use Rattle.zco_join.proofs.AppendedLemmas.{Appended, appended_all, appended_next, appended_none, appended_stopped, clone_at, lines_all, appended_as, lines_then, most_before, next, some_clone}
 use Rattle.zco_join.proofs.PassedLemmas.{next_part, none_left, passed_is, passed_next, passed_none}
 use Rattle.zco_join.proofs.joining.append_clones.Goals as goal
 
@@ -17,10 +16,11 @@ nothing = record { offset = 0; length = 0; object = 0 }
 pub loop-part-init : goal.loop-part-init
 loop-part-init g c = record {
   passed = passed_none c.args.parts.now;
-  goes = λ start acct t h.
-      (appended_none c.args.object c.args.ticket t.clones c.args.parts.now (g.O.HasHeap.heap c.args.o.now) (g.O.HasHeap.heap c.check_failed.new.o)
-      c.in_ok-check_failed.ensures.looks.same h.from.clones,
-      works_ok (looks_works c.in_ok-check_failed.ensures.looks));
+  goes = λ start acct t h. (
+    appended_none c.args.object c.args.ticket t.clones c.args.parts.now (g.O.HasHeap.heap c.args.o.now) (g.O.HasHeap.heap c.check_failed.new.o)
+        c.in_ok-check_failed.ensures.looks.same h.from.clones,
+    works_ok (looks_works c.in_ok-check_failed.ensures.looks),
+  );
 }
 
 pub append_clone-requires-clause-kept : goal.append_clone-requires-clause-kept
@@ -80,11 +80,12 @@ loop-part-preserved g c =
       goes = λ start acct t h.
           let so = c.loop-part.invariant.goes start acct t h in
           let a = appended_as (next_part l c.loop-part-test.true).2 so.0 in
-          let m = lines_then h a in
-          (appended_next h a new appended,
-          works_ok
-          (works_more (works_then so.1 (works start acct c.args.parts.now t (pieces_in a.before) (pieces_in (next h a).1) (next h a).0 (clone_at h a)))
-          (omega (arith, m))));
+          let m = lines_then h a in (
+            appended_next h a new appended,
+            works_ok
+                (works_more (works_then so.1 (works start acct c.args.parts.now t (pieces_in a.before) (pieces_in (next h a).1) (next h a).0 (clone_at h a)))
+                (omega (arith, m))),
+          );
     }
 
 pub returns-clause-appended : goal.returns-clause-appended

@@ -1,11 +1,8 @@
 -- One clone goes after another.
-use Rattle.std.proofs.Common.{ℕ, ◌≡◌, ◌≤◌, ◌<◌, ◌∷◌, List, length, refl, sym, subst, arith}
-use Rattle.std.specs.Prelude.{Ok}
+use Rattle.std.proofs.Common.{List, refl, sym, subst, arith}
 use Rattle.std.proofs.lemmas.Result.{err_from_is_err_and}
-use Rattle.sdr_base.specs.Works.{Spends}
 use Rattle.sdr_base.proofs.WorksLemmas.{looks_works, works_more, works_ok, works_stopped}
 use Rattle.zco_obj.specs.Destroying.{DestroysObject, DestroyStops, SomeWithSources}
-use Rattle.zco_join.specs.Leaving.{Doomed, KeepsToDestroy}
 use Rattle.zco_join.specs.declared.filled.Filled.{Filled}
 use Rattle.zco_join.proofs.DestroyedLemmas.{Went, destroyed_all, destroyed_next, destroyed_none, destroyed_stopped, lines_few, lines_then, went_more, went_none, went_spends, went_with}
 use Rattle.zco_join.proofs.PassedLemmas.{next_part, passed_is}
@@ -63,9 +60,11 @@ loop-part-preserved g c =
       goes = destroyed_next l c.loop-part-test.true new goes;
       works = λ d k.
           let w = c.loop-part.invariant.works d k in
-          let here = subst (λ (ps : List Filled). Went d ps (g.O.HasHeap.heap c.args.o.now) (g.O.HasHeap.heap c.loop-part.o) w.0) n.2 w.1 in
-          (lines_then here, went_more here goes,
-          works_ok (went_spends here refl w.2 (rw (passed_is l.passed c.loop-part-test.true nothing) at c.in_ok-destroy.ensures.works)));
+          let here = subst (λ (ps : List Filled). Went d ps (g.O.HasHeap.heap c.args.o.now) (g.O.HasHeap.heap c.loop-part.o) w.0) n.2 w.1 in (
+            lines_then here,
+            went_more here goes,
+            works_ok (went_spends here refl w.2 (rw (passed_is l.passed c.loop-part-test.true nothing) at c.in_ok-destroy.ensures.works)),
+          );
     }
 
 pub returns-clause-destroyed : goal.returns-clause-destroyed
