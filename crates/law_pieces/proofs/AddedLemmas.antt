@@ -1,17 +1,16 @@
 -- Pieces are added to a text, and it becomes one object.
 use Rattle.std.proofs.Common.{◌≡◌, ◌≢◌, ◌+◌, ◌-◌, ◌*◌, ◌≤◌, ◌<◌, ◌^◌, ℕ, zero, suc, Bool, true, false, cond, List, [], ◌∷◌, ◌++◌, length, refl, sym, ap, ◌∙◌, subst, arith, append_assoc, length-append}
-use Rattle.std.specs.Prelude.{◌==◌, All, filter, flat_map, map, max, min, nat_lt, not, sum_by, if◌then◌else◌}
+use Rattle.std.specs.Prelude.{◌==◌, All, filter, map, max, min, nat_lt, not, if◌then◌else◌}
 use Rattle.std.proofs.lemmas.Bool.{ne_eqb}
 use Rattle.std.proofs.lemmas.List.{length-map}
 use Rattle.std.proofs.lemmas.List.Elements.{All-cons, All-head, All-nil, All-tail, All-weaker}
-use Rattle.std.proofs.lemmas.List.Sums.{sum_by-append, sum_by-cons}
+use Rattle.std.proofs.lemmas.List.Sums.{sum_by-cons}
 use Rattle.sdr_base.specs.Blocks.{Blocks}
 use Rattle.sdr_base.specs.Entries.{BlocksAre, Entries}
 use Rattle.sdr_base.specs.Objects.{Heap}
 use Rattle.sdr_base.specs.ZcoObjects.{ExtentRow, ObjectRow, capsule_entries, extent_entries, object_block, object_entries}
 use Rattle.sdr_base.specs.declared.account.Acct.{Acct}
 use Rattle.sdr_base.proofs.StandingLemmas.{nonzero}
-use Rattle.sdr_model.specs.declared.accounts.Ticket.{Ticket}
 use Rattle.zco_obj.specs.Gone.{NamedSource, source_at, sources_entries}
 use Rattle.zco_obj.specs.Links.{piece_of}
 use Rattle.zco_obj.specs.declared.extent.ExtentPiece.{ExtentPiece}
@@ -19,7 +18,7 @@ use Rattle.zco_part.specs.Cloning.{KeepsToClone}
 use Rattle.zco_part.specs.Pieces.{asked, extents_at, whole_row}
 use Rattle.zco_part.specs.Sources.{all_counted, counted}
 use Rattle.zco_join.specs.Joining.{AreClones, Joins, KeepsToJoin, SomeToJoin, Together, left_by, pieces_in}
-use Rattle.zco_join.specs.Stocks.{CountsMore, KeepsStock, Queue, Standing, Stock, objects_entries, queues_entries}
+use Rattle.zco_join.specs.Stocks.{Queue, Standing, objects_entries, queues_entries}
 use Rattle.zco_join.specs.declared.filled.Filled.{Filled}
 use Rattle.zco_join.proofs.CountedLemmas.{all_behind, all_front, all_joined, all_less, all_mapped}
 use Rattle.zco_join.proofs.ClonesLemmas.{clones_length}
@@ -28,11 +27,11 @@ use Rattle.zco_pieces.specs.Adding.{AddsPiece, FillsParts, IsToAdd, has_clone, m
 use Rattle.zco_pieces.specs.Places.{Rebuilt, gap, opened}
 use Rattle.zco_pieces.specs.declared.piece.Piece.{Piece}
 use Rattle.zco_pieces.proofs.FillLemmas.{fills_length, pieces_most}
-use Rattle.law_pieces.specs.Texts.{HasAllBytes, HasBytes, Holds, SomeText, both, other, room_to_add, room_to_join, stock_of}
+use Rattle.law_pieces.specs.Texts.{HasAllBytes, HasBytes, SomeText, both, other, room_to_add, room_to_join, stock_of}
 use Rattle.law_pieces.proofs.CloneLemmas.{extents_have}
 use Rattle.law_pieces.proofs.GapLemmas.{FilledSo, fill_all, room_for}
-use Rattle.law_pieces.proofs.HoldLemmas.{all_kept, before_other, counted_same, counts_fewer, holds_less, holds_moved, left_bytes, left_counts, queue_first}
-use Rattle.law_pieces.proofs.TextLemmas.{Spot, focused, may_clone, short, some_text, spot}
+use Rattle.law_pieces.proofs.HoldLemmas.{all_kept, counted_same, counts_fewer, holds_less, holds_moved, left_bytes, left_counts, queue_first}
+use Rattle.law_pieces.proofs.TextLemmas.{focused, may_clone, short, some_text, spot}
 
 -- no object stands at 0
 standing_nonzero : {b : Blocks} (xs : Entries) (zs : List Standing) (rest : Entries) → BlocksAre b (xs ++ (objects_entries zs ++ rest)) →

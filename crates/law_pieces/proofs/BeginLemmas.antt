@@ -1,6 +1,5 @@
 -- A heap that has nothing, then a raw object, and then an object of it.
-use Rattle.std.proofs.Common.{◌≡◌, ◌+◌, ◌≤◌, ◌<◌, ◌^◌, ℕ, List, [], ◌∷◌, ◌++◌, length, Option, Some, refl, sym, ap, subst, arith, inl, inr}
-use Rattle.std.specs.Prelude.{All}
+use Rattle.std.proofs.Common.{◌≡◌, ◌+◌, ◌≤◌, ◌<◌, ◌^◌, ℕ, List, [], ◌∷◌, ◌++◌, length, Option, refl, sym, ap, subst, arith, inl, inr}
 use Rattle.std.proofs.lemmas.List.Elements.{All-cons, All-nil}
 use Rattle.sdr_base.specs.Blocks.{Block, IsKind}
 use Rattle.sdr_base.specs.Entries.{BlocksAre, Entries}
@@ -24,8 +23,8 @@ use Rattle.zco_obj.specs.Kept.{ObjectFits}
 use Rattle.zco_obj.specs.Uses.{CountsUses, IsThere}
 use Rattle.zco_obj.specs.Making.{CreatesObject, empty_row}
 use Rattle.zco_obj.specs.declared.extent.ExtentPiece.{ExtentPiece}
-use Rattle.zco_join.specs.Stocks.{KeepsStock, Queue, Standing, Stock, TellsQueue}
-use Rattle.law_pieces.specs.Texts.{HasEmpty, HasNothing, HasRaw, SomeText, both, other, with_rest}
+use Rattle.zco_join.specs.Stocks.{KeepsStock, Queue, Standing, TellsQueue}
+use Rattle.law_pieces.specs.Texts.{HasEmpty, HasNothing, HasRaw, SomeText, with_rest}
 use Rattle.law_pieces.proofs.HoldLemmas.{queue_first}
 use Rattle.law_pieces.proofs.PayloadLemmas.{create_spare, create_step, filled, payload_step, queue_kept, raw_found, raw_step, source, tickets_then, with_raw}
 use Rattle.law_pieces.proofs.TextLemmas.{some_text}

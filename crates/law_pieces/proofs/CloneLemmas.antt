@@ -1,12 +1,11 @@
 -- An object that stands among others is cloned.
-use Rattle.std.proofs.Common.{◌≡◌, ◌+◌, ◌-◌, ◌≤◌, ◌<◌, ◌^◌, ℕ, Bool, true, false, cond, List, [], ◌∷◌, ◌++◌, length, min, Option, Some, None, refl, sym, ap, ◌∙◌, subst, arith, append_assoc}
-use Rattle.std.specs.Prelude.{◌==◌, All, map, if◌then◌else◌}
+use Rattle.std.proofs.Common.{◌≡◌, ◌+◌, ◌-◌, ◌≤◌, ◌<◌, ◌^◌, ℕ, Bool, true, false, List, [], ◌∷◌, ◌++◌, length, Option, Some, None, refl, sym, ap, ◌∙◌, subst, arith, append_assoc}
+use Rattle.std.specs.Prelude.{◌==◌, All, if◌then◌else◌}
 use Rattle.std.proofs.lemmas.List.Elements.{All-cons, All-head, All-nil, All-tail}
 use Rattle.sdr_base.specs.Entries.{BlocksAre, Entries}
 use Rattle.sdr_base.specs.Objects.{Heap}
 use Rattle.sdr_base.specs.ZcoObjects.{ExtentRow, object_entries}
 use Rattle.sdr_base.specs.declared.account.Acct.{Acct}
-use Rattle.sdr_model.specs.Limits.{longest_source}
 use Rattle.sdr_model.specs.declared.accounts.Ticket.{Ticket}
 use Rattle.zco_acct.specs.Kept.{queue_entries}
 use Rattle.zco_obj.specs.Charging.{IsFree}
@@ -18,7 +17,7 @@ use Rattle.zco_obj.specs.declared.extent.ExtentPiece.{ExtentPiece}
 use Rattle.zco_part.specs.Cloning.{ClonesPart, KeepsToClone}
 use Rattle.zco_part.specs.Pieces.{asked, cut, extents_at, filled, pieces, whole_row}
 use Rattle.zco_part.specs.Sources.{MayCount, all_counted, counted}
-use Rattle.zco_join.specs.Stocks.{CountsMore, KeepsStock, Queue, Standing, TellsQueue, extents_for, objects_entries, own_extents, queues_entries}
+use Rattle.zco_join.specs.Stocks.{CountsMore, KeepsStock, Queue, Standing, TellsQueue, extents_for, objects_entries, queues_entries}
 use Rattle.zco_join.proofs.AppendLemmas.{all_tell, pays_first, pays_last, pays_queue}
 use Rattle.zco_join.proofs.ClonesLemmas.{PieceFits, all_both, own_all}
 use Rattle.zco_join.proofs.CountedLemmas.{all_front, all_joined, all_less, may_count, named_placed}

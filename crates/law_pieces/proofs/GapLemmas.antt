@@ -1,6 +1,6 @@
 -- The gaps among parts are filled with clones of an object that stands among others.
-use Rattle.std.proofs.Common.{◌≡◌, ◌≢◌, ◌+◌, ◌-◌, ◌≤◌, ℕ, Bool, true, false, cond, List, [], ◌∷◌, ◌++◌, refl, sym, ap, ◌∙◌, subst, arith}
-use Rattle.std.specs.Prelude.{◌==◌, All, MatchBool, filter, not, sum_by}
+use Rattle.std.proofs.Common.{◌≡◌, ◌+◌, ◌-◌, ℕ, Bool, true, false, cond, List, [], ◌∷◌, ◌++◌, refl, sym, ap, ◌∙◌, subst, arith}
+use Rattle.std.specs.Prelude.{◌==◌, MatchBool, filter, not, sum_by}
 use Rattle.std.proofs.lemmas.List.Sums.{sum_by-cons}
 use Rattle.sdr_base.specs.Entries.{Entries}
 use Rattle.sdr_base.specs.Objects.{Heap}
@@ -11,7 +11,7 @@ use Rattle.zco_join.specs.Stocks.{Queue, Standing, Stock}
 use Rattle.zco_join.specs.declared.filled.Filled.{Filled}
 use Rattle.zco_part.specs.Pieces.{asked, extents_at, whole_row}
 use Rattle.zco_part.specs.Sources.{all_counted}
-use Rattle.zco_pieces.specs.Adding.{FillsGap, FillsPart, FillsParts, has_clone}
+use Rattle.zco_pieces.specs.Adding.{FillsGap, FillsParts, has_clone}
 use Rattle.zco_pieces.proofs.FillLemmas.{tickets_then}
 use Rattle.law_pieces.specs.Texts.{Holds}
 use Rattle.law_pieces.proofs.CloneLemmas.{holds_clone, to_clone}

@@ -1,5 +1,5 @@
 -- A stock that is held, told in another order, and sources that count more or fewer extents.
-use Rattle.std.proofs.Common.{◌≡◌, ◌+◌, ◌-◌, ◌≤◌, ◌<◌, ◌^◌, ℕ, Bool, true, false, cond, eqb, List, [], ◌∷◌, ◌++◌, length, Option, Some, None, refl, sym, ap, ◌∙◌, subst, arith, append_assoc}
+use Rattle.std.proofs.Common.{◌≡◌, ◌≤◌, ℕ, Bool, true, false, cond, eqb, List, [], ◌∷◌, ◌++◌, length, Some, refl, sym, ap, ◌∙◌, subst, arith}
 use Rattle.std.specs.Prelude.{All, map}
 use Rattle.std.proofs.lemmas.List.Elements.{All-cons, All-head, All-nil, All-tail, All-weaker}
 use Rattle.sdr_base.specs.Entries.{Entries}
@@ -8,10 +8,10 @@ use Rattle.sdr_base.specs.ZcoObjects.{ExtentRow}
 use Rattle.sdr_base.specs.declared.account.Acct.{Acct}
 use Rattle.sdr_base.specs.declared.account.Acct.TheVariants as accts
 use Rattle.sdr_model.specs.declared.accounts.Ticket.{Ticket}
-use Rattle.zco_obj.specs.Gone.{NamedSource, less_source, naming, source_at}
+use Rattle.zco_obj.specs.Gone.{NamedSource, less_source, source_at}
 use Rattle.zco_obj.specs.Links.{piece_of}
 use Rattle.zco_obj.specs.declared.extent.ExtentPiece.{ExtentPiece}
-use Rattle.zco_part.specs.Sources.{all_counted, counted}
+use Rattle.zco_part.specs.Sources.{counted}
 use Rattle.zco_join.specs.Joining.{left_by}
 use Rattle.zco_join.specs.Stocks.{CountsMore, KeepsStock, Queue, Standing, Stock}
 use Rattle.law_pieces.specs.Texts.{HasAllBytes, HasBytes, Holds, both, other}

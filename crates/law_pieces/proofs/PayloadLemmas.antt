@@ -1,6 +1,6 @@
 -- An object gets the bytes of a raw object, in a heap that has nothing else.
-use Rattle.std.proofs.Common.{◌≡◌, ◌≢◌, ◌+◌, ◌-◌, ◌≤◌, ◌<◌, ◌^◌, ℕ, Bool, true, false, cond, eqb, List, [], ◌∷◌, ◌++◌, length, Option, Some, None, refl, sym, ap, ◌∙◌, subst, arith, append_assoc, append-nil, eq-eqb}
-use Rattle.std.specs.Prelude.{◌==◌, All, if◌then◌else◌}
+use Rattle.std.proofs.Common.{◌≡◌, ◌+◌, ◌-◌, ◌≤◌, ◌<◌, ◌^◌, ℕ, Bool, true, false, cond, List, [], ◌∷◌, ◌++◌, length, Some, None, refl, sym, ap, ◌∙◌, subst, arith, append_assoc, append-nil, eq-eqb}
+use Rattle.std.specs.Prelude.{◌==◌, if◌then◌else◌}
 use Rattle.std.proofs.lemmas.List.Elements.{All-cons, All-head, All-nil, All-tail}
 use Rattle.std.proofs.lemmas.List.Sums.{sum_by-cons}
 use Rattle.sdr_base.specs.Entries.{BlocksAre, Entries}
@@ -34,9 +34,9 @@ use Rattle.zco_obj.specs.Uses.{AreNamed, CountsUses, IsThere}
 use Rattle.zco_obj.proofs.CountLemmas.{names}
 use Rattle.zco_obj.specs.declared.extent.ExtentPiece.{ExtentPiece}
 use Rattle.zco_ref.specs.Counting.{attached}
-use Rattle.zco_ref.specs.Kept.{CountedSource, KeepsRaw, SourceFits, count_in, counted_entries, tied_entries}
+use Rattle.zco_ref.specs.Kept.{CountedSource, SourceFits, count_in, counted_entries, tied_entries}
 use Rattle.zco_part.specs.Pieces.{whole_row}
-use Rattle.zco_join.specs.Stocks.{CountsMore, KeepsStock, Queue, Standing, Stock, TellsQueue, extents_for, objects_entries, own_extents, queues_entries}
+use Rattle.zco_join.specs.Stocks.{CountsMore, KeepsStock, Queue, Standing, TellsQueue, extents_for, objects_entries, own_extents, queues_entries}
 use Rattle.zco_join.proofs.AppendLemmas.{all_tell, pays_first, pays_last, pays_queue, pays_spare}
 use Rattle.zco_join.proofs.TurnLemmas.{swapped, turn}
 use Rattle.zco_join.proofs.WholeLemmas.{whole_fits, whole_longer}

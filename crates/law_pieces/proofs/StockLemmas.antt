@@ -1,17 +1,16 @@
 -- What stands in a heap, told in another order.
-use Rattle.std.proofs.Common.{◌≡◌, ℕ, List, [], ◌∷◌, ◌++◌, refl, sym, ap, ◌∙◌, subst, append_assoc}
+use Rattle.std.proofs.Common.{◌≡◌, List, [], ◌∷◌, ◌++◌, sym, ap, ◌∙◌, subst, append_assoc}
 use Rattle.std.specs.Prelude.{All, flat_map}
 use Rattle.std.proofs.lemmas.List.Concat.{flat_map-append}
 use Rattle.std.proofs.lemmas.List.Elements.{All-cons, All-head, All-nil, All-tail}
 use Rattle.sdr_base.specs.Entries.{BlocksAre, Entries}
 use Rattle.sdr_base.specs.Objects.{Heap}
 use Rattle.sdr_base.specs.ZcoObjects.{ExtentRow, object_entries}
-use Rattle.sdr_base.specs.declared.account.Acct.{Acct}
 use Rattle.zco_acct.specs.Kept.{queue_entries}
 use Rattle.zco_obj.specs.Gone.{NamedSource, sources_entries}
 use Rattle.zco_obj.specs.Kept.{ObjectFits}
 use Rattle.zco_obj.specs.Uses.{AreNamed}
-use Rattle.zco_join.specs.Stocks.{KeepsStock, Queue, Standing, Stock, TellsQueue, extents_for, objects_entries, own_extents, queues_entries}
+use Rattle.zco_join.specs.Stocks.{KeepsStock, Queue, Standing, TellsQueue, extents_for, objects_entries, own_extents, queues_entries}
 use Rattle.zco_join.proofs.CountedLemmas.{all_behind, all_front, all_joined}
 use Rattle.zco_join.proofs.JoinLemmas.{named_moved}
 use Rattle.zco_join.proofs.TurnLemmas.{turn}

@@ -1,29 +1,27 @@
 -- An object that stands beside a text.
-use Rattle.std.proofs.Common.{◌≡◌, ◌≢◌, ◌+◌, ◌-◌, ◌*◌, ◌≤◌, ◌<◌, ◌^◌, ℕ, Bool, true, false, cond, List, [], ◌∷◌, ◌++◌, length, refl, sym, ap, ◌∙◌, subst, arith, append_assoc, length-append}
-use Rattle.std.specs.Prelude.{All, map}
-use Rattle.std.proofs.lemmas.List.{map-append}
+use Rattle.std.proofs.Common.{◌≡◌, ◌+◌, ◌*◌, ◌≤◌, ℕ, List, [], ◌∷◌, ◌++◌, length, refl, sym, ap, ◌∙◌, subst, arith, append_assoc}
+use Rattle.std.specs.Prelude.{map}
 use Rattle.std.proofs.lemmas.List.Elements.{All-head}
-use Rattle.sdr_base.specs.Blocks.{IsKind}
 use Rattle.sdr_base.specs.Entries.{Entries}
 use Rattle.sdr_base.specs.Objects.{Heap}
 use Rattle.sdr_base.specs.declared.account.Acct.{Acct}
 use Rattle.sdr_model.specs.declared.accounts.Ticket.{Ticket}
 use Rattle.zco_acct.specs.Kept.{SomeQueue}
 use Rattle.zco_obj.specs.Gone.{NamedSource}
-use Rattle.zco_obj.specs.Kept.{IsObject, KeepsObject}
+use Rattle.zco_obj.specs.Kept.{IsObject}
 use Rattle.zco_part.specs.Cloning.{ClonesPart, KeepsToClone}
 use Rattle.zco_part.specs.Pieces.{asked, extents_at, whole_row}
 use Rattle.zco_part.specs.Sources.{all_counted}
 use Rattle.zco_join.specs.Joining.{AreClones}
-use Rattle.zco_join.specs.Stocks.{KeepsStock, Queue, Standing, Stock}
+use Rattle.zco_join.specs.Stocks.{Standing, Stock}
 use Rattle.zco_join.specs.declared.filled.Filled.{Filled}
 use Rattle.zco_pieces.specs.Cutting.{IsToCut}
 use Rattle.zco_pieces.specs.Places.{cut_length}
 use Rattle.zco_pieces.proofs.CutLemmas.{kept_object}
 use Rattle.zco_pieces.proofs.FillLemmas.{pieces_most, tickets_then}
-use Rattle.law_pieces.specs.Texts.{Beside, Holds, KeepsText, SomeText, both, other, stock_of}
+use Rattle.law_pieces.specs.Texts.{Beside, Holds, SomeText, both, other, stock_of}
 use Rattle.law_pieces.proofs.CloneLemmas.{holds_clone, to_clone}
-use Rattle.law_pieces.proofs.HoldLemmas.{before_other, holds_as, holds_less, holds_moved, queue_first, queues_back, with_queues}
+use Rattle.law_pieces.proofs.HoldLemmas.{before_other, holds_as, holds_less, holds_moved, queue_first, queues_back}
 use Rattle.law_pieces.proofs.PayloadLemmas.{queue_kept}
 
 -- one of some objects, by its address

@@ -1,5 +1,5 @@
 -- The bytes of an object that stands beside a text may be read.
-use Rattle.std.proofs.Common.{◌≡◌, ◌+◌, ◌≤◌, ◌<◌, ℕ, List, [], ◌∷◌, ◌++◌, length, Option, Some, None, refl, sym, ap, ◌∙◌, subst, arith, append_assoc}
+use Rattle.std.proofs.Common.{◌≡◌, ◌+◌, ℕ, List, [], ◌∷◌, ◌++◌, length, Option, Some, None, refl, sym, ap, ◌∙◌, subst, arith, append_assoc}
 use Rattle.std.specs.Prelude.{All}
 use Rattle.std.proofs.lemmas.List.Concat.{flat_map-append}
 use Rattle.std.proofs.lemmas.List.Elements.{All-head, All-tail, All-weaker}
@@ -11,14 +11,13 @@ use Rattle.sdr_base.specs.ZcoObjects.{ExtentRow}
 use Rattle.sdr_base.specs.declared.medium.Medium.{Medium}
 use Rattle.sdr_base.specs.declared.medium.Medium.TheVariants as media
 use Rattle.sdr_base.proofs.StandingLemmas.{found}
-use Rattle.sdr_model.specs.Limits.{longest_source}
 use Rattle.sdr_model.specs.declared.piece.Piece.{Piece}
 use Rattle.zco_obj.specs.Gone.{NamedSource, source_at, sources_entries}
 use Rattle.zco_obj.specs.Kept.{ExtentFits}
 use Rattle.zco_obj.specs.Links.{piece_of}
 use Rattle.zco_obj.specs.Uses.{CountsUses, IsThere}
 use Rattle.zco_obj.specs.declared.extent.ExtentPiece.{ExtentPiece}
-use Rattle.zco_obj.proofs.SpotLemmas.{SpotOf, find_spot}
+use Rattle.zco_obj.proofs.SpotLemmas.{find_spot}
 use Rattle.zco_ref.specs.Kept.{IsTiedRaw, KeepsTied, SourceFits, counted_block, raw_part, tied_entries}
 use Rattle.zco_join.specs.Stocks.{objects_entries, queues_entries}
 use Rattle.zco_join.specs.declared.filled.Filled.{Filled}
@@ -27,7 +26,7 @@ use Rattle.zco_pieces.proofs.CutLemmas.{kept_object}
 use Rattle.zco_wire.specs.Naming.{AreNamed, HasUntil, IsNamed, IsWire, source_piece}
 use Rattle.law_pieces.specs.Texts.{HasAllBytes, HasBytes, SomeText}
 use Rattle.law_pieces.proofs.HoldLemmas.{before_other}
-use Rattle.law_pieces.proofs.TextLemmas.{Spot, focused, may_clone, spot}
+use Rattle.law_pieces.proofs.TextLemmas.{focused, may_clone, spot}
 
 is_there : (p : ExtentPiece) (o : Option NamedSource) → HasBytes p o → IsThere o
 is_there p None h = absurd h
