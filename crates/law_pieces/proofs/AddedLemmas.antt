@@ -12,29 +12,32 @@ use Rattle.sdr_base.specs.ZcoObjects.{ExtentRow, ObjectRow, capsule_entries, ext
 use Rattle.sdr_base.specs.declared.account.Acct.{Acct}
 use Rattle.sdr_base.proofs.StandingLemmas.{nonzero}
 use Rattle.zco_obj.specs.Gone.{NamedSource, source_at, sources_entries}
+use Rattle.zco_obj.specs.Kept.{KeepsObject}
 use Rattle.zco_obj.specs.Links.{piece_of}
 use Rattle.zco_obj.specs.declared.extent.ExtentPiece.{ExtentPiece}
 use Rattle.zco_part.specs.Cloning.{KeepsToClone}
 use Rattle.zco_part.specs.Pieces.{asked, extents_at, whole_row}
 use Rattle.zco_part.specs.Sources.{all_counted, counted}
-use Rattle.zco_join.specs.Joining.{AreClones, Joins, KeepsToJoin, SomeToJoin, Together, left_by, pieces_in}
+use Rattle.zco_join.specs.Joining.{AreClones, Joined, Joins, KeepsToJoin, SomeToJoin, Together, left_by, pieces_in}
 use Rattle.zco_join.specs.Stocks.{Queue, Standing, objects_entries, queues_entries}
 use Rattle.zco_join.specs.declared.filled.Filled.{Filled}
 use Rattle.zco_join.proofs.CountedLemmas.{all_behind, all_front, all_joined, all_less, all_mapped}
 use Rattle.zco_join.proofs.ClonesLemmas.{clones_length}
 use Rattle.zco_join.proofs.WholeLemmas.{length-extents_at}
 use Rattle.zco_pieces.specs.Adding.{AddsPiece, FillsParts, IsToAdd, has_clone, moves_to_fill}
+use Rattle.zco_pieces.specs.Cutting.{HasLength}
 use Rattle.zco_pieces.specs.Places.{Rebuilt, gap, opened}
 use Rattle.zco_pieces.specs.declared.piece.Piece.{Piece}
+use Rattle.zco_pieces.proofs.CutLemmas.{kept_object}
 use Rattle.zco_pieces.proofs.FillLemmas.{fills_length, pieces_most}
-use Rattle.law_pieces.specs.Texts.{HasAllBytes, HasBytes, SomeText, both, other, room_to_add, room_to_join, stock_of}
-use Rattle.law_pieces.proofs.CloneLemmas.{extents_have}
+use Rattle.law_pieces.specs.Texts.{Beside, HasAllBytes, HasBytes, Holds, SomeText, both, other, room_to_add, room_to_join, stock_of}
+use Rattle.law_pieces.proofs.CloneLemmas.{extents_have, to_clone}
 use Rattle.law_pieces.proofs.GapLemmas.{FilledSo, fill_all, room_for}
 use Rattle.law_pieces.proofs.HoldLemmas.{all_kept, counted_same, counts_fewer, holds_less, holds_moved, left_bytes, left_counts, queue_first}
-use Rattle.law_pieces.proofs.TextLemmas.{focused, may_clone, short, some_text, spot}
+use Rattle.law_pieces.proofs.TextLemmas.{focus_holds, focused, may_clone, short, some_text, spot}
 
 -- no object stands at 0
-standing_nonzero : {b : Blocks} (xs : Entries) (zs : List Standing) (rest : Entries) → BlocksAre b (xs ++ (objects_entries zs ++ rest)) →
+pub standing_nonzero : {b : Blocks} (xs : Entries) (zs : List Standing) (rest : Entries) → BlocksAre b (xs ++ (objects_entries zs ++ rest)) →
     All (λ z. z.addr ≢ 0) zs
 standing_nonzero xs [] rest s = All-nil (λ (z : Standing). z.addr ≢ 0)
 standing_nonzero {b} xs (z ∷ zs) rest s =
@@ -115,15 +118,16 @@ moves_most offset most row (p ∷ ps) le =
     let ih = moves_most offset most row ps le in
     omega (arith, c, d, one, ih)
 
+-- the parts of a text that is held have clones
+clones_there : {heap : Heap} {most room : ℕ} (r : Rebuilt) (x : Beside) → Holds heap most room (stock_of x) → AreClones r.parts x.clones →
+    All (λ p. p.object ≢ 0) r.parts
+clones_there r x h are =
+    parts_nonzero r.parts x.clones are
+    (all_front (λ (z : Standing). z.addr ≢ 0) x.clones x.others
+    (standing_nonzero [] (x.clones ++ x.others) (queues_entries (both x.tickets) ++ (sources_entries x.sources ++ x.rest)) h.keeps.stands))
+
 -- an object beside a text has pieces of it
 module _ {heap : Heap} (r : Rebuilt) (object : ℕ) (before behind : List ℕ) {most room : ℕ} (t : SomeText heap r.parts (before ++ (object ∷ behind)) most room) where
-  clones_there : All (λ p. p.object ≢ 0) r.parts
-  clones_there =
-      let x = t.beside in
-      parts_nonzero r.parts x.clones t.keeps.clones
-      (all_front (λ (z : Standing). z.addr ≢ 0) x.clones x.others
-      (standing_nonzero [] (x.clones ++ x.others) (queues_entries (both x.tickets) ++ (sources_entries x.sources ++ x.rest)) t.keeps.holds.keeps.stands))
-
   pub is_to_add : (n : ℕ) (piece : Piece) → piece.object ≡ object → length r.parts ≤ n → room_to_add most n ≤ room → IsToAdd heap r piece
   is_to_add n piece at few enough = λ kind.
       let x = t.beside in
@@ -152,30 +156,45 @@ parts_longer {old} {new} {r} {r'} {number} n piece few a =
     let f = fills_length piece.object number piece.offset (opened 0 r.total r.parts piece.offset a.length) r'.parts old new a.fills in
     omega (arith, m, f, few)
 
+-- A piece is an object that stands beside a text.
+module _ (x : Beside) (front : List Standing) (z : Standing) (back : List Standing) (whole : x.others ≡ front ++ (z ∷ back)) where
+  abbrev pub other_queue : Queue
+  other_queue = record { acct = other z.row.account; tickets = x.tickets (other z.row.account) }
+
+  -- its object is kept
+  pub kept_there : {heap : Heap} {most room : ℕ} → Holds heap most room (stock_of x) → KeepsObject heap.blocks z.addr z.row
+  kept_there h = let f = focus_holds x front z back whole h in kept_object (to_clone f.keeps f.counts)
+
+  -- it was added
+  pub added_holds : {old new : Heap} {r r' : Rebuilt} {most room number : ℕ} (n : ℕ) (piece : Piece) → Holds old most (room + room_to_add most n) (stock_of x) →
+      AreClones r.parts x.clones → piece.object ≡ z.addr → length r.parts ≤ n → AddsPiece number piece r r' old new →
+      FilledSo z (other_queue ∷ []) x.rest piece.offset (opened 0 r.total r.parts piece.offset z.row.part_length) r'.parts x.clones (front ++ back) most room new
+  added_holds {old} {new} {r} {r'} {most} {room} {number} n piece h are at few a =
+      let all = opened 0 r.total r.parts piece.offset z.row.part_length in
+      let long : a.length ≡ z.row.part_length =
+      (subst (λ b. HasLength b a.length old) at a.has).told.tells z.row (kept_there h) in
+      let l : length all ≤ 2 * n + 1 = let m = opened_most 0 r.total r.parts piece.offset z.row.part_length in omega (arith, m, few) in
+      let k = room_most most (2 * n + 1) all l in
+      let fills : FillsParts z.addr number piece.offset all r'.parts old new =
+      subst (λ m. FillsParts z.addr number piece.offset (opened 0 r.total r.parts piece.offset m) r'.parts old new) long
+      (subst (λ b. FillsParts b number piece.offset (opened 0 r.total r.parts piece.offset a.length) r'.parts old new) at a.fills) in
+      let clones : AreClones (filter has_clone all) x.clones =
+      subst (λ (ps : List Filled). AreClones ps x.clones) (sym (kept_opened 0 r.total r.parts piece.offset z.row.part_length (clones_there r x h are))) are in
+      fill_all z (other_queue ∷ []) x.rest number piece.offset most all r'.parts old new room x.clones (front ++ back) (x.tickets z.row.account) x.sources clones
+      (holds_less (omega (arith, k)) (omega arith) (focus_holds x front z back whole h)) fills
+
 -- a piece was added
 pub text_added : {old new : Heap} {r r' : Rebuilt} (object : ℕ) (before behind : List ℕ) {most room number : ℕ} (n : ℕ) (piece : Piece) →
     SomeText old r.parts (before ++ (object ∷ behind)) most (room + room_to_add most n) → piece.object ≡ object → length r.parts ≤ n →
     AddsPiece number piece r r' old new → SomeText new r'.parts (object ∷ (before ++ behind)) most room
-text_added {old} {new} {r} {r'} object before behind {most} {room} {number} n piece t at few a =
+text_added {r' = r'} object before behind n piece t at few a =
     let x = t.beside in
     let s = spot object before behind t in
     let z = s.here in
-    let acct = z.row.account in
-    let os = s.front ++ s.back in
-    let all = opened 0 r.total r.parts piece.offset a.length in
-    let l : length all ≤ 2 * n + 1 = let m = opened_most 0 r.total r.parts piece.offset a.length in omega (arith, m, few) in
-    let k = room_most most (2 * n + 1) all l in
-    let fills : FillsParts z.addr number piece.offset all r'.parts old new =
-    subst (λ b. FillsParts b number piece.offset all r'.parts old new) (at ∙ sym s.at) a.fills in
-    let queue : Queue = record { acct = other acct; tickets = x.tickets (other acct) } in
-    let clones : AreClones (filter has_clone all) x.clones =
-    subst (λ (ps : List Filled). AreClones ps x.clones) (sym (kept_opened 0 r.total r.parts piece.offset a.length (clones_there r object before behind t))) t.keeps.clones in
-    let w : FilledSo z (queue ∷ []) x.rest r'.parts os most room new =
-    fill_all z (queue ∷ []) x.rest number piece.offset most all r'.parts old new room x.clones os (x.tickets acct) x.sources clones
-    (holds_less (omega (arith, k)) (omega arith) (focused object before behind t)) fills in
-    some_text r'.parts (object ∷ (before ++ behind)) w.clones (z ∷ os) acct w.tickets (x.tickets (other acct)) w.sources x.rest w.are
-    (ap (λ (xs : List ℕ). z.addr ∷ xs) s.others ∙ ap (λ (b : ℕ). b ∷ (before ++ behind)) s.at)
-    (holds_moved (z ∷ []) w.clones os w.holds)
+    let w = added_holds x s.front z s.back s.whole n piece t.keeps.holds t.keeps.clones (at ∙ sym s.at) few a in
+    some_text r'.parts (object ∷ (before ++ behind)) w.clones (z ∷ (s.front ++ s.back)) z.row.account w.tickets (x.tickets (other z.row.account)) w.sources
+    x.rest w.are (ap (λ (xs : List ℕ). z.addr ∷ xs) s.others ∙ ap (λ (b : ℕ). b ∷ (before ++ behind)) s.at)
+    (holds_moved (z ∷ []) w.clones (s.front ++ s.back) w.holds)
 
 -- clones have so many extents together at most
 pieces_total : (most n : ℕ) (zs : List Standing) → length zs ≤ n → All (λ z. length z.row.extents ≤ most) zs → length (pieces_in zs) ≤ n * most
@@ -232,34 +251,50 @@ pieces_have ss (z ∷ zs) all =
     (all_mapped (λ (e : ExtentRow). HasBytes (piece_of e) (source_at e.source ss)) P piece_of (λ e h. h) z.row.extents (All-head (HasAllBytes ss) z zs all))
     (pieces_have ss zs (All-tail (HasAllBytes ss) z zs all))
 
--- the clones became one object
-pub text_joined : {old new : Heap} {parts : List Filled} {loose : List ℕ} {most room number object : ℕ} (n : ℕ) (acct : Acct) →
-    SomeText old parts loose most (room + room_to_join most n) → length parts ≤ n → n * most < 2 ^ 22 → Joins acct number parts old new object →
-    SomeText new [] (object ∷ loose) (most + n * most) room
-text_joined {old} {new} {parts} {loose} {most} {room} {number} {object} n acct t few low joins =
-    let x = t.beside in
-    let k = t.keeps.holds in
-    let A = pieces_in x.clones in
-    let j = joins.joins (together n acct t few) (to_join n acct t few low (omega arith)) in
-    let m = total n acct t few in
-    let l = length-extents_at j.addrs A j.each in
-    let o : Standing = record { addr = object; row = whole_row acct (extents_at j.addrs A) } in
-    let S : Standing → Type 0 = λ z. length z.row.extents ≤ most + n * most in
-    let B = HasAllBytes x.sources in
-    let C = all_counted acct A x.sources in
-    some_text [] (object ∷ loose) [] (o ∷ x.others) acct j.tickets (x.tickets (other acct)) (left_by x.clones C) x.rest tt
-    (ap (λ (xs : List ℕ). object ∷ xs) t.keeps.at)
-    (record {
-      keeps = j.keeps;
-      short =
-          All-cons S o x.others (omega (arith, l, m))
-          (All-weaker (λ (z : Standing). length z.row.extents ≤ most) S (λ z e. omega (arith, e)) x.others
-          (all_behind (λ (z : Standing). length z.row.extents ≤ most) x.clones x.others k.short));
-      bytes =
-          left_bytes x.clones C (o ∷ x.others)
-          (all_kept (counted acct A) (counted_same acct A) x.sources (o ∷ x.others)
-          (All-cons B o x.others (extents_have x.sources j.addrs A (pieces_have x.sources x.clones (all_front B x.clones x.others k.bytes)))
-          (all_behind B x.clones x.others k.bytes)));
-      counts = left_counts room x.clones C (all_less acct A (room + room_to_join most n) room x.sources (omega (arith, m)) k.counts);
-      spare = let s = j.spent in let r = k.spare in omega (arith, s, r, m, few);
-    })
+-- The clones became one object.
+module _ {old new : Heap} {parts : List Filled} {loose : List ℕ} {most number object : ℕ} (room n : ℕ) (acct : Acct)
+    (t : SomeText old parts loose most (room + room_to_join most n)) (few : length parts ≤ n) (low : n * most < 2 ^ 22)
+    (joins : Joins acct number parts old new object) where
+  abbrev pub joined : Joined acct number parts (together n acct t few) object old new
+  joined = joins.joins (together n acct t few) (to_join n acct t few low (omega arith))
+
+  abbrev pub joined_row : ObjectRow
+  joined_row = whole_row acct (extents_at joined.addrs (pieces_in t.beside.clones))
+
+  pub joined_holds : Holds new (most + n * most) room (record {
+    objects = record { addr = object; row = joined_row } ∷ t.beside.others;
+    queues = record { acct = acct; tickets = joined.tickets } ∷ record { acct = other acct; tickets = t.beside.tickets (other acct) } ∷ [];
+    sources = left_by t.beside.clones (all_counted acct (pieces_in t.beside.clones) t.beside.sources);
+    rest = t.beside.rest;
+  })
+  joined_holds =
+      let x = t.beside in
+      let k = t.keeps.holds in
+      let A = pieces_in x.clones in
+      let j = joined in
+      let m = total n acct t few in
+      let l = length-extents_at j.addrs A j.each in
+      let o : Standing = record { addr = object; row = joined_row } in
+      let S : Standing → Type 0 = λ z. length z.row.extents ≤ most + n * most in
+      let B = HasAllBytes x.sources in
+      let C = all_counted acct A x.sources in
+      record {
+        keeps = j.keeps;
+        short =
+            All-cons S o x.others (omega (arith, l, m))
+            (All-weaker (λ (z : Standing). length z.row.extents ≤ most) S (λ z e. omega (arith, e)) x.others
+            (all_behind (λ (z : Standing). length z.row.extents ≤ most) x.clones x.others k.short));
+        bytes =
+            left_bytes x.clones C (o ∷ x.others)
+            (all_kept (counted acct A) (counted_same acct A) x.sources (o ∷ x.others)
+            (All-cons B o x.others (extents_have x.sources j.addrs A (pieces_have x.sources x.clones (all_front B x.clones x.others k.bytes)))
+            (all_behind B x.clones x.others k.bytes)));
+        counts = left_counts room x.clones C (all_less acct A (room + room_to_join most n) room x.sources (omega (arith, m)) k.counts);
+        spare = let s = j.spent in let r = k.spare in omega (arith, s, r, m, few);
+      }
+
+  pub text_joined : SomeText new [] (object ∷ loose) (most + n * most) room
+  text_joined =
+      some_text [] (object ∷ loose) [] (record { addr = object; row = joined_row } ∷ t.beside.others) acct joined.tickets (t.beside.tickets (other acct))
+      (left_by t.beside.clones (all_counted acct (pieces_in t.beside.clones) t.beside.sources)) t.beside.rest tt
+      (ap (λ (xs : List ℕ). object ∷ xs) t.keeps.at) joined_holds

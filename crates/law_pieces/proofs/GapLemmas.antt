@@ -1,9 +1,11 @@
 -- The gaps among parts are filled with clones of an object that stands among others.
 use Rattle.std.proofs.Common.{◌≡◌, ◌+◌, ◌-◌, ℕ, Bool, true, false, cond, List, [], ◌∷◌, ◌++◌, refl, sym, ap, ◌∙◌, subst, arith}
-use Rattle.std.specs.Prelude.{◌==◌, MatchBool, filter, not, sum_by}
+use Rattle.std.specs.Prelude.{◌==◌, MatchBool, filter, not, sum_by, ⊤}
+use Rattle.std.proofs.lemmas.List.Elements.{All-cons, All-head, All-tail}
 use Rattle.std.proofs.lemmas.List.Sums.{sum_by-cons}
 use Rattle.sdr_base.specs.Entries.{Entries}
 use Rattle.sdr_base.specs.Objects.{Heap}
+use Rattle.sdr_base.specs.ZcoObjects.{ObjectRow}
 use Rattle.sdr_model.specs.declared.accounts.Ticket.{Ticket}
 use Rattle.zco_obj.specs.Gone.{NamedSource}
 use Rattle.zco_join.specs.Joining.{AreClones}
@@ -12,7 +14,9 @@ use Rattle.zco_join.specs.declared.filled.Filled.{Filled}
 use Rattle.zco_part.specs.Pieces.{asked, extents_at, whole_row}
 use Rattle.zco_part.specs.Sources.{all_counted}
 use Rattle.zco_pieces.specs.Adding.{FillsGap, FillsParts, has_clone}
-use Rattle.zco_pieces.proofs.FillLemmas.{tickets_then}
+use Rattle.zco_pieces.specs.Runs.{IsCloneOf}
+use Rattle.zco_pieces.proofs.FillLemmas.{is_cloned, tickets_then}
+use Rattle.law_pieces.specs.Rebuilding.{AreAt}
 use Rattle.law_pieces.specs.Texts.{Holds}
 use Rattle.law_pieces.proofs.CloneLemmas.{holds_clone, to_clone}
 use Rattle.law_pieces.proofs.HoldLemmas.{holds_less, holds_moved}
@@ -20,6 +24,17 @@ use Rattle.law_pieces.proofs.HoldLemmas.{holds_less, holds_moved}
 -- so many moves at most, where each of these parts gets a clone of so many extents at most
 abbrev pub room_for : ℕ → List Filled → ℕ
 room_for most = sum_by (λ p. 1 + most)
+
+-- a gap has a clone of an object's bytes in its place, which are those of the text from an offset on
+pub record GapClone (row : ObjectRow) (offset : ℕ) (p q : Filled) (e : Standing) : Type 0 where
+  pub place : q ≡ record p { object = q.object }
+  pub clone : IsCloneOf row (p.offset - offset) p.length e.row
+
+-- so has each gap among these parts, and the other parts stay
+abbrev pub GapClones : ObjectRow → ℕ → List Filled → List Filled → List Standing → Type 0
+GapClones row offset [] [] [] = ⊤
+GapClones row offset (p ∷ ps) (q ∷ qs) (e ∷ es) = MatchBool (p.object == 0) (GapClone row offset p q e) (q ≡ p) × GapClones row offset ps qs es
+GapClones row offset ps qs es = ⊥
 
 -- an object, before clones and others
 module _ (z : Standing) (qs : List Queue) (rest : Entries) where
@@ -43,9 +58,11 @@ module _ (z : Standing) (qs : List Queue) (rest : Entries) where
   to_clones e clones others h =
       holds_moved (e ∷ []) (z ∷ []) (clones ++ others) (holds_moved (z ∷ clones) (e ∷ []) others h)
 
-  -- what is held once parts were filled
-  pub record FilledSo (qs' : List Filled) (others : List Standing) (most room : ℕ) (heap : Heap) : Type 0 where
+  -- what is held once parts were filled, of which some had clones before
+  pub record FilledSo (offset : ℕ) (ps qs' : List Filled) (before others : List Standing) (most room : ℕ) (heap : Heap) : Type 0 where
     pub clones : List Standing
+    pub gaps : GapClones z.row offset ps qs' clones
+    pub still : (clone_at : ℕ → ObjectRow) → AreAt clone_at clones → AreAt clone_at before
     pub tickets : List Ticket
     pub sources : List NamedSource
     pub are : AreClones qs' clones
@@ -58,9 +75,11 @@ module _ (z : Standing) (qs : List Queue) (rest : Entries) where
     -- parts are filled, one after another
     pub fill_all : (ps qs' : List Filled) (old new : Heap) (room : ℕ) (clones others : List Standing) (tickets : List Ticket) (sources : List NamedSource) →
         AreClones (kept ps) clones → Holds old most (room + room_for most ps) (stock clones others tickets sources) →
-        FillsParts z.addr number offset ps qs' old new → FilledSo qs' others most room new
+        FillsParts z.addr number offset ps qs' old new → FilledSo offset ps qs' clones others most room new
     fill_all [] [] old new room [] others tickets sources a h f = record {
       clones = [];
+      gaps = tt;
+      still = λ clone_at t. t;
       tickets = tickets;
       sources = sources;
       are = tt;
@@ -76,10 +95,16 @@ module _ (z : Standing) (qs : List Queue) (rest : Entries) where
         long = sum_by-cons (λ (x : Filled). 1 + most) p ps
 
         -- the others, with one clone in front
-        front : (e : Standing) → (e.addr ≡ q.object) → (e.row ≡ whole_row e.row.account e.row.extents) → FilledSo qs' (e ∷ others) most room new →
-            FilledSo (q ∷ qs') others most room new
-        front e addr is w = record {
+        front : (e : Standing) (zs : List Standing) (cs : List Standing) → (e.addr ≡ q.object) → (e.row ≡ whole_row e.row.account e.row.extents) →
+            MatchBool (p.object == 0) (GapClone z.row offset p q e) (q ≡ p) →
+            ((clone_at : ℕ → ObjectRow) → clone_at e.addr ≡ e.row → AreAt clone_at cs → AreAt clone_at zs) →
+            FilledSo offset ps qs' cs (e ∷ others) most room new → FilledSo offset (p ∷ ps) (q ∷ qs') zs others most room new
+        front e zs cs addr is gap was w = record {
           clones = e ∷ w.clones;
+          gaps = (gap, w.gaps);
+          still = λ clone_at t.
+              let P : Standing → Type 0 = λ x. clone_at x.addr ≡ x.row in
+              was clone_at (All-head P e w.clones t) (w.still clone_at (All-tail P e w.clones t));
           tickets = w.tickets;
           sources = w.sources;
           are = (addr, is, w.are);
@@ -89,24 +114,30 @@ module _ (z : Standing) (qs : List Queue) (rest : Entries) where
         by : (b : Bool) → (p.object == 0) ≡ b → AreClones (cond (not b) (p ∷ kept ps) (kept ps)) clones →
             MatchBool b (FillsGap z.addr number offset p q old f.0) ((q ≡ p) × (f.0 ≡ old)) →
             ((cs os : List Standing) (ts : List Ticket) (ss : List NamedSource) → AreClones (kept ps) cs →
-            Holds f.0 most (room + room_for most ps) (stock cs os ts ss) → FilledSo qs' os most room new) → FilledSo (q ∷ qs') others most room new
+            Holds f.0 most (room + room_for most ps) (stock cs os ts ss) → FilledSo offset ps qs' cs os most room new) →
+            FilledSo offset (p ∷ ps) (q ∷ qs') clones others most room new
         by true e are g again =
             let c = g.clones in
             let h' : Holds old most ((room + room_for most ps) + (1 + most)) (stock clones others tickets sources) =
             holds_less (omega (arith, long)) (omega arith) h in
+            let may = to_clone h'.keeps h'.counts in
             let made : Standing = record { addr = q.object; row = whole_row z.row.account (extents_at c.addrs (asked (p.offset - offset) p.length z.row)) } in
+            let gap : GapClone z.row offset p q made =
+            record { place = g.place; clone = record { addrs = c.addrs; each = (is_cloned c may).each; is = refl } } in
             let held = holds_clone h' c in
-            front made refl refl
-            (again clones (made ∷ others) (tickets_then c (to_clone h'.keeps h'.counts))
+            front made clones clones refl refl (subst (λ (v : Bool). MatchBool v (GapClone z.row offset p q made) (q ≡ p)) (sym e) gap) (λ clone_at one t. t)
+            (again clones (made ∷ others) (tickets_then c may)
             (all_counted z.row.account (asked (p.offset - offset) p.length z.row) sources) are
             (holds_moved (made ∷ []) (z ∷ clones) others held))
         by false e are g again = next clones are h
           where
             next : (xs : List Standing) → AreClones (p ∷ kept ps) xs → Holds old most (room + room_for most (p ∷ ps)) (stock xs others tickets sources) →
-                FilledSo (q ∷ qs') others most room new
+                FilledSo offset (p ∷ ps) (q ∷ qs') xs others most room new
             next [] a' h' = absurd a'
             next (x ∷ xs) a' h' =
-                front x (a'.0 ∙ ap (λ (y : Filled). y.object) (sym g.0)) a'.1
+                front x (x ∷ xs) xs (a'.0 ∙ ap (λ (y : Filled). y.object) (sym g.0)) a'.1
+                (subst (λ (v : Bool). MatchBool v (GapClone z.row offset p q x) (q ≡ p)) (sym e) g.0)
+                (λ clone_at one t. All-cons (λ (y : Standing). clone_at y.addr ≡ y.row) x xs one t)
                 (again xs (x ∷ others) tickets sources a'.2
                 (subst (λ (heap : Heap). Holds heap most (room + room_for most ps) (stock xs (x ∷ others) tickets sources)) (sym g.1)
                 (holds_less (omega (arith, long)) (omega arith) (to_others x xs others h'))))

@@ -7,3 +7,4 @@ pub mod TextLemmas
 pub mod AddedLemmas
 pub mod WireLemmas
 pub mod BeginLemmas
+pub mod RebuildLemmas

@@ -67,6 +67,27 @@ find_standing addr (b ∷ before) behind (z ∷ zs) e =
           ∙ ap (λ (xs : List ℕ). b ∷ xs) s.others;
     }
 
+-- one of the others is told before the clones and the others
+pub focus_holds : {heap : Heap} {most room : ℕ} (x : Beside) (front : List Standing) (z : Standing) (back : List Standing) → x.others ≡ front ++ (z ∷ back) →
+    Holds heap most room (stock_of x) →
+    Holds heap most room (record {
+      objects = z ∷ (x.clones ++ (front ++ back));
+      queues = before_other z.row.account x.tickets;
+      sources = x.sources;
+      rest = x.rest;
+    })
+focus_holds {heap} {most} {room} x front z back whole h =
+    let others = front ++ back in
+    let acct = z.row.account in
+    let S : List Standing → Stock = λ os. record { objects = os; queues = both x.tickets; sources = x.sources; rest = x.rest } in
+    let one : Holds heap most room (S ((x.clones ++ front) ++ ((z ∷ []) ++ back))) =
+    subst (λ (os : List Standing). Holds heap most room (S os))
+    (ap (λ (os : List Standing). x.clones ++ os) whole ∙ sym (append_assoc x.clones front (z ∷ back))) h in
+    let two : Holds heap most room (S (z ∷ ((x.clones ++ front) ++ back))) = holds_moved (x.clones ++ front) (z ∷ []) back one in
+    let three : Holds heap most room (S (z ∷ (x.clones ++ others))) =
+    subst (λ (os : List Standing). Holds heap most room (S (z ∷ os))) (append_assoc x.clones front back) two in
+    holds_as (S (z ∷ (x.clones ++ others))) (before_other acct x.tickets) (queue_first (S (z ∷ (x.clones ++ others))) acct x.tickets three.keeps) three
+
 -- An object is among those beside a text.
 module _ {heap : Heap} {parts : List Filled} (object : ℕ) (before behind : List ℕ) {most room : ℕ} (t : SomeText heap parts (before ++ (object ∷ behind)) most room) where
   abbrev pub x : Beside
@@ -86,16 +107,7 @@ module _ {heap : Heap} {parts : List Filled} (object : ℕ) (before behind : Lis
 
   -- it stands before the clones and the others
   pub focused : Holds heap most room (record { objects = z ∷ (x.clones ++ others); queues = before_other acct x.tickets; sources = x.sources; rest = x.rest })
-  focused =
-      let S : List Standing → Stock = λ os. record { objects = os; queues = both x.tickets; sources = x.sources; rest = x.rest } in
-      let one : Holds heap most room (S ((x.clones ++ spot.front) ++ ((z ∷ []) ++ spot.back))) =
-      subst (λ (os : List Standing). Holds heap most room (S os))
-      (ap (λ (os : List Standing). x.clones ++ os) spot.whole ∙ sym (append_assoc x.clones spot.front (z ∷ spot.back))) t.keeps.holds in
-      let two : Holds heap most room (S (z ∷ ((x.clones ++ spot.front) ++ spot.back))) = holds_moved (x.clones ++ spot.front) (z ∷ []) spot.back one in
-      let three : Holds heap most room (S (z ∷ (x.clones ++ others))) =
-      subst (λ (os : List Standing). Holds heap most room (S (z ∷ os))) (append_assoc x.clones spot.front spot.back) two in
-      holds_as (S (z ∷ (x.clones ++ others))) (before_other acct x.tickets)
-      (queue_first (S (z ∷ (x.clones ++ others))) acct x.tickets three.keeps) three
+  focused = focus_holds x spot.front z spot.back spot.whole t.keeps.holds
 
   pub may_clone : KeepsToClone heap object z.row (x.tickets acct) x.sources
   may_clone =
@@ -121,7 +133,25 @@ module _ {heap : Heap} {parts : List Filled} (object : ℕ) (before behind : Lis
         omega (arith, enough, r, s, m);
   }
 
--- what stands beside a text, with the object's queue first, is told again as beside it
+-- with the object's queue first, what is held is told again with both queues in order
+pub told_both : {heap : Heap} {most room : ℕ} (objects : List Standing) (acct : Acct) (ts us : List Ticket) (sources : List NamedSource) (rest : Entries) →
+    Holds heap most room (record {
+      objects = objects;
+      queues = record { acct = acct; tickets = ts } ∷ record { acct = other acct; tickets = us } ∷ [];
+      sources = sources;
+      rest = rest;
+    }) →
+    (tickets : Acct → List Ticket) × Holds heap most room (record { objects = objects; queues = both tickets; sources = sources; rest = rest })
+told_both objects acct ts us sources rest h =
+    let S : Stock = record {
+      objects = objects;
+      queues = record { acct = acct; tickets = ts } ∷ record { acct = other acct; tickets = us } ∷ [];
+      sources = sources;
+      rest = rest;
+    } in
+    let back = queues_back S acct ts us h.keeps in (back.0, holds_as S (both back.0) back.1 h)
+
+-- so it is with what stands beside a text
 pub some_text : {heap : Heap} {most room : ℕ} (parts : List Filled) (loose : List ℕ) (clones others : List Standing) (acct : Acct) (ts us : List Ticket)
     (sources : List NamedSource) (rest : Entries) → AreClones parts clones → map (λ (z : Standing). z.addr) others ≡ loose →
     Holds heap most room (record {
@@ -130,17 +160,11 @@ pub some_text : {heap : Heap} {most room : ℕ} (parts : List Filled) (loose : L
       sources = sources;
       rest = rest;
     }) → SomeText heap parts loose most room
-some_text {heap} {most} {room} parts loose clones others acct ts us sources rest are at h =
-    let S : Stock = record {
-      objects = clones ++ others;
-      queues = record { acct = acct; tickets = ts } ∷ record { acct = other acct; tickets = us } ∷ [];
-      sources = sources;
-      rest = rest;
-    } in
-    let back = queues_back S acct ts us h.keeps in
+some_text parts loose clones others acct ts us sources rest are at h =
+    let told = told_both (clones ++ others) acct ts us sources rest h in
     record {
-      beside = record { clones = clones; others = others; tickets = back.0; sources = sources; rest = rest };
-      keeps = record { holds = holds_as S (both back.0) back.1 h; clones = are; at = at };
+      beside = record { clones = clones; others = others; tickets = told.0; sources = sources; rest = rest };
+      keeps = record { holds = told.1; clones = are; at = at };
     }
 
 -- a piece of it was cut

@@ -28,7 +28,7 @@ pub returns-clause-longer : goal.returns-clause-longer
 returns-clause-longer c = λ r r' number n piece old new few a. parts_longer n piece few a
 
 pub returns-clause-finished : goal.returns-clause-finished
-returns-clause-finished c = λ acct parts loose most room number n object old new t few low j. text_joined n acct t few low j
+returns-clause-finished c = λ acct parts loose most room number n object old new t few low j. text_joined room n acct t few low j
 
 pub returns-clause-less : goal.returns-clause-less
 returns-clause-less c = λ parts loose most room room' heap le t. text_less le t

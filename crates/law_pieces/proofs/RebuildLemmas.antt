@@ -1,0 +1,91 @@
+-- What the calls on a text do to blocks is what the law of rebuilding speaks of.
+use Rattle.std.proofs.Common.{◌≡◌, ◌≢◌, ◌+◌, ◌-◌, ◌*◌, ◌≤◌, ◌<◌, ◌^◌, ℕ, Bool, true, false, List, [], ◌∷◌, ◌++◌, length, refl, sym, ap, ◌∙◌, subst, arith}
+use Rattle.std.specs.Prelude.{◌==◌, All, MatchBool, map}
+use Rattle.std.proofs.lemmas.List.{map-append}
+use Rattle.std.proofs.lemmas.List.Elements.{All-cons, All-head, All-nil, All-tail}
+use Rattle.sdr_base.specs.Objects.{Heap}
+use Rattle.sdr_base.specs.ZcoObjects.{ObjectRow}
+use Rattle.zco_obj.specs.Gone.{sources_entries}
+use Rattle.zco_join.specs.Joining.{AreClones}
+use Rattle.zco_join.specs.Stocks.{Standing, queues_entries}
+use Rattle.zco_join.specs.declared.filled.Filled.{Filled}
+use Rattle.zco_join.proofs.CountedLemmas.{all_front}
+use Rattle.zco_pieces.specs.Adding.{AddsPiece, IsPieceOf}
+use Rattle.zco_pieces.specs.Cutting.{HasLength}
+use Rattle.zco_pieces.specs.Places.{Rebuilt, opened}
+use Rattle.zco_pieces.specs.Runs.{AddStep, Added, GapFilled, GapsFilled, IsCloneOf, Rebuilds}
+use Rattle.zco_pieces.specs.declared.piece.Piece.{Piece}
+use Rattle.law_pieces.specs.Rebuilding.{AreAt, HoldsRebuilt, IsRebuiltFrom, Part, by_held}
+use Rattle.law_pieces.specs.Texts.{Beside, Holds, SomeText, both, other, room_to_add, stock_of}
+use Rattle.law_pieces.proofs.AddedLemmas.{added_holds, kept_there, standing_nonzero}
+use Rattle.law_pieces.proofs.GapLemmas.{FilledSo, GapClone, GapClones}
+use Rattle.law_pieces.proofs.HoldLemmas.{before_other, holds_moved}
+use Rattle.law_pieces.proofs.TextLemmas.{told_both}
+
+-- one piece more was added
+rebuilds_more : (clone_at : ℕ → ObjectRow) (held : ℕ → ℕ → ℕ) (as' : List Added) (a : Added) (r mid r' : Rebuilt) → Rebuilds clone_at held r as' mid →
+    AddStep clone_at held mid a r' → Rebuilds clone_at held r (as' ++ (a ∷ [])) r'
+rebuilds_more clone_at held [] a r mid r' e s = (r', subst (λ (x : Rebuilt). AddStep clone_at held x a r') e s, refl)
+rebuilds_more clone_at held (b ∷ as') a r mid r' e s = (e.0, e.1, rebuilds_more clone_at held as' a e.0 mid r' e.2 s)
+
+module _ (clone_at : ℕ → ObjectRow) (held : ℕ → ℕ → ℕ) (part : Part) where
+  abbrev a : Added
+  a = by_held held part
+
+  -- gaps that have clones are filled, where the clones have these rows
+  gaps_filled : (ps qs : List Filled) (es : List Standing) → GapClones part.row part.piece.offset ps qs es → AreClones qs es →
+      All (λ e. e.addr ≢ 0) es → AreAt clone_at es → GapsFilled clone_at held a ps qs
+  gaps_filled [] [] [] g are n t = tt
+  gaps_filled (p ∷ ps) (q ∷ qs) (e ∷ es) g are n t =
+      let N : Standing → Type 0 = λ x. x.addr ≢ 0 in
+      let P : Standing → Type 0 = λ x. clone_at x.addr ≡ x.row in
+      (one (p.object == 0) (All-head N e es n) (All-head P e es t) g.0, gaps_filled ps qs es g.1 are.2 (All-tail N e es n) (All-tail P e es t))
+    where
+      one : (b : Bool) → e.addr ≢ 0 → clone_at e.addr ≡ e.row → MatchBool b (GapClone part.row part.piece.offset p q e) (q ≡ p) →
+          MatchBool b (GapFilled clone_at held a p q) (q ≡ p)
+      one true nonzero told gap = record {
+        place = gap.place;
+        some = λ z. nonzero (are.0 ∙ z);
+        clone =
+            subst (λ (row : ObjectRow). IsCloneOf part.row (p.offset - part.piece.offset) p.length row) (sym (ap clone_at (sym are.0) ∙ told)) gap.clone;
+        stays = refl;
+      }
+      one false nonzero told same = same
+  gaps_filled ps qs es g are n t = absurd g
+
+-- a piece of an object beside a text was added to it
+pub rebuilt_added : {old new : Heap} {total : ℕ} {added : List Part} {r r' : Rebuilt} (before : List Standing) (z : Standing) (behind : List Standing)
+    {most room number : ℕ} (n : ℕ) (piece : Piece) → HoldsRebuilt old total added r (before ++ (z ∷ behind)) most (room + room_to_add most n) →
+    piece.object ≡ z.addr → length r.parts ≤ n → AddsPiece number piece r r' old new →
+    HoldsRebuilt new total (added ++ (record { piece = piece; row = z.row } ∷ [])) r' (z ∷ (before ++ behind)) most room
+rebuilt_added {old} {new} {total} {added} {r} {r'} before z behind {most} {room} {number} n piece h at few a =
+    let x = h.beside in
+    let all = opened 0 r.total r.parts piece.offset z.row.part_length in
+    let w = added_holds x before z behind h.stand n piece h.holds h.clones at few a in
+    let long : a.length ≡ z.row.part_length =
+    (subst (λ b. HasLength b a.length old) at a.has).told.tells z.row (kept_there x before z behind h.stand h.holds) in
+    let moved = holds_moved (z ∷ []) w.clones (before ++ behind) w.holds in
+    let told = told_both (w.clones ++ (z ∷ (before ++ behind))) z.row.account w.tickets (x.tickets (other z.row.account)) w.sources x.rest moved in
+    let part : Part = record { piece = piece; row = z.row } in
+    let nonzero : All (λ (e : Standing). e.addr ≢ 0) w.clones =
+    all_front (λ (e : Standing). e.addr ≢ 0) w.clones (z ∷ (before ++ behind))
+    (standing_nonzero [] (w.clones ++ (z ∷ (before ++ behind))) (queues_entries (both told.0) ++ (sources_entries w.sources ++ x.rest)) told.1.keeps.stands) in
+    record {
+      beside = record { clones = w.clones; others = z ∷ (before ++ behind); tickets = told.0; sources = w.sources; rest = x.rest };
+      holds = told.1;
+      clones = w.are;
+      stand = refl;
+      rebuilt = record {
+        rebuilds = λ clone_at held at_rows.
+            let P : Standing → Type 0 = λ y. clone_at y.addr ≡ y.row in
+            let step : AddStep clone_at held r (by_held held part) r' =
+            record {
+              fits = subst (IsPieceOf r.total piece) long a.fits;
+              total = a.total;
+              filled = gaps_filled clone_at held part all r'.parts w.clones w.gaps w.are nonzero at_rows;
+            } in
+            subst (λ (as' : List Added). Rebuilds clone_at held (record { total = total; parts = [] }) as' r') (sym (map-append (by_held held) added (part ∷ [])))
+            (rebuilds_more clone_at held (map (by_held held) added) (by_held held part) (record { total = total; parts = [] }) r r'
+            (h.rebuilt.rebuilds clone_at held (w.still clone_at at_rows)) step);
+      };
+    }
