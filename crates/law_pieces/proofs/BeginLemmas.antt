@@ -1,5 +1,6 @@
 -- A heap that has nothing, then a raw object, and then an object of it.
-use Rattle.std.proofs.Common.{◌≡◌, ◌+◌, ◌≤◌, ◌<◌, ◌^◌, ℕ, List, [], ◌∷◌, ◌++◌, length, Option, refl, sym, ap, subst, arith, inl, inr}
+use Rattle.std.proofs.Common.{◌≡◌, ◌+◌, ◌≤◌, ◌<◌, ◌^◌, ℕ, List, [], ◌∷◌, ◌++◌, length, map, Option, refl, sym, ap, ◌∙◌, subst, arith, inl, inr, append-nil}
+use Rattle.std.specs.List.{range_with_len}
 use Rattle.std.proofs.lemmas.List.Elements.{All-cons, All-nil}
 use Rattle.sdr_base.specs.Blocks.{Block, IsKind}
 use Rattle.sdr_base.specs.Entries.{BlocksAre, Entries}
@@ -7,7 +8,7 @@ use Rattle.sdr_base.specs.Linked.{linked}
 use Rattle.sdr_base.specs.Objects.{Heap}
 use Rattle.sdr_base.specs.Raws.{raw_entries}
 use Rattle.sdr_base.specs.Words.{TakesBytes}
-use Rattle.sdr_base.specs.ZcoObjects.{ExtentRow}
+use Rattle.sdr_base.specs.ZcoObjects.{ExtentRow, ObjectRow}
 use Rattle.sdr_base.specs.declared.account.Acct.{Acct}
 use Rattle.sdr_base.specs.declared.account.Acct.TheVariants as accts
 use Rattle.sdr_base.specs.declared.kind.Kind.TheVariants as kinds
@@ -24,10 +25,12 @@ use Rattle.zco_obj.specs.Uses.{CountsUses, IsThere}
 use Rattle.zco_obj.specs.Making.{CreatesObject, empty_row}
 use Rattle.zco_obj.specs.declared.extent.ExtentPiece.{ExtentPiece}
 use Rattle.zco_join.specs.Stocks.{KeepsStock, Queue, Standing, TellsQueue}
+use Rattle.law_pieces.specs.Rebuilding.{HasPayload, HoldsRebuilt}
 use Rattle.law_pieces.specs.Texts.{HasEmpty, HasNothing, HasRaw, SomeText, with_rest}
+use Rattle.law_pieces.proofs.FinishLemmas.{whole_bytes}
 use Rattle.law_pieces.proofs.HoldLemmas.{queue_first}
 use Rattle.law_pieces.proofs.PayloadLemmas.{create_spare, create_step, filled, payload_step, queue_kept, raw_found, raw_step, source, tickets_then, with_raw}
-use Rattle.law_pieces.proofs.TextLemmas.{some_text}
+use Rattle.law_pieces.proofs.TextLemmas.{some_text, told_both}
 
 -- no ticket
 abbrev none : Acct → List Ticket
@@ -98,3 +101,29 @@ text_begun piece e short few (inl a) = absurd (no_source e short a.may.is_source
 text_begun {acct = acct} {object = object} {bytes = bytes} {room = room} piece e short few (inr a) =
     some_text [] (object ∷ []) [] (filled piece bytes e.keeps short e.small a ∷ []) acct (tickets_then piece bytes e.keeps short e.small a) []
     (source piece bytes e.keeps short e.small a ∷ []) [] tt refl (payload_step piece bytes e.keeps short e.small a room few e.spare)
+
+-- the object that a text begins with has the bytes of a piece, and stands beside the text
+module _ {old new : Heap} {acct : Acct} {object number : ℕ} {bytes : List ℕ} {room : ℕ} (piece : ExtentPiece)
+    (e : HasEmpty old acct object piece.of bytes (room + 2)) (short : length bytes ≤ longest_source) (few : room < 2 ^ 60) where
+  pub rebuilt_begun : (total : ℕ) → AppendsPiece object number piece old new →
+      (row : ObjectRow) × HasPayload piece.offset piece.bytes row
+      × HoldsRebuilt new total [] (record { total = total; parts = [] }) (record { addr = object; row = row } ∷ []) 1 room
+  rebuilt_begun total (inl a) = absurd (no_source e short a.may.is_source)
+  rebuilt_begun total (inr a) =
+      let z = filled piece bytes e.keeps short e.small a in
+      let told =
+      told_both (z ∷ []) acct (tickets_then piece bytes e.keeps short e.small a) [] (source piece bytes e.keeps short e.small a ∷ []) []
+      (payload_step piece bytes e.keeps short e.small a room few e.spare) in (
+        z.row,
+        record {
+          source = a.source;
+          bytes = λ held. whole_bytes held acct z.row.extents ∙ append-nil (map (held a.source) (range_with_len piece.offset piece.bytes));
+        },
+        record {
+          beside = record { clones = []; others = z ∷ []; tickets = told.0; sources = source piece bytes e.keeps short e.small a ∷ []; rest = [] };
+          holds = told.1;
+          clones = tt;
+          stand = refl;
+          rebuilt = record { rebuilds = λ clone_at held at. refl };
+        },
+      )

@@ -8,3 +8,4 @@ pub mod AddedLemmas
 pub mod WireLemmas
 pub mod BeginLemmas
 pub mod RebuildLemmas
+pub mod FinishLemmas

@@ -6,21 +6,29 @@ use Rattle.std.proofs.lemmas.List.Elements.{All-cons, All-head, All-nil, All-tai
 use Rattle.sdr_base.specs.Objects.{Heap}
 use Rattle.sdr_base.specs.ZcoObjects.{ObjectRow}
 use Rattle.zco_obj.specs.Gone.{sources_entries}
+use Rattle.zco_obj.specs.Kept.{ObjectFits}
+use Rattle.zco_part.specs.Cloning.{ClonesPart}
+use Rattle.zco_part.specs.Pieces.{asked, extents_at, whole_row}
+use Rattle.zco_part.specs.Sources.{all_counted}
 use Rattle.zco_join.specs.Joining.{AreClones}
 use Rattle.zco_join.specs.Stocks.{Standing, queues_entries}
 use Rattle.zco_join.specs.declared.filled.Filled.{Filled}
 use Rattle.zco_join.proofs.CountedLemmas.{all_front}
 use Rattle.zco_pieces.specs.Adding.{AddsPiece, IsPieceOf}
-use Rattle.zco_pieces.specs.Cutting.{HasLength}
-use Rattle.zco_pieces.specs.Places.{Rebuilt, opened}
+use Rattle.zco_pieces.specs.Bytes.{FitsText, part_bytes}
+use Rattle.zco_pieces.specs.Cutting.{CutsPiece, HasLength, HasPiece}
+use Rattle.zco_pieces.specs.Places.{Rebuilt, cut_length, opened}
 use Rattle.zco_pieces.specs.Runs.{AddStep, Added, GapFilled, GapsFilled, IsCloneOf, Rebuilds}
 use Rattle.zco_pieces.specs.declared.piece.Piece.{Piece}
+use Rattle.zco_pieces.proofs.CutLawLemmas.{cut_fits}
+use Rattle.zco_pieces.proofs.FillLemmas.{is_cloned, tickets_then}
 use Rattle.law_pieces.specs.Rebuilding.{AreAt, HoldsRebuilt, IsRebuiltFrom, Part, by_held}
 use Rattle.law_pieces.specs.Texts.{Beside, Holds, SomeText, both, other, room_to_add, stock_of}
 use Rattle.law_pieces.proofs.AddedLemmas.{added_holds, kept_there, standing_nonzero}
+use Rattle.law_pieces.proofs.CloneLemmas.{holds_clone, to_clone}
 use Rattle.law_pieces.proofs.GapLemmas.{FilledSo, GapClone, GapClones}
 use Rattle.law_pieces.proofs.HoldLemmas.{before_other, holds_moved}
-use Rattle.law_pieces.proofs.TextLemmas.{told_both}
+use Rattle.law_pieces.proofs.TextLemmas.{focus_holds, told_both}
 
 -- one piece more was added
 rebuilds_more : (clone_at : ℕ → ObjectRow) (held : ℕ → ℕ → ℕ) (as' : List Added) (a : Added) (r mid r' : Rebuilt) → Rebuilds clone_at held r as' mid →
@@ -89,3 +97,57 @@ rebuilt_added {old} {new} {total} {added} {r} {r'} before z behind {most} {room}
             (h.rebuilt.rebuilds clone_at held (w.still clone_at at_rows)) step);
       };
     }
+
+-- A piece of an object beside a text was cut.
+module _ {old new : Heap} {total : ℕ} {added : List Part} {r : Rebuilt} (before : List Standing) (z : Standing) (behind : List Standing)
+    {most number n k : ℕ} (room : ℕ) (piece : Piece) (h : HoldsRebuilt old total added r (before ++ (z ∷ behind)) most (room + (1 + most)))
+    (cuts : CutsPiece z.addr number n k old new piece) where
+  cut_focus : Holds old most (room + (1 + most)) (record {
+    objects = z ∷ (h.beside.clones ++ (before ++ behind));
+    queues = before_other z.row.account h.beside.tickets;
+    sources = h.beside.sources;
+    rest = h.beside.rest;
+  })
+  cut_focus = focus_holds h.beside before z behind h.stand h.holds
+
+  cut_total : piece.total ≡ z.row.part_length
+  cut_total = cuts.total.told.tells z.row (kept_there h.beside before z behind h.stand h.holds)
+
+  pub cut_clones : ClonesPart z.addr number (k * n) (cut_length z.row.part_length n k) old new piece.object
+  cut_clones = subst (λ m. ClonesPart z.addr number (k * n) (cut_length m n k) old new piece.object) cut_total cuts.clones
+
+  abbrev pub cut_row : ObjectRow
+  cut_row = whole_row z.row.account (extents_at cut_clones.addrs (asked (k * n) (cut_length z.row.part_length n k) z.row))
+
+  -- it fits the object's bytes
+  pub cut_fits_it : (held : ℕ → ℕ → ℕ) → FitsText held (part_bytes held z.row) piece cut_row
+  cut_fits_it held =
+      let f = cut_focus in
+      cut_fits held z.row cut_row n k piece (All-head (λ (y : Standing). ObjectFits y.row) z (h.beside.clones ++ (before ++ behind)) f.keeps.fits)
+      (subst (λ m. HasPiece m n k) cut_total cuts.has)
+      (record { addrs = cut_clones.addrs; each = (is_cloned cut_clones (to_clone f.keeps f.counts)).each; is = refl }) cuts.offset cut_total
+
+  -- and it stands beside the text
+  pub rebuilt_cut : HoldsRebuilt new total added r (record { addr = piece.object; row = cut_row } ∷ (z ∷ (before ++ behind))) most room
+  rebuilt_cut =
+      let x = h.beside in
+      let f = cut_focus in
+      let os = before ++ behind in
+      let made : Standing = record { addr = piece.object; row = cut_row } in
+      let told =
+      told_both (x.clones ++ (made ∷ (z ∷ os))) z.row.account (tickets_then cut_clones (to_clone f.keeps f.counts)) (x.tickets (other z.row.account))
+      (all_counted z.row.account (asked (k * n) (cut_length z.row.part_length n k) z.row) x.sources) x.rest
+      (holds_moved (made ∷ (z ∷ [])) x.clones os (holds_clone f cut_clones)) in
+      record {
+        beside = record {
+          clones = x.clones;
+          others = made ∷ (z ∷ os);
+          tickets = told.0;
+          sources = all_counted z.row.account (asked (k * n) (cut_length z.row.part_length n k) z.row) x.sources;
+          rest = x.rest;
+        };
+        holds = told.1;
+        clones = h.clones;
+        stand = refl;
+        rebuilt = h.rebuilt;
+      }

@@ -1,9 +1,11 @@
 -- A text that stands in a heap, the pieces that it was rebuilt from, and the rows of the objects beside it.
 use Rattle.std.specs.Prelude.{◌≡◌, ℕ, List, [], map, All}
+use Rattle.std.specs.List.{range_with_len}
 use Rattle.sdr_base.specs.Objects.{Heap}
 use Rattle.sdr_base.specs.ZcoObjects.{ObjectRow}
 use Rattle.zco_join.specs.Joining.{AreClones}
 use Rattle.zco_join.specs.Stocks.{Standing}
+use Rattle.zco_pieces.specs.Bytes.{part_bytes}
 use Rattle.zco_pieces.specs.Places.{Rebuilt}
 use Rattle.zco_pieces.specs.Runs.{Added, Rebuilds}
 use Rattle.zco_pieces.specs.declared.piece.Piece.{Piece}
@@ -34,3 +36,8 @@ pub record HoldsRebuilt (heap : Heap) (total : ℕ) (added : List Part) (r : Reb
   pub clones : AreClones r.parts beside.clones
   pub stand : beside.others ≡ others
   pub rebuilt : IsRebuiltFrom total added r beside.clones
+
+-- an object has so many bytes of one source, from a place on
+pub record HasPayload (offset count : ℕ) (row : ObjectRow) : Type 0 where
+  pub source : ℕ
+  pub bytes : (held : ℕ → ℕ → ℕ) → part_bytes held row ≡ map (held source) (range_with_len offset count)

@@ -7,5 +7,7 @@
 #![tactic(auto)]
 
 mod laws;
+mod rebuilding;
 
 pub use laws::texts_keep;
+pub use rebuilding::pieces_add_up;
