@@ -23,11 +23,11 @@ use Rattle.zco_join.specs.declared.filled.Filled.{Filled}
 use Rattle.zco_join.proofs.ClonesLemmas.{all_both}
 use Rattle.zco_join.proofs.CountedLemmas.{all_mapped}
 use Rattle.zco_pieces.specs.Bytes.{FitsText, bytes_named, part_bytes}
-use Rattle.zco_pieces.specs.Places.{Rebuilt, missing_of}
-use Rattle.zco_pieces.specs.Runs.{Added, Rebuilds}
+use Rattle.zco_pieces.specs.Places.{Range, Rebuilt, missing_of, uncovered}
+use Rattle.zco_pieces.specs.Runs.{Added, Rebuilds, range_of}
 use Rattle.zco_pieces.proofs.BytesLemmas.{own_length, pieces_placed}
-use Rattle.zco_pieces.proofs.RunLemmas.{run_text}
-use Rattle.law_pieces.specs.Rebuilding.{AreAt, HoldsRebuilt, IsRebuiltFrom, Part, by_held}
+use Rattle.zco_pieces.proofs.RunLemmas.{run_missing, run_text}
+use Rattle.law_pieces.specs.Rebuilding.{AreAt, HoldsRebuilt, IsRebuiltFrom, PieceRow, by_held, covers}
 use Rattle.law_pieces.specs.Texts.{Beside, Holds, SomeText, both, other, room_to_join, stock_of}
 use Rattle.law_pieces.proofs.AddedLemmas.{joined, joined_holds, joined_row}
 use Rattle.law_pieces.proofs.TextLemmas.{told_both}
@@ -71,6 +71,30 @@ rows_at (z ∷ zs) rest once =
     (none_there z.addr zs rest (omega (arith, t, o, n)))
     (rows_at zs rest (λ addr. let u = times_first addr z zs rest in let m = once addr in omega (arith, u, m))))
 
+-- so it is with the clones of a text
+rows_there : {heap : Heap} {most room : ℕ} (x : Beside) → Holds heap most room (stock_of x) → AreAt (row_at x.clones) x.clones
+rows_there {heap} x h =
+    let rest = queues_entries (both x.tickets) ++ (sources_entries x.sources ++ x.rest) in
+    let f : Standing → Entries = λ z. object_entries z.addr z.row in
+    let s : BlocksAre heap.blocks (objects_entries x.clones ++ (objects_entries x.others ++ rest)) =
+    subst (BlocksAre heap.blocks)
+    (ap (λ (es : Entries). es ++ rest) (flat_map-append f x.clones x.others) ∙ append_assoc (objects_entries x.clones) (objects_entries x.others) rest)
+    h.keeps.stands in
+    rows_at x.clones (objects_entries x.others ++ rest) s.once
+
+-- as many bytes are missing as places that no piece covers
+ranges_held : (held : ℕ → ℕ → ℕ) (ps : List PieceRow) → map range_of (map (by_held held) ps) ≡ map covers ps
+ranges_held held [] = refl
+ranges_held held (p ∷ ps) = ap (λ (rs : List Range). covers p ∷ rs) (ranges_held held ps)
+
+pub rebuilt_missing : {heap : Heap} {total : ℕ} {added : List PieceRow} {r : Rebuilt} {others : List Standing} {most room : ℕ} →
+    HoldsRebuilt heap total added r others most room → missing_of r ≡ uncovered total (map covers added)
+rebuilt_missing {total = total} {added = added} {r = r} h =
+    let none : ℕ → ℕ → ℕ = λ source place. 0 in
+    let at = row_at h.beside.clones in
+    run_missing at none total (map (by_held none) added) r (h.rebuilt.rebuilds at none (rows_there h.beside h.holds))
+    ∙ ap (uncovered total) (ranges_held none added)
+
 -- what the clones of parts name, by their addresses
 clones_named : (clone_at : ℕ → ObjectRow) (parts : List Filled) (zs : List Standing) → AreClones parts zs → AreAt clone_at zs →
     flat_map (λ (p : Filled). map piece_of (clone_at p.object).extents) parts ≡ pieces_in zs
@@ -103,7 +127,7 @@ whole_bytes held acct es =
     all (x ∷ xs) = refl
 
 -- A text became one object.
-module _ {old new : Heap} {total : ℕ} {added : List Part} {r : Rebuilt} {others : List Standing} {most number object : ℕ} (room n : ℕ) (acct : Acct)
+module _ {old new : Heap} {total : ℕ} {added : List PieceRow} {r : Rebuilt} {others : List Standing} {most number object : ℕ} (room n : ℕ) (acct : Acct)
     (h : HoldsRebuilt old total added r others most (room + room_to_join most n)) (few : length r.parts ≤ n) (low : n * most < 2 ^ 22)
     (joins : Joins acct number r.parts old new object) where
   abbrev x : Beside
@@ -122,23 +146,14 @@ module _ {old new : Heap} {total : ℕ} {added : List Part} {r : Rebuilt} {other
       let clones = x.clones in
       let j = joined room n acct t few low joins in
       let at = row_at clones in
-      let told : AreAt at clones = rows_there in
+      let told : AreAt at clones = rows_there x h.holds in
       let run : Rebuilds at held (record { total = length text; parts = [] }) (map (by_held held) added) r =
       subst (λ m. Rebuilds at held (record { total = m; parts = [] }) (map (by_held held) added) r) (sym long) (h.rebuilt.rebuilds at held told) in
       let fits : All (λ a. FitsText a.held text a.piece a.row) (map (by_held held) added) =
-      all_mapped (λ (p : Part). FitsText held text p.piece p.row) (λ (a : Added). FitsText a.held text a.piece a.row) (by_held held) (λ p f. f) added fit in
+      all_mapped (λ (p : PieceRow). FitsText held text p.piece p.row) (λ (a : Added). FitsText a.held text a.piece a.row) (by_held held) (λ p f. f) added fit in
       whole_bytes held acct (extents_at j.addrs (pieces_in clones))
       ∙ ap (bytes_named held) (pieces_placed j.addrs (pieces_in clones) j.each ∙ sym (clones_named at r.parts clones h.clones told))
       ∙ run_text at held text (map (by_held held) added) r fits run none
-    where
-      rows_there : AreAt (row_at x.clones) x.clones
-      rows_there =
-          let rest = queues_entries (both x.tickets) ++ (sources_entries x.sources ++ x.rest) in
-          let f : Standing → Entries = λ z. object_entries z.addr z.row in
-          let s : BlocksAre old.blocks (objects_entries x.clones ++ (objects_entries x.others ++ rest)) =
-          subst (BlocksAre old.blocks) (ap (λ (es : Entries). es ++ rest) (flat_map-append f x.clones x.others) ∙ append_assoc (objects_entries x.clones) (objects_entries x.others) rest)
-          h.holds.keeps.stands in
-          rows_at x.clones (objects_entries x.others ++ rest) s.once
 
   -- and it stands before the others; no byte of a next text is filled
   pub rebuilt_joined : (next : ℕ) →
@@ -157,9 +172,9 @@ module _ {old new : Heap} {total : ℕ} {added : List Part} {r : Rebuilt} {other
       }
 
 -- beside a text of which no byte is filled stand some objects
-pub rebuilt_none : {heap : Heap} {loose : List ℕ} {most room : ℕ} (total : ℕ) → SomeText heap [] loose most room →
+pub none_rebuilt : {heap : Heap} {loose : List ℕ} {most room : ℕ} (total : ℕ) → SomeText heap [] loose most room →
     (others : List Standing) × (map (λ (z : Standing). z.addr) others ≡ loose) × HoldsRebuilt heap total [] (record { total = total; parts = [] }) others most room
-rebuilt_none total t = (
+none_rebuilt total t = (
   t.beside.others,
   t.keeps.at,
   record {
@@ -172,7 +187,7 @@ rebuilt_none total t = (
 )
 
 -- the calls need no more than what stands there
-pub rebuilt_text : {heap : Heap} {total : ℕ} {added : List Part} {r : Rebuilt} {others : List Standing} {most room : ℕ} →
+pub rebuilt_text : {heap : Heap} {total : ℕ} {added : List PieceRow} {r : Rebuilt} {others : List Standing} {most room : ℕ} →
     HoldsRebuilt heap total added r others most room → SomeText heap r.parts (map (λ (z : Standing). z.addr) others) most room
 rebuilt_text h = record {
   beside = h.beside;

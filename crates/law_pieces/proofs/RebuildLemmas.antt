@@ -22,7 +22,7 @@ use Rattle.zco_pieces.specs.Runs.{AddStep, Added, GapFilled, GapsFilled, IsClone
 use Rattle.zco_pieces.specs.declared.piece.Piece.{Piece}
 use Rattle.zco_pieces.proofs.CutLawLemmas.{cut_fits}
 use Rattle.zco_pieces.proofs.FillLemmas.{is_cloned, tickets_then}
-use Rattle.law_pieces.specs.Rebuilding.{AreAt, HoldsRebuilt, IsRebuiltFrom, Part, by_held}
+use Rattle.law_pieces.specs.Rebuilding.{AreAt, HoldsRebuilt, IsRebuiltFrom, PieceRow, by_held}
 use Rattle.law_pieces.specs.Texts.{Beside, Holds, SomeText, both, other, room_to_add, stock_of}
 use Rattle.law_pieces.proofs.AddedLemmas.{added_holds, kept_there, standing_nonzero}
 use Rattle.law_pieces.proofs.CloneLemmas.{holds_clone, to_clone}
@@ -36,7 +36,7 @@ rebuilds_more : (clone_at : ℕ → ObjectRow) (held : ℕ → ℕ → ℕ) (as'
 rebuilds_more clone_at held [] a r mid r' e s = (r', subst (λ (x : Rebuilt). AddStep clone_at held x a r') e s, refl)
 rebuilds_more clone_at held (b ∷ as') a r mid r' e s = (e.0, e.1, rebuilds_more clone_at held as' a e.0 mid r' e.2 s)
 
-module _ (clone_at : ℕ → ObjectRow) (held : ℕ → ℕ → ℕ) (part : Part) where
+module _ (clone_at : ℕ → ObjectRow) (held : ℕ → ℕ → ℕ) (part : PieceRow) where
   abbrev a : Added
   a = by_held held part
 
@@ -62,7 +62,7 @@ module _ (clone_at : ℕ → ObjectRow) (held : ℕ → ℕ → ℕ) (part : Par
   gaps_filled ps qs es g are n t = absurd g
 
 -- a piece of an object beside a text was added to it
-pub rebuilt_added : {old new : Heap} {total : ℕ} {added : List Part} {r r' : Rebuilt} (before : List Standing) (z : Standing) (behind : List Standing)
+pub rebuilt_added : {old new : Heap} {total : ℕ} {added : List PieceRow} {r r' : Rebuilt} (before : List Standing) (z : Standing) (behind : List Standing)
     {most room number : ℕ} (n : ℕ) (piece : Piece) → HoldsRebuilt old total added r (before ++ (z ∷ behind)) most (room + room_to_add most n) →
     piece.object ≡ z.addr → length r.parts ≤ n → AddsPiece number piece r r' old new →
     HoldsRebuilt new total (added ++ (record { piece = piece; row = z.row } ∷ [])) r' (z ∷ (before ++ behind)) most room
@@ -74,7 +74,7 @@ rebuilt_added {old} {new} {total} {added} {r} {r'} before z behind {most} {room}
     (subst (λ b. HasLength b a.length old) at a.has).told.tells z.row (kept_there x before z behind h.stand h.holds) in
     let moved = holds_moved (z ∷ []) w.clones (before ++ behind) w.holds in
     let told = told_both (w.clones ++ (z ∷ (before ++ behind))) z.row.account w.tickets (x.tickets (other z.row.account)) w.sources x.rest moved in
-    let part : Part = record { piece = piece; row = z.row } in
+    let part : PieceRow = record { piece = piece; row = z.row } in
     let nonzero : All (λ (e : Standing). e.addr ≢ 0) w.clones =
     all_front (λ (e : Standing). e.addr ≢ 0) w.clones (z ∷ (before ++ behind))
     (standing_nonzero [] (w.clones ++ (z ∷ (before ++ behind))) (queues_entries (both told.0) ++ (sources_entries w.sources ++ x.rest)) told.1.keeps.stands) in
@@ -99,7 +99,7 @@ rebuilt_added {old} {new} {total} {added} {r} {r'} before z behind {most} {room}
     }
 
 -- A piece of an object beside a text was cut.
-module _ {old new : Heap} {total : ℕ} {added : List Part} {r : Rebuilt} (before : List Standing) (z : Standing) (behind : List Standing)
+module _ {old new : Heap} {total : ℕ} {added : List PieceRow} {r : Rebuilt} (before : List Standing) (z : Standing) (behind : List Standing)
     {most number n k : ℕ} (room : ℕ) (piece : Piece) (h : HoldsRebuilt old total added r (before ++ (z ∷ behind)) most (room + (1 + most)))
     (cuts : CutsPiece z.addr number n k old new piece) where
   cut_focus : Holds old most (room + (1 + most)) (record {
@@ -120,8 +120,8 @@ module _ {old new : Heap} {total : ℕ} {added : List Part} {r : Rebuilt} (befor
   cut_row = whole_row z.row.account (extents_at cut_clones.addrs (asked (k * n) (cut_length z.row.part_length n k) z.row))
 
   -- it fits the object's bytes
-  pub cut_fits_it : (held : ℕ → ℕ → ℕ) → FitsText held (part_bytes held z.row) piece cut_row
-  cut_fits_it held =
+  pub cut_text : (held : ℕ → ℕ → ℕ) → FitsText held (part_bytes held z.row) piece cut_row
+  cut_text held =
       let f = cut_focus in
       cut_fits held z.row cut_row n k piece (All-head (λ (y : Standing). ObjectFits y.row) z (h.beside.clones ++ (before ++ behind)) f.keeps.fits)
       (subst (λ m. HasPiece m n k) cut_total cuts.has)

@@ -11,9 +11,9 @@ ghost use Rattle.zco_obj.specs.declared.extent.ExtentPiece.{ExtentPiece};
 ghost use Rattle.zco_pieces.specs.Adding.{AddsPiece};
 ghost use Rattle.zco_pieces.specs.Bytes.{FitsText, part_bytes};
 ghost use Rattle.zco_pieces.specs.Cutting.{CutsPiece};
-ghost use Rattle.zco_pieces.specs.Places.{Rebuilt, missing_of};
+ghost use Rattle.zco_pieces.specs.Places.{Rebuilt, missing_of, uncovered};
 ghost use Rattle.zco_pieces.specs.declared.piece.Piece.{Piece};
-ghost use Rattle.law_pieces.specs.Rebuilding.{HasPayload, HoldsRebuilt, Part};
+ghost use Rattle.law_pieces.specs.Rebuilding.{HasPayload, HoldsRebuilt, PieceRow, covers};
 ghost use Rattle.law_pieces.specs.Texts.{HasEmpty, SomeText, room_to_add, room_to_join};
 
 /// A law: what each call on pieces does to blocks is what the law of rebuilding speaks of, so that the object
@@ -26,13 +26,13 @@ pub fn pieces_add_up()
         → (row : ObjectRow) × HasPayload piece.offset piece.bytes row
         × HoldsRebuilt new total [] (record { total = total; parts = [] })
             (record { addr = object; row = row } ∷ []) 1 room }
-    ensures none { (loose : List ℕ) (most room total : ℕ) (heap : Heap)
+    ensures empty { (loose : List ℕ) (most room total : ℕ) (heap : Heap)
         → SomeText heap [] loose most room
         → (others : List Standing) × (map (λ z. z.addr) others ≡ loose)
         × HoldsRebuilt heap total [] (record { total = total; parts = [] }) others most room }
 
     // A piece that is cut fits the bytes of its object.
-    ensures cut { (total : ℕ) (added : List Part) (r : Rebuilt) (before behind : List Standing)
+    ensures cut { (total : ℕ) (added : List PieceRow) (r : Rebuilt) (before behind : List Standing)
         (z : Standing) (most room number n k : ℕ) (piece : Piece) (old new : Heap)
         → HoldsRebuilt old total added r (before ++ (z ∷ behind)) most (room + (1 + most))
         → CutsPiece z.addr number n k old new piece
@@ -42,16 +42,21 @@ pub fn pieces_add_up()
             (record { addr = piece.object; row = row } ∷ (z ∷ (before ++ behind))) most room }
 
     // What a call of `add` does is a step of the law.
-    ensures step { (total : ℕ) (added : List Part) (r r' : Rebuilt) (before behind : List Standing)
+    ensures step { (total : ℕ) (added : List PieceRow) (r r' : Rebuilt) (before behind : List Standing)
         (z : Standing) (most room number n : ℕ) (piece : Piece) (old new : Heap)
         → HoldsRebuilt old total added r (before ++ (z ∷ behind)) most (room + room_to_add most n)
         → piece.object ≡ z.addr → length r.parts ≤ n → AddsPiece number piece r r' old new
         → HoldsRebuilt new total (added ++ (record { piece = piece; row = z.row } ∷ [])) r'
             (z ∷ (before ++ behind)) most room }
 
+    // As many bytes are missing as places of the text that no piece covers.
+    ensures missing { (total : ℕ) (added : List PieceRow) (r : Rebuilt) (others : List Standing)
+        (most room : ℕ) (heap : Heap) → HoldsRebuilt heap total added r others most room
+        → missing_of r ≡ uncovered total (map covers added) }
+
     // Where none is missing, the object that `finish` makes has the bytes of whichever text all pieces fit,
     // by what the sources hold then.
-    ensures finished { (acct : Acct) (total next : ℕ) (added : List Part) (r : Rebuilt)
+    ensures finished { (acct : Acct) (total next : ℕ) (added : List PieceRow) (r : Rebuilt)
         (others : List Standing) (most room number n object : ℕ) (old new : Heap)
         → HoldsRebuilt old total added r others most (room + room_to_join most n)
         → length r.parts ≤ n → n * most < 2 ^ 22 → Joins acct number r.parts old new object
@@ -63,7 +68,7 @@ pub fn pieces_add_up()
             (record { addr = object; row = row } ∷ others) (most + n * most) room }
 
     // What each call needs is there, as `texts_keep` says.
-    ensures text { (total : ℕ) (added : List Part) (r : Rebuilt) (others : List Standing)
+    ensures text { (total : ℕ) (added : List PieceRow) (r : Rebuilt) (others : List Standing)
         (most room : ℕ) (heap : Heap) → HoldsRebuilt heap total added r others most room
         → SomeText heap r.parts (map (λ z. z.addr) others) most room }
 {}
