@@ -7,6 +7,7 @@ ghost use Rattle.sdr_model.specs.Limits.{longest_source};
 ghost use Rattle.zco_join.specs.Joining.{Joins};
 ghost use Rattle.zco_join.specs.Stocks.{Standing};
 ghost use Rattle.zco_obj.specs.Appending.{AppendsPiece};
+ghost use Rattle.zco_obj.specs.Kept.{KeepsObject};
 ghost use Rattle.zco_obj.specs.declared.extent.ExtentPiece.{ExtentPiece};
 ghost use Rattle.zco_pieces.specs.Adding.{AddsPiece};
 ghost use Rattle.zco_pieces.specs.Bytes.{FitsText, part_bytes};
@@ -19,7 +20,8 @@ ghost use Rattle.law_pieces.specs.Texts.{HasEmpty, SomeText, room_to_add, room_t
 /// A law: what each call on pieces does to blocks is what the law of rebuilding speaks of, so that the object
 /// that a text becomes has the text's bytes. It does nothing.
 pub fn pieces_add_up()
-    // A text of which no byte is filled: behind an object's first bytes, or beside whichever objects stand there.
+    // A text of which no byte is filled: beside an object that has just got bytes of a raw object, or beside
+    // whichever objects stand there.
     ensures begun { (acct : Acct) (object number total : ℕ) (bytes : List ℕ) (room : ℕ)
         (piece : ExtentPiece) (old new : Heap) → HasEmpty old acct object piece.of bytes (room + 2)
         → length bytes ≤ longest_source → room < 2 ^ 60 → AppendsPiece object number piece old new
@@ -67,8 +69,12 @@ pub fn pieces_add_up()
         × HoldsRebuilt new next [] (record { total = next; parts = [] })
             (record { addr = object; row = row } ∷ others) (most + n * most) room }
 
-    // What each call needs is there, as `texts_keep` says.
+    // What each call needs is there, as `texts_keep` says, and each object beside the text is kept with its row.
     ensures text { (total : ℕ) (added : List PieceRow) (r : Rebuilt) (others : List Standing)
         (most room : ℕ) (heap : Heap) → HoldsRebuilt heap total added r others most room
         → SomeText heap r.parts (map (λ z. z.addr) others) most room }
+    ensures kept { (total : ℕ) (added : List PieceRow) (r : Rebuilt) (before behind : List Standing)
+        (z : Standing) (most room : ℕ) (heap : Heap)
+        → HoldsRebuilt heap total added r (before ++ (z ∷ behind)) most room
+        → KeepsObject heap.blocks z.addr z.row }
 {}

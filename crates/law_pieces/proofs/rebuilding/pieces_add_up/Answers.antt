@@ -1,4 +1,5 @@
 -- Each clause is a lemma.
+use Rattle.law_pieces.proofs.AddedLemmas.{kept_there}
 use Rattle.law_pieces.proofs.BeginLemmas.{rebuilt_begun}
 use Rattle.law_pieces.proofs.FinishLemmas.{rebuilt_joined, rebuilt_missing, none_rebuilt, rebuilt_text, row_then, text_bytes}
 use Rattle.law_pieces.proofs.RebuildLemmas.{cut_text, cut_row, rebuilt_added, rebuilt_cut}
@@ -26,3 +27,6 @@ returns-clause-finished c = λ acct total next added r others most room number n
 
 pub returns-clause-text : goal.returns-clause-text
 returns-clause-text c = λ total added r others most room heap h. rebuilt_text h
+
+pub returns-clause-kept : goal.returns-clause-kept
+returns-clause-kept c = λ total added r before behind z most room heap h. kept_there h.beside before z behind h.stand h.holds
