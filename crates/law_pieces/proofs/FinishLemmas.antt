@@ -5,10 +5,9 @@ use Rattle.std.specs.List.{range_with_len}
 use Rattle.std.proofs.lemmas.List.Concat.{flat_map-append}
 use Rattle.std.proofs.lemmas.List.Elements.{All-cons, All-head, All-nil, All-tail}
 use Rattle.std.proofs.lemmas.List.Sums.{sum_by-cons}
-use Rattle.sdr_base.specs.Blocks.{Blocks}
 use Rattle.sdr_base.specs.Entries.{BlocksAre, Entries, times}
 use Rattle.sdr_base.specs.Objects.{Heap}
-use Rattle.sdr_base.specs.ZcoObjects.{ExtentRow, ObjectRow, capsule_entries, extent_entries, object_entries}
+use Rattle.sdr_base.specs.ZcoObjects.{ExtentRow, ObjectRow, object_entries}
 use Rattle.sdr_base.specs.declared.account.Acct.{Acct}
 use Rattle.sdr_base.specs.declared.account.Acct.TheVariants as accts
 use Rattle.sdr_base.proofs.StandingLemmas.{times-append}
@@ -27,7 +26,7 @@ use Rattle.zco_pieces.specs.Places.{Range, Rebuilt, missing_of, uncovered}
 use Rattle.zco_pieces.specs.Runs.{Added, Rebuilds, range_of}
 use Rattle.zco_pieces.proofs.BytesLemmas.{own_length, pieces_placed}
 use Rattle.zco_pieces.proofs.RunLemmas.{run_missing, run_text}
-use Rattle.law_pieces.specs.Rebuilding.{AreAt, HoldsRebuilt, IsRebuiltFrom, PieceRow, by_held, covers}
+use Rattle.law_pieces.specs.Rebuilding.{AreAt, HoldsRebuilt, PieceRow, by_held, covers}
 use Rattle.law_pieces.specs.Texts.{Beside, Holds, SomeText, both, other, room_to_join, stock_of}
 use Rattle.law_pieces.proofs.AddedLemmas.{joined, joined_holds, joined_row}
 use Rattle.law_pieces.proofs.TextLemmas.{told_both}

@@ -1,8 +1,8 @@
 -- What the calls on a text do to blocks is what the law of rebuilding speaks of.
-use Rattle.std.proofs.Common.{◌≡◌, ◌≢◌, ◌+◌, ◌-◌, ◌*◌, ◌≤◌, ◌<◌, ◌^◌, ℕ, Bool, true, false, List, [], ◌∷◌, ◌++◌, length, refl, sym, ap, ◌∙◌, subst, arith}
+use Rattle.std.proofs.Common.{◌≡◌, ◌≢◌, ◌+◌, ◌-◌, ◌*◌, ◌≤◌, ℕ, Bool, true, false, List, [], ◌∷◌, ◌++◌, length, refl, sym, ap, ◌∙◌, subst}
 use Rattle.std.specs.Prelude.{◌==◌, All, MatchBool, map}
 use Rattle.std.proofs.lemmas.List.{map-append}
-use Rattle.std.proofs.lemmas.List.Elements.{All-cons, All-head, All-nil, All-tail}
+use Rattle.std.proofs.lemmas.List.Elements.{All-head, All-tail}
 use Rattle.sdr_base.specs.Objects.{Heap}
 use Rattle.sdr_base.specs.ZcoObjects.{ObjectRow}
 use Rattle.zco_obj.specs.Gone.{sources_entries}
@@ -22,11 +22,11 @@ use Rattle.zco_pieces.specs.Runs.{AddStep, Added, GapFilled, GapsFilled, IsClone
 use Rattle.zco_pieces.specs.declared.piece.Piece.{Piece}
 use Rattle.zco_pieces.proofs.CutLawLemmas.{cut_fits}
 use Rattle.zco_pieces.proofs.FillLemmas.{is_cloned, tickets_then}
-use Rattle.law_pieces.specs.Rebuilding.{AreAt, HoldsRebuilt, IsRebuiltFrom, PieceRow, by_held}
-use Rattle.law_pieces.specs.Texts.{Beside, Holds, SomeText, both, other, room_to_add, stock_of}
+use Rattle.law_pieces.specs.Rebuilding.{AreAt, HoldsRebuilt, PieceRow, by_held}
+use Rattle.law_pieces.specs.Texts.{Holds, both, other, room_to_add}
 use Rattle.law_pieces.proofs.AddedLemmas.{added_holds, kept_there, standing_nonzero}
 use Rattle.law_pieces.proofs.CloneLemmas.{holds_clone, to_clone}
-use Rattle.law_pieces.proofs.GapLemmas.{FilledSo, GapClone, GapClones}
+use Rattle.law_pieces.proofs.GapLemmas.{GapClone, GapClones}
 use Rattle.law_pieces.proofs.HoldLemmas.{before_other, holds_moved}
 use Rattle.law_pieces.proofs.TextLemmas.{focus_holds, told_both}
 

@@ -27,7 +27,7 @@ pub fn pieces_add_up()
         → length bytes ≤ longest_source → room < 2 ^ 60 → AppendsPiece object number piece old new
         → (row : ObjectRow) × HasPayload piece.offset piece.bytes row
         × HoldsRebuilt new total [] (record { total = total; parts = [] })
-            (record { addr = object; row = row } ∷ []) 1 room }
+        (record { addr = object; row = row } ∷ []) 1 room }
     ensures empty { (loose : List ℕ) (most room total : ℕ) (heap : Heap)
         → SomeText heap [] loose most room
         → (others : List Standing) × (map (λ z. z.addr) others ≡ loose)
@@ -41,7 +41,7 @@ pub fn pieces_add_up()
         → (row : ObjectRow)
         × ((held : ℕ → ℕ → ℕ) → FitsText held (part_bytes held z.row) piece row)
         × HoldsRebuilt new total added r
-            (record { addr = piece.object; row = row } ∷ (z ∷ (before ++ behind))) most room }
+        (record { addr = piece.object; row = row } ∷ (z ∷ (before ++ behind))) most room }
 
     // What a call of `add` does is a step of the law.
     ensures step { (total : ℕ) (added : List PieceRow) (r r' : Rebuilt) (before behind : List Standing)
@@ -49,7 +49,7 @@ pub fn pieces_add_up()
         → HoldsRebuilt old total added r (before ++ (z ∷ behind)) most (room + room_to_add most n)
         → piece.object ≡ z.addr → length r.parts ≤ n → AddsPiece number piece r r' old new
         → HoldsRebuilt new total (added ++ (record { piece = piece; row = z.row } ∷ [])) r'
-            (z ∷ (before ++ behind)) most room }
+        (z ∷ (before ++ behind)) most room }
 
     // As many bytes are missing as places of the text that no piece covers.
     ensures missing { (total : ℕ) (added : List PieceRow) (r : Rebuilt) (others : List Standing)
@@ -64,10 +64,10 @@ pub fn pieces_add_up()
         → length r.parts ≤ n → n * most < 2 ^ 22 → Joins acct number r.parts old new object
         → (row : ObjectRow)
         × ((held : ℕ → ℕ → ℕ) (text : List ℕ) → length text ≡ total
-            → All (λ p. FitsText held text p.piece p.row) added → missing_of r ≡ 0
-            → part_bytes held row ≡ text)
+        → All (λ p. FitsText held text p.piece p.row) added → missing_of r ≡ 0
+        → part_bytes held row ≡ text)
         × HoldsRebuilt new next [] (record { total = next; parts = [] })
-            (record { addr = object; row = row } ∷ others) (most + n * most) room }
+        (record { addr = object; row = row } ∷ others) (most + n * most) room }
 
     // What each call needs is there, as `texts_keep` says, and each object beside the text is kept with its row.
     ensures text { (total : ℕ) (added : List PieceRow) (r : Rebuilt) (others : List Standing)
