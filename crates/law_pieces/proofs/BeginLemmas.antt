@@ -27,7 +27,7 @@ use Rattle.zco_obj.specs.declared.extent.ExtentPiece.{ExtentPiece}
 use Rattle.zco_join.specs.Stocks.{KeepsStock, Queue, Standing, TellsQueue}
 use Rattle.law_pieces.specs.Rebuilding.{HasPayload, HoldsRebuilt}
 use Rattle.law_pieces.specs.Texts.{HasEmpty, HasNothing, HasRaw, SomeText, with_rest}
-use Rattle.law_pieces.proofs.FinishLemmas.{whole_bytes}
+use Rattle.law_pieces.proofs.RowLemmas.{whole_bytes}
 use Rattle.law_pieces.proofs.HoldLemmas.{queue_first}
 use Rattle.law_pieces.proofs.PayloadLemmas.{create_spare, create_step, filled, payload_step, queue_kept, raw_found, raw_step, source, tickets_then, with_raw}
 use Rattle.law_pieces.proofs.TextLemmas.{some_text, told_both}

@@ -7,5 +7,6 @@ pub mod TextLemmas
 pub mod AddedLemmas
 pub mod WireLemmas
 pub mod BeginLemmas
+pub mod RowLemmas
 pub mod RebuildLemmas
 pub mod FinishLemmas

@@ -17,18 +17,56 @@ use Rattle.zco_join.proofs.CountedLemmas.{all_front}
 use Rattle.zco_pieces.specs.Adding.{AddsPiece, IsPieceOf}
 use Rattle.zco_pieces.specs.Bytes.{FitsText, part_bytes}
 use Rattle.zco_pieces.specs.Cutting.{CutsPiece, HasLength, HasPiece}
-use Rattle.zco_pieces.specs.Places.{Rebuilt, cut_length, opened}
-use Rattle.zco_pieces.specs.Runs.{AddStep, Added, GapFilled, GapsFilled, IsCloneOf, Rebuilds}
+use Rattle.zco_pieces.specs.Places.{Rebuilt, cut_length, opened, Range, missing_of, uncovered}
+use Rattle.zco_pieces.specs.Runs.{AddStep, Added, GapFilled, GapsFilled, IsCloneOf, Rebuilds, range_of}
 use Rattle.zco_pieces.specs.declared.piece.Piece.{Piece}
 use Rattle.zco_pieces.proofs.CutLawLemmas.{cut_fits}
 use Rattle.zco_pieces.proofs.FillLemmas.{is_cloned, tickets_then}
-use Rattle.law_pieces.specs.Rebuilding.{AreAt, HoldsRebuilt, PieceRow, by_held}
-use Rattle.law_pieces.specs.Texts.{Holds, both, other, room_to_add}
+use Rattle.law_pieces.specs.Rebuilding.{AreAt, HoldsRebuilt, PieceRow, by_held, covers}
+use Rattle.law_pieces.specs.Texts.{Holds, both, other, room_to_add, SomeText}
 use Rattle.law_pieces.proofs.AddedLemmas.{added_holds, kept_there, standing_nonzero}
 use Rattle.law_pieces.proofs.CloneLemmas.{holds_clone, to_clone}
 use Rattle.law_pieces.proofs.GapLemmas.{GapClone, GapClones}
 use Rattle.law_pieces.proofs.HoldLemmas.{before_other, holds_moved}
 use Rattle.law_pieces.proofs.TextLemmas.{focus_holds, told_both}
+use Rattle.zco_pieces.proofs.RunLemmas.{run_missing}
+use Rattle.law_pieces.proofs.RowLemmas.{row_at, rows_there}
+
+-- beside a text of which no byte is filled stand some objects
+pub none_rebuilt : {heap : Heap} {loose : List ℕ} {most room : ℕ} (total : ℕ) → SomeText heap [] loose most room →
+    (others : List Standing) × (map (λ (z : Standing). z.addr) others ≡ loose) × HoldsRebuilt heap total [] (record { total = total; parts = [] }) others most room
+none_rebuilt total t = (
+  t.beside.others,
+  t.keeps.at,
+  record {
+    beside = t.beside;
+    holds = t.keeps.holds;
+    clones = t.keeps.clones;
+    stand = refl;
+    rebuilt = record { rebuilds = λ clone_at held at. refl };
+  },
+)
+
+-- the calls need no more than what stands there
+pub rebuilt_text : {heap : Heap} {total : ℕ} {added : List PieceRow} {r : Rebuilt} {others : List Standing} {most room : ℕ} →
+    HoldsRebuilt heap total added r others most room → SomeText heap r.parts (map (λ (z : Standing). z.addr) others) most room
+rebuilt_text h = record {
+  beside = h.beside;
+  keeps = record { holds = h.holds; clones = h.clones; at = ap (map (λ (z : Standing). z.addr)) h.stand };
+}
+
+-- as many bytes are missing as places that no piece covers
+ranges_held : (held : ℕ → ℕ → ℕ) (ps : List PieceRow) → map range_of (map (by_held held) ps) ≡ map covers ps
+ranges_held held [] = refl
+ranges_held held (p ∷ ps) = ap (λ (rs : List Range). covers p ∷ rs) (ranges_held held ps)
+
+pub rebuilt_missing : {heap : Heap} {total : ℕ} {added : List PieceRow} {r : Rebuilt} {others : List Standing} {most room : ℕ} →
+    HoldsRebuilt heap total added r others most room → missing_of r ≡ uncovered total (map covers added)
+rebuilt_missing {total = total} {added = added} {r = r} h =
+    let none : ℕ → ℕ → ℕ = λ source place. 0 in
+    let at = row_at h.beside.clones in
+    run_missing at none total (map (by_held none) added) r (h.rebuilt.rebuilds at none (rows_there h.beside h.holds))
+    ∙ ap (uncovered total) (ranges_held none added)
 
 -- one piece more was added
 rebuilds_more : (clone_at : ℕ → ObjectRow) (held : ℕ → ℕ → ℕ) (as' : List Added) (a : Added) (r mid r' : Rebuilt) → Rebuilds clone_at held r as' mid →

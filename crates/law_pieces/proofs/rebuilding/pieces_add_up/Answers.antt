@@ -1,8 +1,8 @@
 -- Each clause is a lemma.
 use Rattle.law_pieces.proofs.AddedLemmas.{kept_there}
 use Rattle.law_pieces.proofs.BeginLemmas.{rebuilt_begun}
-use Rattle.law_pieces.proofs.FinishLemmas.{rebuilt_joined, rebuilt_missing, none_rebuilt, rebuilt_text, row_then, text_bytes}
-use Rattle.law_pieces.proofs.RebuildLemmas.{cut_text, cut_row, rebuilt_added, rebuilt_cut}
+use Rattle.law_pieces.proofs.FinishLemmas.{rebuilt_joined, row_then, text_bytes}
+use Rattle.law_pieces.proofs.RebuildLemmas.{cut_row, cut_text, none_rebuilt, rebuilt_added, rebuilt_cut, rebuilt_missing, rebuilt_text}
 use Rattle.law_pieces.proofs.rebuilding.pieces_add_up.Goals as goal
 
 pub returns-clause-begun : goal.returns-clause-begun
