@@ -1,6 +1,7 @@
 -- A heap that has nothing, then a raw object, and then an object of it.
 use Rattle.std.proofs.Common.{◌≡◌, ◌+◌, ◌≤◌, ◌<◌, ◌^◌, ℕ, List, [], ◌∷◌, ◌++◌, length, map, Option, refl, sym, ap, ◌∙◌, subst, arith, inl, inr, append-nil}
 use Rattle.std.specs.List.{range_with_len}
+use Rattle.std.proofs.lemmas.List.Sums.{sum_by-cons}
 use Rattle.std.proofs.lemmas.List.Elements.{All-cons, All-nil}
 use Rattle.sdr_base.specs.Blocks.{Block, IsKind}
 use Rattle.sdr_base.specs.Entries.{BlocksAre, Entries}
@@ -29,7 +30,7 @@ use Rattle.law_pieces.specs.Rebuilding.{HasPayload, HoldsRebuilt}
 use Rattle.law_pieces.specs.Texts.{HasEmpty, HasNothing, HasRaw, SomeText, with_rest}
 use Rattle.law_pieces.proofs.RowLemmas.{whole_bytes}
 use Rattle.law_pieces.proofs.HoldLemmas.{queue_first}
-use Rattle.law_pieces.proofs.PayloadLemmas.{create_spare, create_step, filled, payload_step, queue_kept, raw_found, raw_step, source, tickets_then, with_raw}
+use Rattle.law_pieces.proofs.PayloadLemmas.{create_spare, create_step, extent, filled, payload_step, queue_kept, raw_found, raw_step, source, tickets_then, with_raw}
 use Rattle.law_pieces.proofs.TextLemmas.{some_text, told_both}
 
 -- no ticket
@@ -116,6 +117,7 @@ module _ {old new : Heap} {acct : Acct} {object number : ℕ} {bytes : List ℕ}
       (payload_step piece bytes e.keeps short e.small a room few e.spare) in (
         z.row,
         record {
+          long = sum_by-cons (λ (x : ExtentRow). x.length) (extent piece bytes e.keeps short e.small a) [] ∙ (let n : piece.bytes + 0 ≡ piece.bytes = omega arith in n);
           source = a.source;
           bytes = λ held. whole_bytes held acct z.row.extents ∙ append-nil (map (held a.source) (range_with_len piece.offset piece.bytes));
         },

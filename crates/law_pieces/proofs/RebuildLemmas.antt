@@ -1,5 +1,5 @@
 -- What the calls on a text do to blocks is what the law of rebuilding speaks of.
-use Rattle.std.proofs.Common.{◌≡◌, ◌≢◌, ◌+◌, ◌-◌, ◌*◌, ◌≤◌, ℕ, Bool, true, false, List, [], ◌∷◌, ◌++◌, length, refl, sym, ap, ◌∙◌, subst}
+use Rattle.std.proofs.Common.{◌≡◌, ◌≢◌, ◌+◌, ◌-◌, ◌*◌, ◌≤◌, ℕ, Bool, true, false, List, [], ◌∷◌, ◌++◌, length, refl, sym, ap, ◌∙◌, subst, arith}
 use Rattle.std.specs.Prelude.{◌==◌, All, MatchBool, map}
 use Rattle.std.proofs.lemmas.List.{map-append}
 use Rattle.std.proofs.lemmas.List.Elements.{All-head, All-tail}
@@ -20,8 +20,9 @@ use Rattle.zco_pieces.specs.Cutting.{CutsPiece, HasLength, HasPiece}
 use Rattle.zco_pieces.specs.Places.{Rebuilt, cut_length, opened, Range, missing_of, uncovered}
 use Rattle.zco_pieces.specs.Runs.{AddStep, Added, GapFilled, GapsFilled, IsCloneOf, Rebuilds, range_of}
 use Rattle.zco_pieces.specs.declared.piece.Piece.{Piece}
-use Rattle.zco_pieces.proofs.CutLawLemmas.{cut_fits}
+use Rattle.zco_pieces.proofs.CutLawLemmas.{cut_fits, piece_begins}
 use Rattle.zco_pieces.proofs.FillLemmas.{is_cloned, tickets_then}
+use Rattle.zco_pieces.proofs.RunLemmas.{run_missing}
 use Rattle.law_pieces.specs.Rebuilding.{AreAt, HoldsRebuilt, PieceRow, by_held, covers}
 use Rattle.law_pieces.specs.Texts.{Holds, both, other, room_to_add, SomeText}
 use Rattle.law_pieces.proofs.AddedLemmas.{added_holds, kept_there, standing_nonzero}
@@ -29,8 +30,7 @@ use Rattle.law_pieces.proofs.CloneLemmas.{holds_clone, to_clone}
 use Rattle.law_pieces.proofs.GapLemmas.{GapClone, GapClones}
 use Rattle.law_pieces.proofs.HoldLemmas.{before_other, holds_moved}
 use Rattle.law_pieces.proofs.TextLemmas.{focus_holds, told_both}
-use Rattle.zco_pieces.proofs.RunLemmas.{run_missing}
-use Rattle.law_pieces.proofs.RowLemmas.{row_at, rows_there}
+use Rattle.law_pieces.proofs.RowLemmas.{clone_long, row_at, rows_there}
 
 -- beside a text of which no byte is filled stand some objects
 pub none_rebuilt : {heap : Heap} {loose : List ℕ} {most room : ℕ} (total : ℕ) → SomeText heap [] loose most room →
@@ -157,13 +157,24 @@ module _ {old new : Heap} {total : ℕ} {added : List PieceRow} {r : Rebuilt} (b
   abbrev pub cut_row : ObjectRow
   cut_row = whole_row z.row.account (extents_at cut_clones.addrs (asked (k * n) (cut_length z.row.part_length n k) z.row))
 
-  -- it fits the object's bytes
+  cut_kept : ObjectFits z.row
+  cut_kept = All-head (λ (y : Standing). ObjectFits y.row) z (h.beside.clones ++ (before ++ behind)) cut_focus.keeps.fits
+
+  cut_has : HasPiece z.row.part_length n k
+  cut_has = subst (λ m. HasPiece m n k) cut_total cuts.has
+
+  cut_clone : IsCloneOf z.row (k * n) (cut_length z.row.part_length n k) cut_row
+  cut_clone =
+      record { addrs = cut_clones.addrs; each = (is_cloned cut_clones (to_clone cut_focus.keeps cut_focus.counts)).each; is = refl }
+
+  -- it has as many bytes as its number says, and fits the object's bytes
+  pub cut_long : cut_row.part_length ≡ cut_length z.row.part_length n k
+  cut_long =
+      let b = piece_begins z.row.part_length n k cut_has in
+      clone_long z.row cut_row (k * n) (cut_length z.row.part_length n k) cut_kept (omega (arith, b)) cut_clone
+
   pub cut_text : (held : ℕ → ℕ → ℕ) → FitsText held (part_bytes held z.row) piece cut_row
-  cut_text held =
-      let f = cut_focus in
-      cut_fits held z.row cut_row n k piece (All-head (λ (y : Standing). ObjectFits y.row) z (h.beside.clones ++ (before ++ behind)) f.keeps.fits)
-      (subst (λ m. HasPiece m n k) cut_total cuts.has)
-      (record { addrs = cut_clones.addrs; each = (is_cloned cut_clones (to_clone f.keeps f.counts)).each; is = refl }) cuts.offset cut_total
+  cut_text held = cut_fits held z.row cut_row n k piece cut_kept cut_has cut_clone cuts.offset cut_total
 
   -- and it stands beside the text
   pub rebuilt_cut : HoldsRebuilt new total added r (record { addr = piece.object; row = cut_row } ∷ (z ∷ (before ++ behind))) most room

@@ -41,7 +41,8 @@ pub record HoldsRebuilt (heap : Heap) (total : ℕ) (added : List PieceRow) (r :
   pub stand : beside.others ≡ others
   pub rebuilt : IsRebuiltFrom total added r beside.clones
 
--- an object has so many bytes of one source, from a place on
+-- an object has just so many bytes of one source, from a place on
 pub record HasPayload (offset count : ℕ) (row : ObjectRow) : Type 0 where
+  pub long : row.part_length ≡ count
   pub source : ℕ
   pub bytes : (held : ℕ → ℕ → ℕ) → part_bytes held row ≡ map (held source) (range_with_len offset count)

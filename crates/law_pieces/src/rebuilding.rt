@@ -12,7 +12,7 @@ ghost use Rattle.zco_obj.specs.declared.extent.ExtentPiece.{ExtentPiece};
 ghost use Rattle.zco_pieces.specs.Adding.{AddsPiece};
 ghost use Rattle.zco_pieces.specs.Bytes.{FitsText, part_bytes};
 ghost use Rattle.zco_pieces.specs.Cutting.{CutsPiece};
-ghost use Rattle.zco_pieces.specs.Places.{Rebuilt, missing_of, uncovered};
+ghost use Rattle.zco_pieces.specs.Places.{Rebuilt, cut_length, missing_of, uncovered};
 ghost use Rattle.zco_pieces.specs.declared.piece.Piece.{Piece};
 ghost use Rattle.law_pieces.specs.Rebuilding.{HasPayload, HoldsRebuilt, PieceRow, covers};
 ghost use Rattle.law_pieces.specs.Texts.{HasEmpty, SomeText, room_to_add, room_to_join};
@@ -33,12 +33,12 @@ pub fn pieces_add_up()
         → (others : List Standing) × (map (λ z. z.addr) others ≡ loose)
         × HoldsRebuilt heap total [] (record { total = total; parts = [] }) others most room }
 
-    // A piece that is cut fits the bytes of its object.
+    // A piece that is cut has as many bytes as its number says, and fits the bytes of its object.
     ensures cut { (total : ℕ) (added : List PieceRow) (r : Rebuilt) (before behind : List Standing)
         (z : Standing) (most room number n k : ℕ) (piece : Piece) (old new : Heap)
         → HoldsRebuilt old total added r (before ++ (z ∷ behind)) most (room + (1 + most))
         → CutsPiece z.addr number n k old new piece
-        → (row : ObjectRow)
+        → (row : ObjectRow) × (row.part_length ≡ cut_length z.row.part_length n k)
         × ((held : ℕ → ℕ → ℕ) → FitsText held (part_bytes held z.row) piece row)
         × HoldsRebuilt new total added r
         (record { addr = piece.object; row = row } ∷ (z ∷ (before ++ behind))) most room }

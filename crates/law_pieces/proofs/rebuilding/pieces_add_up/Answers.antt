@@ -2,7 +2,7 @@
 use Rattle.law_pieces.proofs.AddedLemmas.{kept_there}
 use Rattle.law_pieces.proofs.BeginLemmas.{rebuilt_begun}
 use Rattle.law_pieces.proofs.FinishLemmas.{rebuilt_joined, row_then, text_bytes}
-use Rattle.law_pieces.proofs.RebuildLemmas.{cut_row, cut_text, none_rebuilt, rebuilt_added, rebuilt_cut, rebuilt_missing, rebuilt_text}
+use Rattle.law_pieces.proofs.RebuildLemmas.{cut_long, cut_row, cut_text, none_rebuilt, rebuilt_added, rebuilt_cut, rebuilt_missing, rebuilt_text}
 use Rattle.law_pieces.proofs.rebuilding.pieces_add_up.Goals as goal
 
 pub returns-clause-begun : goal.returns-clause-begun
@@ -12,8 +12,12 @@ pub returns-clause-empty : goal.returns-clause-empty
 returns-clause-empty c = λ loose most room total heap t. none_rebuilt total t
 
 pub returns-clause-cut : goal.returns-clause-cut
-returns-clause-cut c = λ total added r before behind z most room number n k piece old new h p.
-    (cut_row before z behind room piece h p, cut_text before z behind room piece h p, rebuilt_cut before z behind room piece h p)
+returns-clause-cut c = λ total added r before behind z most room number n k piece old new h p. (
+  cut_row before z behind room piece h p,
+  cut_long before z behind room piece h p,
+  cut_text before z behind room piece h p,
+  rebuilt_cut before z behind room piece h p,
+)
 
 pub returns-clause-step : goal.returns-clause-step
 returns-clause-step c = λ total added r r' before behind z most room number n piece old new h at few a. rebuilt_added before z behind n piece h at few a
