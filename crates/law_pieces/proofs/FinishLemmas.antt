@@ -17,7 +17,7 @@ use Rattle.law_pieces.specs.Rebuilding.{AreAt, HoldsRebuilt, PieceRow, by_held}
 use Rattle.law_pieces.specs.Texts.{Beside, SomeText, other, room_to_join}
 use Rattle.law_pieces.proofs.AddedLemmas.{joined, joined_holds, joined_row}
 use Rattle.law_pieces.proofs.TextLemmas.{told_both}
-use Rattle.law_pieces.proofs.RowLemmas.{clones_named, row_at, rows_there, whole_bytes}
+use Rattle.law_pieces.proofs.RowLemmas.{clones_named, named_length, row_at, rows_there, whole_bytes}
 
 -- A text became one object.
 module _ {old new : Heap} {total : ℕ} {added : List PieceRow} {r : Rebuilt} {others : List Standing} {most number object : ℕ} (room n : ℕ) (acct : Acct)
@@ -47,6 +47,12 @@ module _ {old new : Heap} {total : ℕ} {added : List PieceRow} {r : Rebuilt} {o
       whole_bytes held acct (extents_at j.addrs (pieces_in clones))
       ∙ ap (bytes_named held) (pieces_placed j.addrs (pieces_in clones) j.each ∙ sym (clones_named at r.parts clones h.clones told))
       ∙ run_text at held text (map (by_held held) added) r fits run none
+
+  -- and as many
+  pub text_long : (held : ℕ → ℕ → ℕ) (text : List ℕ) → part_bytes held row_then ≡ text → row_then.part_length ≡ length text
+  text_long held text is =
+      let es = row_then.extents in
+      sym (named_length held es) ∙ ap (length {A = ℕ}) (sym (whole_bytes held acct es) ∙ is)
 
   -- and it stands before the others; no byte of a next text is filled
   pub rebuilt_joined : (next : ℕ) →

@@ -10,3 +10,4 @@ pub mod BeginLemmas
 pub mod RowLemmas
 pub mod RebuildLemmas
 pub mod FinishLemmas
+pub mod WorkedPieces

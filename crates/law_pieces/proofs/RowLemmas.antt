@@ -92,7 +92,7 @@ clones_named clone_at (p ∷ ps) (z ∷ zs) a t =
     ∙ ap (λ qs. map piece_of z.row.extents ++ qs) (clones_named clone_at ps zs a.2 (All-tail P z zs t))
 
 -- an object, whose part is its whole, has the bytes of its extents
-named_length : (held : ℕ → ℕ → ℕ) (es : List ExtentRow) → length (bytes_named held (map piece_of es)) ≡ extents_length es
+pub named_length : (held : ℕ → ℕ → ℕ) (es : List ExtentRow) → length (bytes_named held (map piece_of es)) ≡ extents_length es
 named_length held [] = refl
 named_length held (e ∷ es) =
     let own = own_length held (piece_of e) in

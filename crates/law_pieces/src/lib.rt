@@ -7,7 +7,8 @@
 //!
 //! Proved: what each call leaves, and what each needs (`texts_keep`); that what `add` does to blocks is a step of the law of rebuilding
 //! (`zco_pieces`), so that as many bytes are missing as places that no piece covers, and where none is, the object that the text becomes has
-//! the bytes of whichever text the pieces fit; and that a piece that is cut fits the bytes of its object (`pieces_add_up`).
+//! the bytes of whichever text the pieces fit; and that a piece that is cut fits the bytes of its object (`pieces_add_up`). A case is worked
+//! out in `proofs/WorkedPieces.antt`.
 #![tactic(auto)]
 
 mod laws;

@@ -65,7 +65,7 @@ pub fn pieces_add_up()
         → (row : ObjectRow)
         × ((held : ℕ → ℕ → ℕ) (text : List ℕ) → length text ≡ total
         → All (λ p. FitsText held text p.piece p.row) added → missing_of r ≡ 0
-        → part_bytes held row ≡ text)
+        → (part_bytes held row ≡ text) × (row.part_length ≡ length text))
         × HoldsRebuilt new next [] (record { total = next; parts = [] })
         (record { addr = object; row = row } ∷ others) (most + n * most) room }
 

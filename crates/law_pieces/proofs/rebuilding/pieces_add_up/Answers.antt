@@ -1,7 +1,7 @@
 -- Each clause is a lemma.
 use Rattle.law_pieces.proofs.AddedLemmas.{kept_there}
 use Rattle.law_pieces.proofs.BeginLemmas.{rebuilt_begun}
-use Rattle.law_pieces.proofs.FinishLemmas.{rebuilt_joined, row_then, text_bytes}
+use Rattle.law_pieces.proofs.FinishLemmas.{rebuilt_joined, row_then, text_bytes, text_long}
 use Rattle.law_pieces.proofs.RebuildLemmas.{cut_long, cut_row, cut_text, none_rebuilt, rebuilt_added, rebuilt_cut, rebuilt_missing, rebuilt_text}
 use Rattle.law_pieces.proofs.rebuilding.pieces_add_up.Goals as goal
 
@@ -26,8 +26,12 @@ pub returns-clause-missing : goal.returns-clause-missing
 returns-clause-missing c = λ total added r others most room heap h. rebuilt_missing h
 
 pub returns-clause-finished : goal.returns-clause-finished
-returns-clause-finished c = λ acct total next added r others most room number n object old new h few low j.
-    (row_then room n acct h few low j, text_bytes room n acct h few low j, rebuilt_joined room n acct h few low j next)
+returns-clause-finished c = λ acct total next added r others most room number n object old new h few low j. (
+  row_then room n acct h few low j,
+  λ held text long fit none.
+      let is = text_bytes room n acct h few low j held text long fit none in (is, text_long room n acct h few low j held text is),
+  rebuilt_joined room n acct h few low j next,
+)
 
 pub returns-clause-text : goal.returns-clause-text
 returns-clause-text c = λ total added r others most room heap h. rebuilt_text h
