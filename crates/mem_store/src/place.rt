@@ -1,5 +1,5 @@
 // What is at an address, now and at the begin of a transaction.
-ghost use Rattle.std.specs.Prelude.{◌≡◌, IfSome, OnErr, OnOk, is_none};
+ghost use Rattle.std.specs.Prelude.{◌≡◌, IfOk, IfSome, OnErr, OnOk, is_none};
 ghost use Rattle.sdr_model.specs.Zco.{as_object};
 ghost use Rattle.mem_parts.specs.Bounds.{IsBounded};
 ghost use Rattle.mem_parts.specs.Components.{KeepsLimits};
@@ -10,6 +10,7 @@ ghost use Rattle.mem_store.specs.Store.{ChangesAt, growing, now_at, place_at, sa
 use mem_parts::component::{Component, add};
 use sdr_base::{Addr, NoMemory};
 use sdr_model::Thing;
+use std::alloc::Global;
 use std::collections::BTreeMap;
 use std::mem;
 
@@ -53,22 +54,32 @@ pub(crate) fn is_saved(places: &BTreeMap<u64, Place>, addr: Addr) -> bool
     places.get(&addr).is_some_and(|place| place.begun.is_some())
 }
 
-/// Keeps this as what was at an address at the begin. Want of memory leaves all as before.
+// A copy of what is at an address.
+fn copied(alloc: Global, thing: Option<&Thing>) -> Result<Option<Thing>, NoMemory>
+    ensures { IfOk result (λ copy. copy ≡ option_copied thing.entry) }
+{
+    match thing {
+        Some(thing) => Ok(Some(thing.copied(alloc)?)),
+        None => Ok(None),
+    }
+}
+
+/// Keeps what is at an address as what was there at the begin. Want of memory leaves all as before.
 pub(crate) fn save(
     places: &mut BTreeMap<u64, Place>,
+    alloc: Global,
     addr: Addr,
-    begun: Option<Thing>,
 ) -> Result<(), NoMemory>
-    ensures saved { OnOk result (ChangesAt places.old.entries places.new.entries addr (saving begun)) }
-    ensures same { OnErr result (places.new.entries ≡ places.old.entries) }
+    ensures saved { OnOk result (ChangesAt places.old.entries places.new.entries addr saving) }
+    ensures same { OnErr result (ChangesAt places.old.entries places.new.entries addr (λ place. place)) }
 {
     match places.get_mut(&addr) {
-        Some(place) => place.begun = Some(begun),
+        Some(place) => place.begun = Some(copied(alloc, place.current())?),
         None => {
             places.insert(
                 addr,
                 Place {
-                    begun: Some(begun),
+                    begun: Some(None),
                     thing: None,
                 },
             )?;

@@ -205,6 +205,9 @@ impl Tallied {
         ensures tallied { AreTallied (things_at now_at places.old.entries) self.old
             → AreTallied (things_at now_at places.new.entries) self.new }
     {
+        if is_plain(thing.as_ref()) && is_plain(thing_at(places, addr)) {
+            return place::swap(places, addr, thing);
+        }
         self.leave(places, addr);
         let was = place::swap(places, addr, thing);
         self.enter(places, addr);
