@@ -11,7 +11,7 @@ use Rattle.sdr_base.specs.declared.kind.Kind.{Kind}
 use Rattle.audit_owners.proofs.ScanLemmas.{passed_over}
 use Rattle.audit_owners.specs.Chains.{IsWrongChain}
 use Rattle.audit_owners.specs.Owners.{owned_at, owned_by, owners_of, root_owners}
-use Rattle.audit_owners.specs.Scan.{HasNoBlocks}
+use Rattle.audit_owners.specs.Scan.{HasNoBlock, HasNoBlocks}
 use Rattle.audit_owners.specs.View.{View, view_in}
 use Rattle.audit_owners.specs.Walking.{HasWalked}
 use Rattle.audit_owners.specs.declared.owner.Owner.{Owner}
@@ -79,7 +79,7 @@ owners_more heap n =
 owners_over : (bytes : List ℕ) (from to : ℕ) → from ≤ to → HasNoBlocks bytes from to → owners_of (view_in bytes) from ≡ owners_of (view_in bytes) to
 owners_over bytes from to onward none =
     let heap = view_in bytes in
-    passed_over bytes (λ n. owners_of heap from ≡ owners_of heap n) from to (λ n here before.
+    passed_over (HasNoBlock bytes) (λ n. owners_of heap from ≡ owners_of heap n) from to (λ n here before.
     before ∙ sym (append-nil (owners_of heap n)) ∙ ap (λ (l : List Owner). owners_of heap n ++ l) (sym (unowned (8 * n) here)) ∙ owners_more heap n)
     onward none refl
   where
