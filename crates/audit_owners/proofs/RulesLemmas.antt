@@ -12,7 +12,7 @@ use Rattle.audit_owners.proofs.ScanLemmas.{passed_over}
 use Rattle.audit_owners.specs.Scan.{HasNoneOf, HaveNoneOf}
 use Rattle.audit_owners.specs.Chains.{is_among}
 use Rattle.audit_owners.specs.Marks.{AreMarked}
-use Rattle.audit_owners.specs.Rules.{AreKept, IsBroken, IsKept, is_chained, owner_kinds, is_source_of, keeps_owner_rule, is_source_of_raw, is_raw_of_source}
+use Rattle.audit_owners.specs.Rules.{AreKept, IsBroken, IsKept, is_chained, owner_kinds, is_source_of, keeps_owner_rule, is_source_of_raw}
 use Rattle.audit_owners.specs.View.{View, is_kind, is_one_of, view_in, word_of}
 use Rattle.audit_owners.specs.declared.rules.OwnerRule.{OwnerRule}
 use Rattle.audit_owners.specs.declared.rules.OwnerRule.TheVariants as which

@@ -8,7 +8,7 @@ use Rattle.sdr_base.specs.Blocks.{Block, kind_length}
 use Rattle.sdr_base.specs.KeptHeap.{block_in}
 use Rattle.sdr_base.specs.Stored.{start_bit}
 use Rattle.audit_owners.proofs.RegionLemmas.{found_unset, no_kind}
-use Rattle.audit_owners.specs.Scan.{HasNoBlock, HasNoBlocks, HasNoStart}
+use Rattle.audit_owners.specs.Scan.{HasNoBlock, HasNoStart}
 
 -- where the byte of a start bit is 0, the bit is clear
 pub none_in_byte : (bytes : List ℕ) (word other : ℕ) → get_or bytes (1024 + word / 8) 0 ≡ 0 → other / 8 ≡ word / 8 → (start_bit other bytes == 1) ≡ false

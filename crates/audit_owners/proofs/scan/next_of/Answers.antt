@@ -1,4 +1,4 @@
-use Rattle.std.proofs.Common.{◌≡◌, ◌*◌, ◌∙◌, ℕ, false, arith, subst, sym, inl, inr}
+use Rattle.std.proofs.Common.{◌∙◌, ℕ, arith, subst, sym, inl, inr}
 use Rattle.std.proofs.lemmas.Bool.{cases_lt}
 use Rattle.audit_owners.proofs.OneOfLemmas.{none_led_behind, none_of_past}
 use Rattle.audit_owners.proofs.ScanLemmas.{holds_up_to}
