@@ -1,10 +1,8 @@
 -- Sums of charges.
 use Rattle.std.proofs.Common.{◌≡◌, ◌≤◌, ◌<◌, ◌+◌, ◌*◌, ◌-◌, ◌/◌, ◌^◌, ℕ, Bool, false, List, [], ◌∷◌, cond, get_or, length, sum_by, take, arith, ap, sym, ◌∙◌}
-use Rattle.std.specs.Prelude.{Option, None}
 use Rattle.std.proofs.lemmas.Bool.{or_parts}
 use Rattle.std.proofs.lemmas.List.FromFn.{sum_by-map-range_with_len_more}
 use Rattle.std.proofs.lemmas.List.Sums.{sum_by_more}
-use Rattle.sdr_base.specs.Blocks.{Block}
 use Rattle.sdr_base.specs.Cells.{IsRegionSize}
 use Rattle.sdr_base.specs.KeptHeap.{block_in}
 use Rattle.sdr_base.specs.declared.account.Acct.{Acct}

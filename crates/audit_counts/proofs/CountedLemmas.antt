@@ -2,8 +2,7 @@
 use Rattle.std.proofs.Common.{◌≡◌, ◌≤◌, ◌*◌, ◌+◌, ◌-◌, ◌/◌, ◌==◌, ◌&&◌, ◌||◌, ℕ, Bool, true, false, not, cond, List, [], ◌∷◌, length, sum_by, ap, ◌∙◌, arith, refl}
 use Rattle.std.specs.Prelude.{find, nat_le, Option, None, Some}
 use Rattle.std.specs.Option.{option_map}
-use Rattle.std.proofs.lemmas.Bool.{and_left, or_from, or_parts}
-use Rattle.sdr_base.specs.Blocks.{Block}
+use Rattle.std.proofs.lemmas.Bool.{and_left, or_parts}
 use Rattle.sdr_base.specs.Cells.{IsRegionSize}
 use Rattle.sdr_base.specs.KeptHeap.{block_in}
 use Rattle.sdr_base.specs.declared.account.Acct.{Acct}
@@ -23,7 +22,6 @@ use Rattle.audit_owners.proofs.PlacesLemmas.{all_pass, both_none, either_none, f
 use Rattle.audit_owners.specs.Keyed.{wrong_key}
 use Rattle.audit_owners.specs.Members.{members}
 use Rattle.audit_owners.specs.Places.{first_failing, places}
-use Rattle.audit_owners.specs.Rules.{is_source_of_raw}
 use Rattle.audit_owners.specs.View.{View, is_kind, is_one_of, length_of, view_in, word_of}
 use Rattle.audit_owners.specs.declared.owner.Owner.TheVariants as owners
 
