@@ -60,6 +60,7 @@ occupied_right heap words account none space =
     by_space spaces.Heap all = all.2
 
 module _ (bytes : List ℕ) (words : ℕ) where
+  -- what isn't one of sources alone isn't a source
   source : (addr : ℕ) → is_one_of (kinds.Source ∷ []) (block_in bytes addr) ≡ false → is_kind kinds.Source (block_in bytes addr) ≡ false
   source addr off = (or_parts (is_kind kinds.Source (block_in bytes addr)) false off).0
 

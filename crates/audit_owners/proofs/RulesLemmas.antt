@@ -1,5 +1,5 @@
 -- Rules that each block keeps.
-use Rattle.std.proofs.Common.{◌≡◌, ◌≤◌, ◌<◌, ◌+◌, ◌*◌, ◌/◌, ◌==◌, ◌||◌, ℕ, Bool, List, [], ◌∷◌, not, true, false, length, get_or, arith, ap, ◌∙◌, refl, subst, inl, inr}
+use Rattle.std.proofs.Common.{◌≡◌, ◌≤◌, ◌<◌, ◌+◌, ◌*◌, ◌/◌, ◌==◌, ◌||◌, ℕ, Bool, List, [], ◌∷◌, not, true, false, length, get_or, arith, ap, ◌∙◌, refl, subst, sym, inl, inr}
 use Rattle.std.specs.Prelude.{Option, None, Some}
 use Rattle.std.proofs.lemmas.Bool.{and_left, both_ways, cases_eq, cases_lt, or_parts}
 use Rattle.sdr_base.specs.Blocks.{Block}
@@ -21,20 +21,20 @@ use Rattle.audit_owners.specs.declared.rules.OwnerRule.TheVariants as which
 pub no_source_of_raw : (b : Option Block) → is_kind kinds.Source b ≡ false → is_source_of_raw b ≡ false
 no_source_of_raw b off = and_left _ _ off
 
--- where none of six tests holds, none does in the order in which `||` groups
-none_of_six : (a b c d e f : Bool) → (a || (b || (c || (d || (e || (f || false)))))) ≡ false → (a || b || c || d || e || f) ≡ false
-none_of_six true b c d e f off = off
-none_of_six false true c d e f off = off
-none_of_six false false true d e f off = off
-none_of_six false false false true e f off = off
-none_of_six false false false false true f off = off
-none_of_six false false false false false true off = off
-none_of_six false false false false false false off = refl
+-- six tests, in the order in which `||` groups
+one_of_six : (a b c d e f : Bool) → (a || (b || (c || (d || (e || (f || false)))))) ≡ (a || b || c || d || e || f)
+one_of_six true b c d e f = refl
+one_of_six false true c d e f = refl
+one_of_six false false true d e f = refl
+one_of_six false false false true e f = refl
+one_of_six false false false false true f = refl
+one_of_six false false false false false true = refl
+one_of_six false false false false false false = refl
 
--- and what is of no kind that only stands in chains isn't chained
-unchained : (b : Option Block) → is_one_of (owner_kinds which.IsReached) b ≡ false → is_chained b ≡ false
-unchained b =
-    none_of_six (is_kind kinds.Element b) (is_kind kinds.HashEntry b) (is_kind kinds.Name b) (is_kind kinds.Extent b) (is_kind kinds.Capsule b)
+-- what is of a kind that only stands in chains is chained
+pub chained_so : (b : Option Block) → is_one_of (owner_kinds which.IsReached) b ≡ is_chained b
+chained_so b =
+    one_of_six (is_kind kinds.Element b) (is_kind kinds.HashEntry b) (is_kind kinds.Name b) (is_kind kinds.Extent b) (is_kind kinds.Capsule b)
     (is_kind kinds.Ticket b)
 
 -- a block of no kind of which a rule speaks keeps it
@@ -48,7 +48,7 @@ others_keep heap reached which.SourceNamesRaw addr off =
     ap (λ (t : Bool). not t || is_source_of heap addr (word_of (heap.blocks addr) 0)) (and_left (is_kind kinds.Raw (heap.blocks addr)) (not (word_of (heap.blocks addr) 0 == 0)) (or_parts (is_kind kinds.Raw (heap.blocks addr)) false off).0)
 others_keep heap reached which.RawNamesSource addr off =
     ap (λ (t : Bool). not t || word_of (heap.blocks (word_of (heap.blocks addr) 4)) 0 == addr) (no_source_of_raw (heap.blocks addr) (or_parts (is_kind kinds.Source (heap.blocks addr)) false off).0)
-others_keep heap reached which.IsReached addr off = ap (λ (t : Bool). not t || is_among reached addr) (unchained (heap.blocks addr) off)
+others_keep heap reached which.IsReached addr off = ap (λ (t : Bool). not t || is_among reached addr) (sym (chained_so (heap.blocks addr)) ∙ off)
 
 -- where no block is, each rule is kept
 pub none_keeps : (heap : View) (reached : List ℕ) (rule : OwnerRule) (addr : ℕ) → heap.blocks addr ≡ None → keeps_owner_rule heap reached rule addr ≡ true

@@ -9,7 +9,7 @@ ghost use Rattle.audit_owners.specs.Rules.{AreKept, BreaksFirst, IsBroken, IsKep
 ghost use Rattle.audit_owners.specs.View.{view_in};
 
 use crate::error::Wrong;
-use crate::region::{find, is_kind, word};
+use crate::region::{is_kind, is_one_of, word};
 use crate::scan::next_of;
 use sdr_base::layout::{extent, raw, source};
 use sdr_base::{Addr, Kind, Medium, WORD};
@@ -91,12 +91,7 @@ fn is_chained(heap: &[u8], addr: Addr) -> bool
     requires region { IsRegionSize (length heap.now) }
     ensures { result ≡ is_chained (block_in heap.now addr) }
 {
-    is_kind(heap, addr, Kind::Element)
-        || is_kind(heap, addr, Kind::HashEntry)
-        || is_kind(heap, addr, Kind::Name)
-        || is_kind(heap, addr, Kind::Extent)
-        || is_kind(heap, addr, Kind::Capsule)
-        || is_kind(heap, addr, Kind::Ticket)
+    is_one_of(heap, addr, CHAINED)
 }
 
 // Whether a source of the raw object at an address stands at another.
@@ -120,9 +115,6 @@ fn keeps(heap: &[u8], marks: &[bool], rule: OwnerRule, addr: Addr) -> bool
     ensures { (reached : List ℕ) → AreMarked reached marks.now →
         result ≡ keeps_owner_rule (view_in heap.now) reached rule addr }
 {
-    if find(heap, addr).is_none() {
-        return true;
-    }
     match rule {
         OwnerRule::SourceIsThere => {
             !is_kind(heap, addr, Kind::Extent)
