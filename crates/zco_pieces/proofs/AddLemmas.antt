@@ -12,7 +12,7 @@ use Rattle.zco_pieces.proofs.CutLemmas.{kept_object}
 use Rattle.zco_pieces.specs.Adding.{BeginAt, FillsGap, FillsPart, FillsParts, KeepsFilled, KeepsToFill, SomeToAdd, SomeToFill, has_clone, moves_to_fill}
 use Rattle.zco_pieces.specs.Cutting.{HasLength}
 use Rattle.zco_pieces.specs.Places.{AreInOrder, IsRebuilt, Rebuilt, gap, opened}
-use Rattle.zco_pieces.specs.declared.filled.Filled.{Filled}
+use Rattle.zco_join.specs.declared.filled.Filled.{Filled}
 use Rattle.zco_pieces.specs.declared.piece.Piece.{Piece}
 
 -- parts that are left out leave the others in order

@@ -24,13 +24,14 @@ use Rattle.zco_part.specs.Cloning.{ClonesPart, IsCloned, KeepsToClone, SomeToClo
 use Rattle.zco_part.specs.Copying.{takes_extents}
 use Rattle.zco_part.specs.Pieces.{asked, cut, extents_at, filled, pieces, whole_row}
 use Rattle.zco_part.specs.Sources.{MayCount, all_counted, counted, pieces_of}
-use Rattle.zco_pieces.proofs.SourceLemmas.{more_fits, of_most}
-use Rattle.zco_pieces.proofs.WholeLemmas.{filled_most}
-use Rattle.zco_pieces.specs.Adding.{BeginAt, CountsMore, FillsGap, FillsPart, FillsParts, FillsSome, KeepsToFill, SomeToFill, StopsFirst, StopsPart, moves_to_fill}
-use Rattle.zco_pieces.specs.declared.filled.Filled.{Filled}
-use Rattle.zco_pieces.proofs.CountedLemmas.{all_behind, all_less, all_there_still, counts_less}
-use Rattle.zco_pieces.proofs.TicketLemmas.{first_charged, fits_charged, last_charged, occupied_first, occupied_last}
-use Rattle.zco_pieces.proofs.TurnLemmas.{swapped, turn}
+use Rattle.zco_join.specs.Stocks.{CountsMore}
+use Rattle.zco_join.proofs.SourceLemmas.{more_fits, of_most}
+use Rattle.zco_join.proofs.WholeLemmas.{filled_most}
+use Rattle.zco_pieces.specs.Adding.{BeginAt, FillsGap, FillsPart, FillsParts, FillsSome, KeepsToFill, SomeToFill, StopsFirst, StopsPart, moves_to_fill}
+use Rattle.zco_join.specs.declared.filled.Filled.{Filled}
+use Rattle.zco_join.proofs.CountedLemmas.{all_behind, all_less, all_there_still, counts_less}
+use Rattle.zco_join.proofs.TicketLemmas.{first_charged, fits_charged, last_charged, occupied_first, occupied_last}
+use Rattle.zco_join.proofs.TurnLemmas.{swapped, turn}
 
 -- no more pieces are asked for than there are extents
 pub pieces_most : (from to : ℕ) (es : List ExtentRow) → length (pieces from to es) ≤ length es

@@ -8,7 +8,7 @@ use Rattle.std.proofs.lemmas.List.Elements.{All-head, All-tail}
 use Rattle.std.proofs.lemmas.List.Folds.{list_any-append}
 use Rattle.std.proofs.lemmas.List.Sums.{sum_by-append, sum_by-cons}
 use Rattle.zco_pieces.specs.Places.{AreInOrder, filled_length, first_missing, gap, is_filled, lies_in, opened}
-use Rattle.zco_pieces.specs.declared.filled.Filled.{Filled}
+use Rattle.zco_join.specs.declared.filled.Filled.{Filled}
 
 -- a place lies in a range, or it doesn't
 pub lies : (offset length place : ℕ) → offset ≤ place → place < offset + length → lies_in offset length place ≡ true

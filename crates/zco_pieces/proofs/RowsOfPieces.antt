@@ -2,7 +2,7 @@
 use Rattle.std.proofs.Common.{◌≡◌, ℕ, [], ◌∷◌, refl}
 use Rattle.std.specs.Int.{div_ceil}
 use Rattle.zco_pieces.specs.Places.{Range, cut_length, first_missing, missing_of, opened, uncovered}
-use Rattle.zco_pieces.specs.declared.filled.Filled.{Filled}
+use Rattle.zco_join.specs.declared.filled.Filled.{Filled}
 
 abbrev part : ℕ → ℕ → ℕ → Filled
 part offset length object = record { offset = offset; length = length; object = object }

@@ -13,7 +13,7 @@ use Rattle.zco_part.specs.Pieces.{asked}
 use Rattle.zco_pieces.specs.Bytes.{FitsText, bytes_named}
 use Rattle.zco_pieces.specs.Places.{AreInOrder, Rebuilt, gap, is_covered, is_filled, lies_in, missing_of, opened, uncovered}
 use Rattle.zco_pieces.specs.Runs.{AddStep, Added, GapFilled, GapsFilled, Rebuilds, clone_bytes, range_of}
-use Rattle.zco_pieces.specs.declared.filled.Filled.{Filled}
+use Rattle.zco_join.specs.declared.filled.Filled.{Filled}
 use Rattle.zco_pieces.proofs.BytesLemmas.{asked_bytes, pieces_placed}
 use Rattle.zco_pieces.proofs.PlaceLemmas.{HasText, count_same, filled_most, opened_fills, opened_order, places_left, text_whole}
 

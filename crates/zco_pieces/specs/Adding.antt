@@ -1,5 +1,5 @@
 -- A piece that is added: the gaps that it meets are filled with clones of its bytes.
-use Rattle.std.specs.Prelude.{◌≡◌, ◌≢◌, ◌+◌, ◌-◌, ◌<◌, ◌≤◌, ◌⊎◌, ◌^◌, ◌==◌, ℕ, Bool, not, List, [], ◌∷◌, ◌++◌, filter, length, sum_by, All, MatchBool, Result, Ok, Err, if◌then◌else◌}
+use Rattle.std.specs.Prelude.{◌≡◌, ◌≢◌, ◌+◌, ◌-◌, ◌<◌, ◌≤◌, ◌⊎◌, ◌==◌, ℕ, Bool, not, List, [], ◌∷◌, ◌++◌, filter, length, sum_by, All, MatchBool, Result, Ok, Err, if◌then◌else◌}
 use Rattle.sdr_base.specs.Blocks.{IsKind}
 use Rattle.sdr_base.specs.Objects.{Heap, Misses, OnlyFault}
 use Rattle.sdr_base.specs.Works.{Looks, Spends}
@@ -13,9 +13,10 @@ use Rattle.sdr_model.specs.declared.accounts.Ticket.{Ticket}
 use Rattle.zco_obj.specs.Gone.{NamedSource}
 use Rattle.zco_part.specs.Cloning.{ClonesPart, CloneStops, KeepsToClone}
 use Rattle.zco_part.specs.Pieces.{asked}
+use Rattle.zco_join.specs.Stocks.{CountsMore}
 use Rattle.zco_pieces.specs.Cutting.{HasLength}
 use Rattle.zco_pieces.specs.Places.{Rebuilt, opened}
-use Rattle.zco_pieces.specs.declared.filled.Filled.{Filled}
+use Rattle.zco_join.specs.declared.filled.Filled.{Filled}
 use Rattle.zco_pieces.specs.declared.piece.Piece.{Piece}
 use Rattle.zco_pieces.specs.declared.piece.PieceStop.{PieceStop}
 use Rattle.zco_pieces.specs.declared.piece.PieceStop.TheVariants as stops
@@ -78,11 +79,6 @@ BeginAt offset = All (λ p. p.object ≡ 0 → offset ≤ p.offset)
 abbrev pub moves_to_fill : ℕ → ObjectRow → List Filled → ℕ
 moves_to_fill offset row =
     sum_by (λ p. if p.object == 0 then 1 + length (asked (p.offset - offset) p.length row) else 0)
-
--- so many extents more of a source can be counted
-pub record CountsMore (more : ℕ) (s : NamedSource) : Type 0 where
-  pub inbound : s.source.inbound + more < 2 ^ 61
-  pub outbound : s.source.outbound + more < 2 ^ 61
 
 -- the heap keeps an object so that the gaps among these parts may be filled from it, and has room for the moves
 pub record KeepsToFill (heap : Heap) (object offset : ℕ) (parts : List Filled) (row : ObjectRow) (tickets : List Ticket)

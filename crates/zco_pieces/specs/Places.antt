@@ -1,7 +1,7 @@
 -- The places of a text that are filled, and what of a piece fills more of them.
 use Rattle.std.specs.Prelude.{◌≢◌, ◌+◌, ◌-◌, ◌*◌, ◌^◌, ◌≤◌, ◌==◌, ◌&&◌, ℕ, Bool, not, List, [], ◌∷◌, ◌++◌, max, min, nat_le, nat_lt, sum_by, count_by, All, if◌then◌else◌}
 use Rattle.std.specs.List.{list_any, range_with_len}
-use Rattle.zco_pieces.specs.declared.filled.Filled.{Filled}
+use Rattle.zco_join.specs.declared.filled.Filled.{Filled}
 
 -- a text that is rebuilt: its length, and the parts that are filled
 pub record Rebuilt : Type 0 where

@@ -6,7 +6,7 @@ use Rattle.zco_part.specs.Pieces.{asked, extents_at, whole_row}
 use Rattle.zco_pieces.specs.Adding.{IsPieceOf}
 use Rattle.zco_pieces.specs.Bytes.{bytes_named}
 use Rattle.zco_pieces.specs.Places.{Range, Rebuilt, opened}
-use Rattle.zco_pieces.specs.declared.filled.Filled.{Filled}
+use Rattle.zco_join.specs.declared.filled.Filled.{Filled}
 use Rattle.zco_pieces.specs.declared.piece.Piece.{Piece}
 
 -- A piece that was added: its object then, and what the sources held then.

@@ -12,11 +12,11 @@ ghost use Rattle.zco_pieces.specs.Adding.{SpendsOrLacks, StopsPart, moves_to_fil
 ghost use Rattle.zco_pieces.specs.Places.{AreInOrder, gap, missing_of, opened};
 
 use crate::cutting::bad_range;
-use crate::filled::Filled;
 use crate::piece::{Piece, PieceStop};
 use crate::rebuild::Rebuild;
 use sdr_base::{Items, NoMemory, Objects, Stop, check_failed};
 use std::alloc::Global;
+use zco_join::Filled;
 use zco_obj::source_length;
 use zco_part::clone_part;
 

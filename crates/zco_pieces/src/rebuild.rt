@@ -2,10 +2,10 @@
 ghost use Rattle.std.specs.Prelude.{◌≡◌, ◌-◌, ◌≤◌, []};
 ghost use Rattle.zco_pieces.specs.Places.{filled_length, missing_of};
 
-use crate::filled::Filled;
 use sdr_base::Items;
 use std::alloc::Global;
 use std::marker::Model;
+use zco_join::Filled;
 
 /// No text has more bytes.
 pub const LONGEST_TEXT: u64 = 1 << 40;
@@ -22,7 +22,7 @@ pub struct Rebuild {
 impl Model for Rebuild {
     ghost use Rattle.std.specs.Coded.{coded_list};
     ghost use Rattle.zco_pieces.specs.Places.{IsRebuilt, Rebuilt};
-    ghost use Rattle.zco_pieces.specs.declared.filled.Filled.{Filled};
+    ghost use Rattle.zco_join.specs.declared.filled.Filled.{Filled};
 
     ghost Value = { Rebuilt };
 

@@ -6,7 +6,7 @@ use Rattle.std.proofs.lemmas.List.{take-append-le, take_all}
 use Rattle.std.proofs.lemmas.Result.{IfErr-weaker, on_ok_weaker}
 use Rattle.sdr_base.specs.declared.stop.Stop.{Stop}
 use Rattle.zco_pieces.specs.Adding.{FillsParts, FillsSome, has_clone}
-use Rattle.zco_pieces.specs.declared.filled.Filled.{Filled}
+use Rattle.zco_join.specs.declared.filled.Filled.{Filled}
 use Rattle.zco_pieces.proofs.AddLemmas.{fills_kept}
 use Rattle.zco_pieces.proofs.adding.fill.Goals as goal
 

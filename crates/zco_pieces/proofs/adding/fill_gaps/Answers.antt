@@ -3,7 +3,7 @@ use Rattle.std.proofs.Common.{◌≡◌, ◌≤◌, ◌<◌, [], ◌∷◌, leng
 use Rattle.std.proofs.lemmas.Result.{err_from_is_err_and}
 use Rattle.sdr_base.proofs.WorksLemmas.{looks_works, works_more, works_ok, works_stopped, works_then}
 use Rattle.zco_pieces.specs.Adding.{FillsPart, KeepsToFill, SomeToFill, StopsPart, moves_to_fill}
-use Rattle.zco_pieces.specs.declared.filled.Filled.{Filled}
+use Rattle.zco_join.specs.declared.filled.Filled.{Filled}
 use Rattle.zco_pieces.proofs.FillLemmas.{done_moves, fill_all, fill_behind, fill_begun, fill_kept, fill_next, fill_some, fill_stopped, moves_append, next_moves, next_part, none_filled, part_is}
 use Rattle.zco_pieces.proofs.adding.fill_gaps.Goals as goal
 

@@ -1,6 +1,6 @@
 -- Each part ends within the text, and the gap before it comes first.
 use Rattle.std.proofs.Common.{arith}
-use Rattle.zco_pieces.specs.declared.filled.Filled.{Filled}
+use Rattle.zco_join.specs.declared.filled.Filled.{Filled}
 use Rattle.zco_pieces.proofs.PlaceLemmas.{order_at}
 use Rattle.zco_pieces.proofs.adding.open.Goals as goal
 

@@ -4,7 +4,7 @@ use Rattle.std.proofs.lemmas.Result.{err_from_is_err_and}
 use Rattle.sdr_base.proofs.WorksLemmas.{looks_then, works_more, works_ok, works_stopped}
 use Rattle.zco_pieces.specs.Adding.{BeginAt}
 use Rattle.zco_pieces.specs.Places.{AreInOrder, Rebuilt, opened}
-use Rattle.zco_pieces.specs.declared.filled.Filled.{Filled}
+use Rattle.zco_join.specs.declared.filled.Filled.{Filled}
 use Rattle.zco_pieces.proofs.AddLemmas.{all_rebuilt, fill_lines, opened_begins, some_rebuilt, some_to_fill, to_fill}
 use Rattle.zco_pieces.proofs.PlaceLemmas.{opened_order}
 use Rattle.zco_pieces.proofs.rebuild.Rebuild.add.Goals as goal

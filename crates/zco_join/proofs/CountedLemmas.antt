@@ -15,8 +15,8 @@ use Rattle.zco_obj.proofs.CountLemmas.{names, naming-append}
 use Rattle.zco_ref.specs.Kept.{CountedSource, SourceFits, count_in}
 use Rattle.zco_part.specs.Pieces.{extents_at}
 use Rattle.zco_part.specs.Sources.{MayCount, all_counted, counted, more_uses, pieces_of}
-use Rattle.zco_pieces.proofs.SourceLemmas.{more_fits, of_most}
-use Rattle.zco_pieces.specs.Adding.{CountsMore}
+use Rattle.zco_join.proofs.SourceLemmas.{more_fits, of_most}
+use Rattle.zco_join.specs.Stocks.{CountsMore}
 
 -- so many extents more may be counted
 pub may_count : (n : ℕ) (s : NamedSource) → SourceFits s.source → CountsMore n s → MayCount s
@@ -72,7 +72,7 @@ all_mapped P Q f on [] all = All-nil Q
 all_mapped P Q f on (x ∷ xs) all = All-cons Q (f x) (map f xs) (on x (All-head P x xs all)) (all_mapped P Q f on xs (All-tail P x xs all))
 
 -- extents of pieces name as often as there are pieces
-naming_placed : (addr : ℕ) (addrs : List ℕ) (ps : List ExtentPiece) → length addrs ≡ length ps → naming addr (extents_at addrs ps) ≡ pieces_of addr ps
+pub naming_placed : (addr : ℕ) (addrs : List ℕ) (ps : List ExtentPiece) → length addrs ≡ length ps → naming addr (extents_at addrs ps) ≡ pieces_of addr ps
 naming_placed addr [] [] e = refl
 naming_placed addr [] (p ∷ ps) e = absurd (omega (arith, e))
 naming_placed addr (a ∷ as') [] e = absurd (omega (arith, e))

@@ -1,0 +1,4 @@
+pub mod Stocks
+pub mod Joining
+pub mod Appending
+pub mod Leaving
