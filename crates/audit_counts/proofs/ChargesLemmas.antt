@@ -1,9 +1,8 @@
 -- Sums of charges.
-use Rattle.std.proofs.Common.{◌≡◌, ◌≤◌, ◌<◌, ◌+◌, ◌*◌, ◌-◌, ◌/◌, ◌^◌, ℕ, Bool, List, cond, get_or, length, sum_by, take, arith, ap, sym, ◌∙◌}
-use Rattle.std.specs.Prelude.{Option, None}
+use Rattle.std.proofs.Common.{◌≡◌, ◌≤◌, ◌<◌, ◌+◌, ◌*◌, ◌-◌, ◌/◌, ◌^◌, ℕ, Bool, false, List, [], ◌∷◌, cond, get_or, length, sum_by, take, arith, ap, sym, ◌∙◌}
+use Rattle.std.proofs.lemmas.Bool.{or_parts}
 use Rattle.std.proofs.lemmas.List.FromFn.{sum_by-map-range_with_len_more}
 use Rattle.std.proofs.lemmas.List.Sums.{sum_by_more}
-use Rattle.sdr_base.specs.Blocks.{Block}
 use Rattle.sdr_base.specs.Cells.{IsRegionSize}
 use Rattle.sdr_base.specs.KeptHeap.{block_in}
 use Rattle.sdr_base.specs.declared.account.Acct.{Acct}
@@ -16,8 +15,8 @@ use Rattle.sdr_model.specs.Amounts.{in_space}
 use Rattle.audit_owners.proofs.BlockLemmas.{few_bytes, few_words}
 use Rattle.audit_owners.proofs.MembersLemmas.{length-followed}
 use Rattle.audit_owners.proofs.PlacesLemmas.{sum_over}
-use Rattle.audit_owners.specs.Scan.{HasNoBlocks}
-use Rattle.audit_owners.specs.View.{View, is_kind, length_of, view_in, word_of}
+use Rattle.audit_owners.specs.Scan.{HaveNoneOf}
+use Rattle.audit_owners.specs.View.{View, is_kind, is_one_of, length_of, view_in, word_of}
 use Rattle.audit_owners.specs.Chains.{first_link}
 use Rattle.audit_owners.specs.Members.{members}
 use Rattle.audit_owners.specs.declared.owner.Owner.{Owner}
@@ -56,20 +55,22 @@ pub charge_more : (heap : View) (words : ℕ) (account : Acct) (number : ℕ) (s
 charge_more heap words account number space =
     sum_by-map-range_with_len_more (charge_at heap words account space) (λ word. 8 * word) 0 number number (omega arith)
 
--- and words without blocks charge nothing
-pub charges_over : (bytes : List ℕ) (words : ℕ) (account : Acct) (from to : ℕ) → from ≤ to → HasNoBlocks bytes from to →
+-- and words without objects and sources charge nothing
+pub charges_over : (bytes : List ℕ) (words : ℕ) (account : Acct) (from to : ℕ) → from ≤ to → HaveNoneOf (kinds.Object ∷ kinds.Source ∷ []) bytes from to →
     charges_by (λ space. sum_by (charge_at (view_in bytes) words account space) (places from))
     ≡ charges_by (λ space. sum_by (charge_at (view_in bytes) words account space) (places to))
 charges_over bytes words account from to onward none =
     charges_same (λ space. sum_by (charge_at (view_in bytes) words account space) (places from))
     (λ space. sum_by (charge_at (view_in bytes) words account space) (places to))
-    (λ space. sym (sum_over bytes (charge_at (view_in bytes) words account space) from to (unused space) onward none))
+    (λ space. sym (sum_over (kinds.Object ∷ kinds.Source ∷ []) bytes (charge_at (view_in bytes) words account space) from to (unused space) onward none))
   where
-    unused : (space : Space) (addr : ℕ) → block_in bytes addr ≡ None → charge_at (view_in bytes) words account space addr ≡ 0
-    unused space addr here =
+    unused : (space : Space) (addr : ℕ) → is_one_of (kinds.Object ∷ kinds.Source ∷ []) (block_in bytes addr) ≡ false → charge_at (view_in bytes) words account space addr ≡ 0
+    unused space addr off =
+        let object = or_parts (is_kind kinds.Object (block_in bytes addr)) (is_one_of (kinds.Source ∷ []) (block_in bytes addr)) off in
+        let source = or_parts (is_kind kinds.Source (block_in bytes addr)) false object.1 in
         ap (λ (t : Bool). cond t (object_charge_at (view_in bytes) words space addr) (cond (is_kind kinds.Source (block_in bytes addr)) (source_charge_at (view_in bytes) account space addr) 0))
-        (no_object (view_in bytes) account addr here)
-        ∙ ap (λ (b : Option Block). cond (is_kind kinds.Source b) (source_charge_at (view_in bytes) account space addr) 0) here
+        (no_object (view_in bytes) account addr object.0)
+        ∙ ap (λ (t : Bool). cond t (source_charge_at (view_in bytes) account space addr) 0) source.0
 
 -- the words for its text fit a number
 pub few_text : (x : List ℕ) (addr bytes text : ℕ) → IsRegionSize (length x) → bytes ≡ length_of (block_in x addr) → text ≡ bytes - 8 → 15 + text < 2 ^ 61

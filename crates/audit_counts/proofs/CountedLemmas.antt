@@ -1,8 +1,8 @@
 -- Where no count is found wrong, each is right, and the other way round.
-use Rattle.std.proofs.Common.{◌≡◌, ◌≤◌, ◌*◌, ◌+◌, ◌-◌, ◌/◌, ◌==◌, ◌&&◌, ◌||◌, ℕ, Bool, true, false, not, cond, List, [], ◌∷◌, length, sum_by, ap, arith, refl}
+use Rattle.std.proofs.Common.{◌≡◌, ◌≤◌, ◌*◌, ◌+◌, ◌-◌, ◌/◌, ◌==◌, ◌&&◌, ◌||◌, ℕ, Bool, true, false, not, cond, List, [], ◌∷◌, length, sum_by, ap, ◌∙◌, arith, refl}
 use Rattle.std.specs.Prelude.{find, nat_le, Option, None, Some}
 use Rattle.std.specs.Option.{option_map}
-use Rattle.sdr_base.specs.Blocks.{Block}
+use Rattle.std.proofs.lemmas.Bool.{and_left, or_parts}
 use Rattle.sdr_base.specs.Cells.{IsRegionSize}
 use Rattle.sdr_base.specs.KeptHeap.{block_in}
 use Rattle.sdr_base.specs.declared.account.Acct.{Acct}
@@ -13,22 +13,27 @@ use Rattle.sdr_base.specs.declared.kind.Space.TheVariants as spaces
 use Rattle.audit_counts.specs.Counted.{IsCounted, IsCountedRegion, wrong_count, wrong_count_in, wrong_occupancy_in, wrong_source}
 use Rattle.audit_counts.specs.Counts.{keeps_counts, tells_count}
 use Rattle.audit_counts.specs.Occupied.{all_spaces, occupancy_word, tells_occupancy}
-use Rattle.audit_counts.specs.Rules.{count_rules, extent_length, first_broken, keeps_count_rule}
+use Rattle.audit_counts.specs.Rules.{count_kinds, count_rules, extent_length, first_broken, keeps_count_rule}
 use Rattle.audit_counts.specs.declared.rules.CountRule.{CountRule}
 use Rattle.audit_counts.specs.declared.rules.CountRule.TheVariants as which
 use Rattle.audit_owners.proofs.KeyedLemmas.{keyed, keyed_not_wrong}
+use Rattle.audit_owners.proofs.OneOfLemmas.{one_of-none}
 use Rattle.audit_owners.proofs.PlacesLemmas.{all_pass, both_none, either_none, found_none}
 use Rattle.audit_owners.specs.Keyed.{wrong_key}
 use Rattle.audit_owners.specs.Members.{members}
 use Rattle.audit_owners.specs.Places.{first_failing, places}
-use Rattle.audit_owners.specs.Rules.{is_source_of_raw}
-use Rattle.audit_owners.specs.View.{View, is_kind, length_of, view_in, word_of}
+use Rattle.audit_owners.specs.View.{View, is_kind, is_one_of, length_of, view_in, word_of}
 use Rattle.audit_owners.specs.declared.owner.Owner.TheVariants as owners
 
+-- a block that isn't a source tells no counts
+pub others_count : (heap : View) (words addr : ℕ) → is_one_of (kinds.Source ∷ []) (heap.blocks addr) ≡ false → keeps_counts heap words addr ≡ true
+others_count heap words addr off =
+    ap (λ (t : Bool). not t || (tells_count heap words accts.Inbound addr && tells_count heap words accts.Outbound addr))
+    (or_parts (is_kind kinds.Source (heap.blocks addr)) false off).0
+
 -- where no block is, no source is
-pub none_counts : (heap : View) (words addr : ℕ) → heap.blocks addr ≡ None → keeps_counts heap words addr ≡ true
-none_counts heap words addr none =
-    ap (λ (b : Option Block). not (is_kind kinds.Source b) || (tells_count heap words accts.Inbound addr && tells_count heap words accts.Outbound addr)) none
+none_counts : (heap : View) (words addr : ℕ) → heap.blocks addr ≡ None → keeps_counts heap words addr ≡ true
+none_counts heap words addr none = others_count heap words addr (ap (is_one_of (kinds.Source ∷ [])) none)
 
 -- of three tests none fails where no first one does
 three : {X Y : Type 0} (p : X → Bool) (f : X → Y) (a b c : X) → option_map f (find (λ x. not (p x)) (a ∷ b ∷ c ∷ [])) ≡ None →
@@ -55,26 +60,38 @@ occupied_right heap words account none space =
     by_space spaces.Heap all = all.2
 
 module _ (bytes : List ℕ) (words : ℕ) where
+  -- what isn't one of sources alone isn't a source
+  source : (addr : ℕ) → is_one_of (kinds.Source ∷ []) (block_in bytes addr) ≡ false → is_kind kinds.Source (block_in bytes addr) ≡ false
+  source addr off = (or_parts (is_kind kinds.Source (block_in bytes addr)) false off).0
+
+  -- a block of no kind of which a rule speaks keeps it
+  pub others_keep : (rule : CountRule) (addr : ℕ) → is_one_of (count_kinds rule) (block_in bytes addr) ≡ false →
+      keeps_count_rule (view_in bytes) words rule addr ≡ true
+  others_keep which.RawLength addr off =
+      let b = block_in bytes addr in
+      ap (λ (t : Bool). not t || word_of b 5 == length_of (block_in bytes (word_of b 4)) - 8) (and_left _ _ (source addr off))
+  others_keep which.Inside addr off =
+      let b = block_in bytes addr in
+      ap (λ (t : Bool). not t || nat_le (word_of b 1 + word_of b 2) (word_of (block_in bytes (word_of b 0)) 5))
+      (or_parts (is_kind kinds.Extent b) false off).0
+  others_keep which.Part addr off =
+      let b = block_in bytes addr in
+      ap (λ (t : Bool).
+      not t || nat_le (word_of b 7 + word_of b 8) (sum_by (extent_length (view_in bytes)) (members (view_in bytes) words (owners.Extents addr))))
+      (or_parts (is_kind kinds.Object b) false off).0
+  others_keep which.Bytes addr off =
+      let b = block_in bytes addr in
+      ap (λ (t : Bool). not t || nat_le 1 (word_of b 2)) (or_parts (is_kind kinds.Extent b) false off).0
+  others_keep which.Used addr off =
+      let b = block_in bytes addr in
+      ap (λ (t : Bool). not ((t && not (word_of b 1 == 0)) || (t && word_of b 0 == 3)) || not (word_of b 2 == 0) || not (word_of b 3 == 0)) (source addr off)
+  others_keep which.Unflagged addr off =
+      let b = block_in bytes addr in
+      ap (λ (t : Bool). not (t && word_of b 0 == 3) || not (t && not (word_of b 1 == 0))) (source addr off)
+
   -- where no block is, each rule is kept
-  pub unused : (rule : CountRule) (addr : ℕ) → block_in bytes addr ≡ None → keeps_count_rule (view_in bytes) words rule
-      addr ≡ true
-  unused which.RawLength addr none =
-      ap (λ (b : Option Block). not (is_source_of_raw b) || word_of b 5 == length_of (block_in bytes (word_of b 4)) -
-      8) none
-  unused which.Inside addr none =
-      ap (λ (b : Option Block). not (is_kind kinds.Extent b) || nat_le (word_of b 1 + word_of b 2) (word_of (block_in bytes (word_of b 0)) 5)) none
-  unused which.Part addr none =
-      ap (λ (b : Option Block).
-      not (is_kind kinds.Object b)
-      || nat_le (word_of b 7 + word_of b 8) (sum_by (extent_length (view_in bytes)) (members (view_in bytes) words (owners.Extents addr)))) none
-  unused which.Bytes addr none = ap (λ (b : Option Block). not (is_kind kinds.Extent b) || nat_le 1 (word_of b 2)) none
-  unused which.Used addr none =
-      ap (λ (b : Option Block).
-      not ((is_kind kinds.Source b && not (word_of b 1 == 0)) || (is_kind kinds.Source b && word_of b 0 == 3))
-      || not (word_of b 2 == 0) || not (word_of b 3 == 0)) none
-  unused which.Unflagged addr none =
-      ap (λ (b : Option Block).
-      not (is_kind kinds.Source b && word_of b 0 == 3) || not (is_kind kinds.Source b && not (word_of b 1 == 0))) none
+  unused : (rule : CountRule) (addr : ℕ) → block_in bytes addr ≡ None → keeps_count_rule (view_in bytes) words rule addr ≡ true
+  unused rule addr none = others_keep rule addr (ap (is_one_of (count_kinds rule)) none ∙ one_of-none (count_kinds rule))
 
   -- a rule that no place is found to break is kept everywhere
   one_kept : length bytes ≤ 8 * words → (rule : CountRule) → first_failing (keeps_count_rule (view_in bytes) words rule) words ≡ None → (addr : ℕ) →

@@ -1,14 +1,12 @@
 -- Counts of extents.
-use Rattle.std.proofs.Common.{◌≡◌, ◌≤◌, ◌<◌, ◌+◌, ◌-◌, ◌*◌, ◌^◌, ◌==◌, ◌&&◌, ℕ, List, [], ◌∷◌, ◌++◌, drop, cond, Bool, false, get_or, length, min, sum_by, take, count_by, arith, ap, ◌∙◌, sym, inl, inr}
-use Rattle.std.specs.Prelude.{Option, None}
+use Rattle.std.proofs.Common.{◌≡◌, ◌≤◌, ◌<◌, ◌+◌, ◌-◌, ◌*◌, ◌^◌, ◌==◌, ℕ, List, [], ◌∷◌, ◌++◌, drop, cond, Bool, false, get_or, length, min, sum_by, take, count_by, arith, ap, ◌∙◌, sym, inl, inr}
 use Rattle.std.specs.List.{All}
-use Rattle.std.proofs.lemmas.Bool.{cases_Bool}
+use Rattle.std.proofs.lemmas.Bool.{and_left, cases_Bool, or_parts}
 use Rattle.std.proofs.lemmas.List.FromFn.{length-map-range_with_len, sum_by-map-range_with_len_more}
 use Rattle.std.proofs.lemmas.List.Elements.{All-cons, All-nil}
 use Rattle.std.proofs.lemmas.List.Sums.{count_by-le-length, sum_by-le}
 use Rattle.std.proofs.lemmas.Nat.{mul-le}
 use Rattle.std.proofs.Math.Seq.{take-append_seam}
-use Rattle.sdr_base.specs.Blocks.{Block}
 use Rattle.sdr_base.specs.KeptHeap.{block_in}
 use Rattle.sdr_base.specs.ZcoObjects.{account_number}
 use Rattle.sdr_base.specs.declared.account.Acct.{Acct}
@@ -21,8 +19,8 @@ use Rattle.audit_counts.specs.Numbers.{AreTold}
 use Rattle.audit_owners.proofs.MembersLemmas.{length-followed}
 use Rattle.audit_owners.proofs.PlacesLemmas.{sum_over}
 use Rattle.audit_owners.specs.Chains.{first_link}
-use Rattle.audit_owners.specs.Scan.{HasNoBlocks}
-use Rattle.audit_owners.specs.View.{View, is_kind, view_in, word_of}
+use Rattle.audit_owners.specs.Scan.{HaveNoneOf}
+use Rattle.audit_owners.specs.View.{View, is_kind, is_one_of, view_in, word_of}
 use Rattle.audit_owners.specs.declared.owner.Owner.TheVariants as owners
 
 -- what holds of each number holds of those in a list
@@ -57,23 +55,22 @@ pub uses_more : (heap : View) (words : ℕ) (account : Acct) (number from : ℕ)
 uses_more heap words account number from =
     sum_by-map-range_with_len_more (uses_at heap words account from) (λ word. 8 * word) 0 number number (omega arith)
 
--- where no block is, no object is
-pub no_object : (heap : View) (account : Acct) (addr : ℕ) → heap.blocks addr ≡ None → is_object_of heap account addr ≡ false
-no_object heap account addr =
-    ap (λ (b : Option Block). is_kind kinds.Object b && word_of b object.ACCOUNT == account_number account)
+-- where no object is, none is of an account
+pub no_object : (heap : View) (account : Acct) (addr : ℕ) → is_kind kinds.Object (heap.blocks addr) ≡ false → is_object_of heap account addr ≡ false
+no_object heap account addr = and_left (is_kind kinds.Object (heap.blocks addr)) (word_of (heap.blocks addr) object.ACCOUNT == account_number account)
 
--- so words without blocks add no uses
-pub told_over : (bytes : List ℕ) (words : ℕ) (account : Acct) (counts : List ℕ) (first to : ℕ) → first ≤ to → HasNoBlocks bytes first to →
+-- so words without objects add no uses
+pub told_over : (bytes : List ℕ) (words : ℕ) (account : Acct) (counts : List ℕ) (first to : ℕ) → first ≤ to → HaveNoneOf (kinds.Object ∷ []) bytes first to →
     AreTold (λ from. sum_by (uses_at (view_in bytes) words account from) (places first)) counts →
     AreTold (λ from. sum_by (uses_at (view_in bytes) words account from) (places to)) counts
 told_over bytes words account counts first to onward none =
     told_same _ (λ from. sum_by (uses_at (view_in bytes) words account from) (places to)) counts
-    (λ from. sym (sum_over bytes (uses_at (view_in bytes) words account from) first to (unused from) onward none))
+    (λ from. sym (sum_over (kinds.Object ∷ []) bytes (uses_at (view_in bytes) words account from) first to (unused from) onward none))
   where
-    unused : (from addr : ℕ) → block_in bytes addr ≡ None → uses_at (view_in bytes) words account from addr ≡ 0
-    unused from addr here =
+    unused : (from addr : ℕ) → is_one_of (kinds.Object ∷ []) (block_in bytes addr) ≡ false → uses_at (view_in bytes) words account from addr ≡ 0
+    unused from addr off =
         ap (λ (t : Bool). cond t (count_by (extent_names (view_in bytes) from) (members (view_in bytes) words (owners.Extents addr))) 0)
-        (no_object (view_in bytes) account addr here)
+        (no_object (view_in bytes) account addr (or_parts (is_kind kinds.Object (block_in bytes addr)) false off).0)
 
 -- how many extents name a source is at most the square of the words
 pub count_small : (heap : View) (words : ℕ) (account : Acct) (from : ℕ) → words < 2 ^ 30 → named_count heap words account from < 2 ^ 64 - 1

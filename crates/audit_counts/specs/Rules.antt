@@ -1,6 +1,7 @@
 -- What sources, extents and objects have to keep of one another.
 use Rattle.std.specs.Prelude.{◌==◌, ◌+◌, ◌-◌, ◌&&◌, ◌||◌, ℕ, Bool, not, nat_le, List, [], ◌∷◌, map, sum_by, Option}
 use Rattle.sdr_base.specs.Sources.{medium_number}
+use Rattle.sdr_base.specs.declared.kind.Kind.{Kind}
 use Rattle.sdr_base.specs.declared.kind.Kind.TheVariants as kinds
 use Rattle.sdr_base.specs.declared.layout.extent.TheConstants as extent
 use Rattle.sdr_base.specs.declared.layout.object.TheConstants as object
@@ -62,6 +63,15 @@ has_extent_if_passing heap addr =
 -- whether the block at an address, if it is a source that has taken over a raw object, isn't flagged
 abbrev pub is_unflagged : View → ℕ → Bool
 is_unflagged heap addr = not (has_taken heap addr) || not (is_flagged heap addr)
+
+-- the kinds of blocks that a rule speaks of
+abbrev pub count_kinds : CountRule → List Kind
+count_kinds which.RawLength = kinds.Source ∷ []
+count_kinds which.Inside = kinds.Extent ∷ []
+count_kinds which.Part = kinds.Object ∷ []
+count_kinds which.Bytes = kinds.Extent ∷ []
+count_kinds which.Used = kinds.Source ∷ []
+count_kinds which.Unflagged = kinds.Source ∷ []
 
 -- whether the block at an address keeps a rule
 abbrev pub keeps_count_rule : View → ℕ → CountRule → ℕ → Bool

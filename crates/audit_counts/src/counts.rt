@@ -7,7 +7,7 @@ ghost use Rattle.audit_counts.specs.Counts.{named_count, is_object_of, keeps_cou
 ghost use Rattle.audit_counts.specs.Numbers.{AreTold};
 ghost use Rattle.audit_owners.specs.View.{view_in};
 
-use audit_owners::{Owner, is_kind, members, next_block, word};
+use audit_owners::{Owner, is_kind, members, next_of, word};
 use sdr_base::layout::{extent, object, source};
 use sdr_base::{Acct, Addr, Kind, NoMemory, WORD};
 use std::alloc::Global;
@@ -77,7 +77,7 @@ fn counts_of(alloc: Global, heap: &[u8], account: Acct) -> Result<Vec<u64>, NoMe
 {
     let mut counts = vec![in alloc; 0u64; heap.len() / WORD as usize]?;
     let mut from = 0;
-    while let Some(number) = next_block(heap, from) {
+    while let Some(number) = next_of(heap, from, &[Kind::Object]) {
         count_object(alloc, heap, &mut counts, account, WORD * number)?;
         from = number + 1;
     }
@@ -106,7 +106,7 @@ pub fn wrong_source(alloc: Global, heap: &[u8]) -> Result<Option<Addr>, NoMemory
     let inbound = counts_of(alloc, heap, Acct::Inbound)?;
     let outbound = counts_of(alloc, heap, Acct::Outbound)?;
     let mut from = 0;
-    while let Some(number) = next_block(heap, from) {
+    while let Some(number) = next_of(heap, from, &[Kind::Source]) {
         let addr = WORD * number;
         let word = number as usize;
         if !keeps_counts(heap, addr, inbound[word], outbound[word]) {

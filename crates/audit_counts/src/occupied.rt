@@ -14,7 +14,7 @@ ghost use Rattle.audit_owners.specs.View.{view_in};
 
 use crate::charges::Charges;
 use crate::counts::is_object_of;
-use audit_owners::{Owner, is_kind, length_of, members, next_block, root, word};
+use audit_owners::{Owner, is_kind, length_of, members, next_of, root, word};
 use sdr_base::control::{BULK_OCCUPANCY, FILE_OCCUPANCY, HEAP_OCCUPANCY, INBOUND, OUTBOUND};
 use sdr_base::layout::{capsule, source, ticket};
 use sdr_base::{Acct, Addr, Kind, NoMemory, Space, WORD};
@@ -151,7 +151,7 @@ fn occupied(alloc: Global, heap: &[u8], account: Acct) -> Result<Charges, NoMemo
 {
     let mut charges = Charges::none();
     let mut from = 0;
-    while let Some(number) = next_block(heap, from) {
+    while let Some(number) = next_of(heap, from, &[Kind::Object, Kind::Source]) {
         charges = with_block(alloc, heap, charges, account, WORD * number)?;
         from = number + 1;
     }

@@ -2,11 +2,11 @@
 ghost use Rattle.std.specs.Prelude.{◌≡◌, ◌+◌, ◌/◌, length, nat_le, sum_by, IfOk};
 ghost use Rattle.sdr_base.specs.Cells.{IsRegionSize};
 ghost use Rattle.sdr_base.specs.declared.line.TheConstants.{WORD};
-ghost use Rattle.audit_counts.specs.Rules.{count_rules, covers_part, extent_length, first_broken, has_bytes, has_raw_length, has_taken, is_flagged, is_unflagged, has_extent_if_passing, keeps_count_rule, lies_inside};
+ghost use Rattle.audit_counts.specs.Rules.{count_kinds, count_rules, covers_part, extent_length, first_broken, has_bytes, has_raw_length, has_taken, is_flagged, is_unflagged, has_extent_if_passing, keeps_count_rule, lies_inside};
 ghost use Rattle.audit_owners.specs.Places.{first_failing};
 ghost use Rattle.audit_owners.specs.View.{view_in};
 
-use audit_owners::{Owner, is_kind, length_of, members, names_raw, next_block, word};
+use audit_owners::{Owner, is_kind, length_of, members, names_raw, next_of, word};
 use sdr_base::layout::{extent, object, raw, source};
 use sdr_base::{Addr, Kind, NoMemory, WORD};
 use std::alloc::Global;
@@ -26,6 +26,22 @@ pub enum CountRule {
     Used,
     /// A source that has taken over a raw object isn't flagged.
     Unflagged,
+}
+
+impl CountRule {
+    // The kinds of blocks that the rule speaks of.
+    fn kinds(self) -> &'static [Kind]
+        ensures { result.now ≡ count_kinds self }
+    {
+        match self {
+            CountRule::RawLength => &[Kind::Source],
+            CountRule::Inside => &[Kind::Extent],
+            CountRule::Part => &[Kind::Object],
+            CountRule::Bytes => &[Kind::Extent],
+            CountRule::Used => &[Kind::Source],
+            CountRule::Unflagged => &[Kind::Source],
+        }
+    }
 }
 
 // Whether the block at an address, if it is a source of a raw object, has its length.
@@ -155,7 +171,7 @@ fn first_broken(alloc: Global, heap: &[u8], rule: CountRule) -> Result<Option<Ad
         (keeps_count_rule (view_in heap.now) (length heap.now / WORD) rule) (length heap.now / WORD)) }
 {
     let mut from = 0;
-    while let Some(number) = next_block(heap, from) {
+    while let Some(number) = next_of(heap, from, rule.kinds()) {
         let addr = WORD * number;
         if !keeps(alloc, heap, rule, addr)? {
             return Ok(Some(addr));

@@ -1,18 +1,17 @@
 -- Where no list, hash or name is found wrong, all are right.
 use Rattle.std.proofs.Common.{◌≡◌, ◌≤◌, ◌*◌, ◌==◌, ◌&&◌, ◌||◌, ℕ, Bool, true, false, not, cond, nat_eq, List, [], ◌∷◌, ◌++◌, map, length, ap, ◌∙◌, refl, sym, inl, inr}
-use Rattle.std.specs.Prelude.{Option, None, Some}
+use Rattle.std.specs.Prelude.{None, Some}
 use Rattle.std.specs.Cmp.Lexicographic.{bytes_decides, pointwise}
 use Rattle.std.specs.List.{AllByRecursion, IsDistinct, list_all}
 use Rattle.std.proofs.lemmas.Bool.{cases_Bool, or_from, or_parts}
 use Rattle.std.proofs.lemmas.List.Folds.{list_any-append}
-use Rattle.sdr_base.specs.Blocks.{Block}
 use Rattle.sdr_base.specs.KeptHeap.{block_in}
-use Rattle.sdr_base.specs.declared.kind.Kind.TheVariants as kinds
+use Rattle.audit_owners.proofs.OneOfLemmas.{one_of-none}
 use Rattle.audit_owners.proofs.PlacesLemmas.{all_pass, both_none, either_none, found_none}
 use Rattle.audit_owners.specs.Entries.{buckets, entry_count, keeps_bucket}
 use Rattle.audit_owners.specs.Members.{members}
 use Rattle.audit_owners.specs.declared.owner.Owner.TheVariants as owners
-use Rattle.audit_owners.specs.Keyed.{IsKeyed, catalogue, keeps_key_rule, wrong_key}
+use Rattle.audit_owners.specs.Keyed.{IsKeyed, catalogue, keeps_key_rule, key_kinds, wrong_key}
 use Rattle.audit_owners.specs.Places.{first_failing, places}
 use Rattle.audit_owners.specs.Texts.{first_repeated, is_repeated, repeated_among, text_at}
 use Rattle.audit_owners.specs.declared.key_rules.KeyRule.{KeyRule}
@@ -20,7 +19,7 @@ use Rattle.audit_owners.specs.declared.key_rules.KeyRule.TheVariants as which
 use Rattle.audit_owners.specs.declared.texts.EntryText.{EntryText}
 use Rattle.audit_owners.specs.declared.texts.EntryText.TheVariants as texts
 use Rattle.sdr_model.specs.Valid.{AreDistinct}
-use Rattle.audit_owners.specs.View.{View, is_kind, view_in, word_of}
+use Rattle.audit_owners.specs.View.{View, is_one_of, view_in, word_of}
 
 -- two texts that differ differ the other way round too
 apart : (a b : List ℕ) → pointwise nat_eq a b ≡ false → pointwise nat_eq b a ≡ false
@@ -98,15 +97,20 @@ module _ (heap : View) (text : EntryText) where
   pub from_distinct : (addrs : List ℕ) → AreDistinct (map (text_at heap text) addrs) → first_repeated heap text addrs ≡ None
   from_distinct addrs distinct = none_repeated [] addrs (new_none addrs) distinct
 
--- where no block is, each rule is kept
-pub unused : (bytes : List ℕ) (words : ℕ) (rule : KeyRule) (addr : ℕ) → block_in bytes addr ≡ None → keeps_key_rule (view_in bytes) words rule addr ≡ true
-unused bytes words which.Length addr none =
-    ap (λ (b : Option Block). not (is_kind kinds.List b) || word_of b 1 == length (members (view_in bytes) words (owners.List addr))) none
-unused bytes words which.Entries addr none =
+-- a block of no kind of which a rule speaks keeps it
+pub others_keep : (bytes : List ℕ) (words : ℕ) (rule : KeyRule) (addr : ℕ) → is_one_of (key_kinds rule) (block_in bytes addr) ≡ false →
+    keeps_key_rule (view_in bytes) words rule addr ≡ true
+others_keep bytes words which.Length addr off =
+    ap (λ (t : Bool). not t || word_of (block_in bytes addr) 1 == length (members (view_in bytes) words (owners.List addr))) (or_parts _ _ off).0
+others_keep bytes words which.Entries addr off =
     let heap = view_in bytes in
-    ap (λ (b : Option Block).
-    not (is_kind kinds.Hash b)
-    || (list_all (keeps_bucket heap words addr) (buckets heap addr) && word_of (block_in bytes addr) 2 == entry_count heap words addr)) none
+    ap (λ (t : Bool).
+    not t || (list_all (keeps_bucket heap words addr) (buckets heap addr) && word_of (block_in bytes addr) 2 == entry_count heap words addr))
+    (or_parts _ _ off).0
+
+-- where no block is, each rule is kept
+unused : (bytes : List ℕ) (words : ℕ) (rule : KeyRule) (addr : ℕ) → block_in bytes addr ≡ None → keeps_key_rule (view_in bytes) words rule addr ≡ true
+unused bytes words rule addr none = others_keep bytes words rule addr (ap (is_one_of (key_kinds rule)) none ∙ one_of-none (key_kinds rule))
 
 -- where nothing is found wrong, all is right
 pub keyed : (bytes : List ℕ) (words : ℕ) → length bytes ≤ 8 * words → wrong_key (view_in bytes) words ≡ None → IsKeyed (view_in bytes) words

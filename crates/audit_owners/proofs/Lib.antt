@@ -12,6 +12,7 @@ pub mod LayoutLemmas
 pub mod LinkingLemmas
 pub mod MarksLemmas
 pub mod OneLemmas
+pub mod OneOfLemmas
 pub mod OwnersLemmas
 pub mod ReadingLemmas
 pub mod RegionLemmas

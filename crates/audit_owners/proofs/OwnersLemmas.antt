@@ -1,18 +1,20 @@
 -- The chains of owners one after another.
-use Rattle.std.proofs.Common.{◌≡◌, ◌≤◌, ◌<◌, ◌+◌, ◌-◌, ◌*◌, ℕ, zero, suc, Bool, List, [], ◌∷◌, ◌++◌, take, drop, append-nil, length, get_or, arith, ap, ◌∙◌, refl, sym, subst}
-use Rattle.std.specs.Prelude.{map, Option, None}
+use Rattle.std.proofs.Common.{◌≡◌, ◌≤◌, ◌<◌, ◌+◌, ◌-◌, ◌*◌, ℕ, zero, suc, Bool, true, false, List, [], ◌∷◌, ◌++◌, take, drop, append-nil, length, get_or, arith, ap, ◌∙◌, refl, sym, subst}
+use Rattle.std.specs.Prelude.{map, Option, None, Some}
 use Rattle.std.specs.Option.{option_map_or}
 use Rattle.std.specs.List.{flat_map, range_with_len}
 use Rattle.std.proofs.lemmas.List.{append_assoc, flat_map_more, map-id, take-append-drop, take_more}
 use Rattle.std.proofs.lemmas.List.FromFn.{map-range_with_len_more, take-map-range_with_len}
 use Rattle.sdr_base.specs.Blocks.{Block, kind_length}
 use Rattle.sdr_base.specs.KeptHeap.{block_in}
+use Rattle.sdr_base.specs.Kinds.{kind_number}
 use Rattle.sdr_base.specs.declared.kind.Kind.{Kind}
+use Rattle.sdr_base.specs.declared.kind.Kind.TheVariants as kinds
 use Rattle.audit_owners.proofs.ScanLemmas.{passed_over}
 use Rattle.audit_owners.specs.Chains.{IsWrongChain}
-use Rattle.audit_owners.specs.Owners.{owned_at, owned_by, owners_of, root_owners}
-use Rattle.audit_owners.specs.Scan.{HasNoBlocks}
-use Rattle.audit_owners.specs.View.{View, view_in}
+use Rattle.audit_owners.specs.Owners.{owned_at, owned_by, owners_of, owning_kinds, root_owners}
+use Rattle.audit_owners.specs.Scan.{HasNoneOf, HaveNoneOf}
+use Rattle.audit_owners.specs.View.{View, have_number, is_one_of, view_in}
 use Rattle.audit_owners.specs.Walking.{HasWalked}
 use Rattle.audit_owners.specs.declared.owner.Owner.{Owner}
 
@@ -75,19 +77,29 @@ owners_more heap n =
     flat_map_more (λ (word : ℕ). owned_at heap (8 * word)) root_owners (range_with_len 0 n) n
     ∙ ap (λ (l : List ℕ). root_owners ++ flat_map (λ (word : ℕ). owned_at heap (8 * word)) l) (sym (range_more n))
 
--- and behind words without blocks are no more
-owners_over : (bytes : List ℕ) (from to : ℕ) → from ≤ to → HasNoBlocks bytes from to → owners_of (view_in bytes) from ≡ owners_of (view_in bytes) to
+-- a block of a kind that owns no chains has none
+unowned : (addr : ℕ) (b : Option Block) → is_one_of owning_kinds b ≡ false →
+    option_map_or (λ (told : Kind × ℕ). owned_by addr told.0 told.1) (kind_length b) [] ≡ []
+unowned addr None off = refl
+unowned addr (Some block) off = by_kind block.kind off
+  where
+    by_kind : (kind : Kind) → have_number owning_kinds (kind_number kind) ≡ false → owned_by addr kind (length block.bytes) ≡ []
+    by_kind kinds.List owns = let d : true ≡ false = owns in cc
+    by_kind kinds.Hash owns = let d : true ≡ false = owns in cc
+    by_kind kinds.Object owns = let d : true ≡ false = owns in cc
+    by_kind kind owns = refl
+
+-- and behind words without blocks that own chains are no more
+owners_over : (bytes : List ℕ) (from to : ℕ) → from ≤ to → HaveNoneOf owning_kinds bytes from to →
+    owners_of (view_in bytes) from ≡ owners_of (view_in bytes) to
 owners_over bytes from to onward none =
     let heap = view_in bytes in
-    passed_over bytes (λ n. owners_of heap from ≡ owners_of heap n) from to (λ n here before.
-    before ∙ sym (append-nil (owners_of heap n)) ∙ ap (λ (l : List Owner). owners_of heap n ++ l) (sym (unowned (8 * n) here)) ∙ owners_more heap n)
+    passed_over (HasNoneOf owning_kinds bytes) (λ n. owners_of heap from ≡ owners_of heap n) from to (λ n here before.
+    before ∙ sym (append-nil (owners_of heap n)) ∙ ap (λ (l : List Owner). owners_of heap n ++ l) (sym (unowned (8 * n) (block_in bytes (8 * n)) here)) ∙ owners_more heap n)
     onward none refl
-  where
-    unowned : (addr : ℕ) → block_in bytes addr ≡ None → owned_at (view_in bytes) addr ≡ []
-    unowned addr = ap (λ (b : Option Block). option_map_or (λ (told : Kind × ℕ). owned_by addr told.0 told.1) (kind_length b) [])
 
 -- so the same blocks are marked there
-pub walked_over : (bytes : List ℕ) (marks : List Bool) (from to : ℕ) → from ≤ to → HasNoBlocks bytes from to →
+pub walked_over : (bytes : List ℕ) (marks : List Bool) (from to : ℕ) → from ≤ to → HaveNoneOf owning_kinds bytes from to →
     HasWalked (view_in bytes) (owners_of (view_in bytes) from) marks → HasWalked (view_in bytes) (owners_of (view_in bytes) to) marks
 walked_over bytes marks from to onward none =
     subst (λ (l : List Owner). HasWalked (view_in bytes) l marks) (owners_over bytes from to onward none)

@@ -11,8 +11,10 @@ use Rattle.std.proofs.lemmas.List.Sums.{sum_by-append}
 use Rattle.audit_owners.specs.Places.{first_failing, places}
 use Rattle.audit_owners.proofs.RegionLemmas.{none_between, none_past}
 use Rattle.audit_owners.proofs.ScanLemmas.{passed_over}
-use Rattle.audit_owners.specs.Scan.{HasNoBlocks}
+use Rattle.audit_owners.specs.Scan.{HasNoneOf, HaveNoneOf}
+use Rattle.audit_owners.specs.View.{is_one_of}
 use Rattle.sdr_base.specs.KeptHeap.{block_in}
+use Rattle.sdr_base.specs.declared.kind.Kind.{Kind}
 
 -- one more place
 pub places_more : (number : ℕ) → places (number + 1) ≡ places number ++ (8 * number ∷ [])
@@ -43,19 +45,22 @@ found_first test number words less before wrong =
     (ap (find p) (places_more number) ∙ find-append p (places number) (8 * number ∷ []) ∙ ap (λ o. option_or o (find p (8 * number ∷ []))) before
     ∙ ap (λ (t : Bool). cond (not t) (Some (8 * number)) None) wrong)
 
--- where no block is, a test that passes there finds nothing
-pub found_over : (bytes : List ℕ) (test : ℕ → Bool) (from to : ℕ) → ((addr : ℕ) → block_in bytes addr ≡ None → test addr ≡ true) → from ≤ to →
-    HasNoBlocks bytes from to → first_failing test from ≡ None → first_failing test to ≡ None
-found_over bytes test from to unused onward =
-    passed_over bytes (λ n. first_failing test n ≡ None) from to (λ n none before. found_more test n before (unused (8 * n) none)) onward
+-- where no block of some kinds is, a test that passes there finds nothing
+pub found_over : (kinds : List Kind) (bytes : List ℕ) (test : ℕ → Bool) (from to : ℕ) →
+    ((addr : ℕ) → is_one_of kinds (block_in bytes addr) ≡ false → test addr ≡ true) → from ≤ to → HaveNoneOf kinds bytes from to →
+    first_failing test from ≡ None → first_failing test to ≡ None
+found_over kinds bytes test from to others onward =
+    passed_over (HasNoneOf kinds bytes) (λ n. first_failing test n ≡ None) from to (λ n none before. found_more test n before (others (8 * n) none))
+    onward
 
 -- and a number that is 0 there adds nothing
-pub sum_over : (bytes : List ℕ) (f : ℕ → ℕ) (from to : ℕ) → ((addr : ℕ) → block_in bytes addr ≡ None → f addr ≡ 0) → from ≤ to →
-    HasNoBlocks bytes from to → sum_by f (places to) ≡ sum_by f (places from)
-sum_over bytes f from to unused onward none =
-    passed_over bytes (λ n. sum_by f (places n) ≡ sum_by f (places from)) from to (λ n here before.
+pub sum_over : (kinds : List Kind) (bytes : List ℕ) (f : ℕ → ℕ) (from to : ℕ) →
+    ((addr : ℕ) → is_one_of kinds (block_in bytes addr) ≡ false → f addr ≡ 0) → from ≤ to → HaveNoneOf kinds bytes from to →
+    sum_by f (places to) ≡ sum_by f (places from)
+sum_over kinds bytes f from to others onward none =
+    passed_over (HasNoneOf kinds bytes) (λ n. sum_by f (places n) ≡ sum_by f (places from)) from to (λ n here before.
     let more = sum_by-map-range_with_len_more f (λ word. 8 * word) 0 n n (omega arith) in
-    let nothing = unused (8 * n) here in
+    let nothing = others (8 * n) here in
     omega (arith, more, nothing, before)) onward none refl
 
 -- where the first of two places is none, both are

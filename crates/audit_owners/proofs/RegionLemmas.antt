@@ -65,7 +65,7 @@ led_two true t addr place is = inl (some_of is)
 led_two false true addr place is = inr (some_of is)
 led_two false false addr place is = let d : None ≡ Some place = is in cc
 
-led_where : (x : List ℕ) (addr place : ℕ) → leader_place x addr ≡ Some place → (addr - 8 ≡ place) ⊎ (addr - 16 ≡ place)
+pub led_where : (x : List ℕ) (addr place : ℕ) → leader_place x addr ≡ Some place → (addr - 8 ≡ place) ⊎ (addr - 16 ≡ place)
 led_where x addr place is = elim (cases_Bool (may_begin x addr)) [
   | inl may ↦
       led_two (nat_lt (addr - 8) (number_at 16 x)) (nat_le (number_at 24 x) (addr - 16)) addr place

@@ -8,7 +8,7 @@ use Rattle.sdr_base.specs.Blocks.{Block, kind_length}
 use Rattle.sdr_base.specs.KeptHeap.{block_in}
 use Rattle.sdr_base.specs.Stored.{start_bit}
 use Rattle.audit_owners.proofs.RegionLemmas.{found_unset, no_kind}
-use Rattle.audit_owners.specs.Scan.{HasNoBlock, HasNoBlocks, HasNoStart}
+use Rattle.audit_owners.specs.Scan.{HasNoBlock, HasNoStart}
 
 -- where the byte of a start bit is 0, the bit is clear
 pub none_in_byte : (bytes : List ℕ) (word other : ℕ) → get_or bytes (1024 + word / 8) 0 ≡ 0 → other / 8 ≡ word / 8 → (start_bit other bytes == 1) ≡ false
@@ -23,7 +23,7 @@ some_kind None = refl
 some_kind (Some block) = refl
 
 -- behind a word no block in use has its address before that behind the next start bit
-none_behind : (bytes : List ℕ) (word start other : ℕ) → HasNoStart bytes (word - 1) start → word < other → other ≤ start → HasNoBlock bytes other
+pub none_behind : (bytes : List ℕ) (word start other : ℕ) → HasNoStart bytes (word - 1) start → word < other → other ≤ start → HasNoBlock bytes other
 none_behind bytes word start other clear behind before =
     let number : 8 * other / 8 ≡ other = omega arith in
     let near = clear (other - 1) (omega (arith, behind)) (omega (arith, behind, before)) in
@@ -34,23 +34,21 @@ none_behind bytes word start other clear behind before =
     at : (n m : ℕ) → n ≡ m → (start_bit n bytes == 1) ≡ false → (start_bit m bytes == 1) ≡ false
     at n m same = subst (λ (k : ℕ). (start_bit k bytes == 1) ≡ false) same
 
--- so none has before the word to look at next
-pub none_up_to : (bytes : List ℕ) (from word start : ℕ) → HasNoBlocks bytes from word → HasNoBlock bytes word → HasNoStart bytes (word - 1) start →
-    HasNoBlocks bytes from (max start word + 1)
-none_up_to bytes from word start before here clear other onward less = elim (cases_lt other word) [
+-- what holds of the words from one up to another, of that one, and behind it up to a third, holds before the word to look at next
+pub holds_up_to : (P : ℕ → Type 0) (from word start : ℕ) → ((other : ℕ) → from ≤ other → other < word → P other) → P word →
+    ((other : ℕ) → word < other → other ≤ start → P other) → (other : ℕ) → from ≤ other → other < max start word + 1 → P other
+holds_up_to P from word start before here behind other onward less = elim (cases_lt other word) [
   | inl below ↦ before other onward below
   | inr above ↦ elim (cases_eq word other) [
-    | inl same ↦ subst (HasNoBlock bytes) same here
-    | inr off ↦
-        let behind : word < other = omega (arith, above, off) in
-        none_behind bytes word start other clear behind (omega (arith, behind, less))
+    | inl same ↦ subst P same here
+    | inr off ↦ let past : word < other = omega (arith, above, off) in behind other past (omega (arith, past, less))
   ]
 ]
 
--- what holds at a word, and of each word behind one without a block too, holds behind words without blocks
-pub passed_over : (bytes : List ℕ) (P : ℕ → Type 0) (from to : ℕ) → ((word : ℕ) → HasNoBlock bytes word → P word → P (word + 1)) →
-    from ≤ to → HasNoBlocks bytes from to → P from → P to
-passed_over bytes P from to step onward none here = subst P (omega (arith, onward)) (by_count (to - from) (omega (arith, onward)))
+-- what holds at a word, and of each word behind a word without blocks too, holds behind such words
+pub passed_over : (Passes P : ℕ → Type 0) (from to : ℕ) → ((word : ℕ) → Passes word → P word → P (word + 1)) →
+    from ≤ to → ((word : ℕ) → from ≤ word → word < to → Passes word) → P from → P to
+passed_over Passes P from to step onward none here = subst P (omega (arith, onward)) (by_count (to - from) (omega (arith, onward)))
   where
     by_count : (n : ℕ) → from + n ≤ to → P (from + n)
     by_count zero few = subst P (omega arith) here

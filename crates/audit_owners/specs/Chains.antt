@@ -1,5 +1,5 @@
 -- When the chains of owners are right, and where they are wrong first.
-use Rattle.std.specs.Prelude.{◌≡◌, ◌≢◌, ◌≤◌, ◌==◌, ◌&&◌, ◌⊎◌, ℕ, Bool, true, false, not, cond, List, [], ◌∷◌, ◌++◌, map, count_by, Some}
+use Rattle.std.specs.Prelude.{◌≡◌, ◌≢◌, ◌==◌, ◌&&◌, ◌⊎◌, ℕ, Bool, true, false, not, cond, List, [], ◌∷◌, ◌++◌, map, Some}
 use Rattle.std.specs.List.{All, flat_map, list_any}
 use Rattle.std.specs.Option.{option_map_or}
 use Rattle.audit_owners.specs.Owners.{first_site, kind_in, last_site, names_owner, next_field, site_place, told_at}

@@ -1,5 +1,7 @@
 -- When lists, hashes and names in a heap are right, and where they are wrong first.
 use Rattle.std.specs.Prelude.{◌≡◌, ℕ, Bool, true, List, [], ◌∷◌, map, Option}
+use Rattle.sdr_base.specs.declared.kind.Kind.{Kind}
+use Rattle.sdr_base.specs.declared.kind.Kind.TheVariants as kinds
 use Rattle.audit_owners.specs.Entries.{keeps_entries, keeps_length}
 use Rattle.audit_owners.specs.Members.{members}
 use Rattle.audit_owners.specs.Places.{first_failing, first_some}
@@ -10,6 +12,11 @@ use Rattle.audit_owners.specs.declared.texts.EntryText.TheVariants as texts
 use Rattle.sdr_model.specs.Valid.{AreDistinct}
 use Rattle.audit_owners.specs.View.{View}
 use Rattle.audit_owners.specs.declared.owner.Owner.TheVariants as owners
+
+-- the kinds of blocks that a rule speaks of
+abbrev pub key_kinds : KeyRule → List Kind
+key_kinds which.Length = kinds.List ∷ []
+key_kinds which.Entries = kinds.Hash ∷ []
 
 -- whether the block at an address keeps a rule
 abbrev pub keeps_key_rule : View → ℕ → KeyRule → ℕ → Bool

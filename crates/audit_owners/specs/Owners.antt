@@ -101,6 +101,10 @@ owned_by addr kinds.Hash bytes =
 owned_by addr kinds.Object bytes = owners.Headers addr ∷ owners.Extents addr ∷ owners.Trailers addr ∷ []
 owned_by addr kind bytes = []
 
+-- the kinds of blocks that own chains
+abbrev pub owning_kinds : List Kind
+owning_kinds = kinds.List ∷ kinds.Hash ∷ kinds.Object ∷ []
+
 -- the chains of the block at an address, if there is one
 abbrev pub owned_at : View → ℕ → List Owner
 owned_at heap addr = option_map_or (λ (told : Kind × ℕ). owned_by addr told.0 told.1) (kind_length (heap.blocks addr)) []

@@ -2,6 +2,7 @@
 use Rattle.std.specs.Prelude.{◌≡◌, ◌<◌, ◌==◌, ◌&&◌, ◌||◌, ◌⊎◌, ℕ, Bool, true, false, not, List, [], ◌∷◌, Option, ⊤}
 use Rattle.sdr_base.specs.Blocks.{Block}
 use Rattle.sdr_base.specs.Sources.{medium_number}
+use Rattle.sdr_base.specs.declared.kind.Kind.{Kind}
 use Rattle.sdr_base.specs.declared.kind.Kind.TheVariants as kinds
 use Rattle.sdr_base.specs.declared.layout.extent.TheConstants as extent
 use Rattle.sdr_base.specs.declared.layout.raw.TheConstants as raw
@@ -32,6 +33,15 @@ is_chained block =
 abbrev pub is_source_of : View → ℕ → ℕ → Bool
 is_source_of heap raw_addr addr =
     is_source_of_raw (heap.blocks addr) && word_of (heap.blocks addr) source.SUBJECT == raw_addr
+
+-- the kinds of blocks that a rule speaks of
+abbrev pub owner_kinds : OwnerRule → List Kind
+owner_kinds which.SourceIsThere = kinds.Extent ∷ []
+owner_kinds which.RawIsThere = kinds.Source ∷ []
+owner_kinds which.SourceNamesRaw = kinds.Raw ∷ []
+owner_kinds which.RawNamesSource = kinds.Source ∷ []
+owner_kinds which.IsReached =
+    kinds.Element ∷ kinds.HashEntry ∷ kinds.Name ∷ kinds.Extent ∷ kinds.Capsule ∷ kinds.Ticket ∷ []
 
 -- whether the block at an address keeps a rule, where chains reach these blocks: one that the rule doesn't speak of does
 abbrev pub keeps_owner_rule : View → List ℕ → OwnerRule → ℕ → Bool

@@ -2,7 +2,6 @@
 use Rattle.std.specs.Prelude.{◌+◌, ◌*◌, ℕ, Bool, cond, nat_eq, List, [], ◌∷◌, ◌++◌, drop, get_or, take, Option, None, Some}
 use Rattle.std.specs.Cmp.Lexicographic.{pointwise}
 use Rattle.std.specs.List.{list_any}
-use Rattle.sdr_base.specs.Blocks.{Block}
 use Rattle.sdr_base.specs.declared.layout.hash_entry.TheConstants as hash_entry
 use Rattle.sdr_base.specs.declared.layout.name.TheConstants as name
 use Rattle.sdr_base.specs.declared.line.TheConstants.{WORD}

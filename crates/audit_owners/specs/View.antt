@@ -1,5 +1,6 @@
 -- What an audit of owners sees of a heap.
 use Rattle.std.specs.Prelude.{◌==◌, ◌*◌, ◌/◌, ℕ, Bool, false, cond, nat_lt, List, length, Option, None, Some}
+use Rattle.std.specs.List.{list_any}
 use Rattle.std.specs.Option.{option_map_or}
 use Rattle.sdr_base.specs.Blocks.{Block, Blocks, kind_length}
 use Rattle.sdr_base.specs.KeptHeap.{block_in, root_in}
@@ -21,6 +22,14 @@ view_in bytes = record { blocks = block_in bytes; roots = root_in bytes }
 abbrev pub is_kind : Kind → Option Block → Bool
 is_kind kind block =
     option_map_or (λ (told : Kind × ℕ). kind_number told.0 == kind_number kind) (kind_length block) false
+
+-- whether there is a block, of one of these kinds
+abbrev pub is_one_of : List Kind → Option Block → Bool
+is_one_of kinds block = list_any (λ kind. is_kind kind block) kinds
+
+-- whether one of these kinds has this number
+abbrev pub have_number : List Kind → ℕ → Bool
+have_number kinds number = list_any (λ kind. number == kind_number kind) kinds
 
 -- how many bytes a block has, none where there is no block
 abbrev pub length_of : Option Block → ℕ

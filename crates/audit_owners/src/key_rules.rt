@@ -2,13 +2,13 @@
 ghost use Rattle.std.specs.Prelude.{◌≡◌, ◌/◌, length, IfOk};
 ghost use Rattle.sdr_base.specs.Cells.{IsRegionSize};
 ghost use Rattle.sdr_base.specs.declared.line.TheConstants.{WORD};
-ghost use Rattle.audit_owners.specs.Keyed.{keeps_key_rule};
+ghost use Rattle.audit_owners.specs.Keyed.{keeps_key_rule, key_kinds};
 ghost use Rattle.audit_owners.specs.Places.{first_failing};
 ghost use Rattle.audit_owners.specs.View.{view_in};
 
 use crate::entries::{keeps_entries, keeps_length};
-use crate::scan::next_block;
-use sdr_base::{Addr, NoMemory, WORD};
+use crate::scan::next_of;
+use sdr_base::{Addr, Kind, NoMemory, WORD};
 use std::alloc::Global;
 
 /// What each block has to keep, if the rule speaks of its kind.
@@ -18,6 +18,18 @@ pub enum KeyRule {
     Length,
     /// A hash tells how many entries it has, each has a key of its length, in its bucket, and no two have the same.
     Entries,
+}
+
+impl KeyRule {
+    // The kinds of blocks that the rule speaks of.
+    fn kinds(self) -> &'static [Kind]
+        ensures { result.now ≡ key_kinds self }
+    {
+        match self {
+            KeyRule::Length => &[Kind::List],
+            KeyRule::Entries => &[Kind::Hash],
+        }
+    }
 }
 
 // Whether the block at an address keeps a rule.
@@ -39,7 +51,7 @@ pub fn first_broken(alloc: Global, heap: &[u8], rule: KeyRule) -> Result<Option<
         (keeps_key_rule (view_in heap.now) (length heap.now / WORD) rule) (length heap.now / WORD)) }
 {
     let mut from = 0;
-    while let Some(number) = next_block(heap, from) {
+    while let Some(number) = next_of(heap, from, rule.kinds()) {
         let addr = WORD * number;
         if !keeps(alloc, heap, rule, addr)? {
             return Ok(Some(addr));

@@ -60,5 +60,5 @@ pub use linking::{chained_blocks_read_back, chains_are_linked_rows, linked_rows_
 pub use owner::{Owner, Site};
 pub use region::{is_kind, length_of, root, word};
 pub use rules::{OwnerRule, names_raw};
-pub use scan::next_block;
+pub use scan::{next_block, next_of};
 pub use texts::EntryText;

@@ -13,7 +13,7 @@ use crate::chain::check_chain;
 use crate::error::Wrong;
 use crate::owner::Owner;
 use crate::region::find;
-use crate::scan::next_block;
+use crate::scan::next_of;
 use sdr_base::layout::hash;
 use sdr_base::{Acct, Addr, Kind, WORD};
 
@@ -121,7 +121,7 @@ pub fn check_chains(heap: &[u8], marks: &mut [bool]) -> Result<(), Wrong>
     ];
     check_each(heap, marks, &roots)?;
     let mut from = 0;
-    while let Some(number) = next_block(heap, from) {
+    while let Some(number) = next_of(heap, from, &[Kind::List, Kind::Hash, Kind::Object]) {
         check_block(heap, marks, WORD * number)?;
         from = number + 1;
     }

@@ -5,7 +5,7 @@ ghost use Rattle.sdr_base.specs.Cells.{IsRegionSize};
 ghost use Rattle.sdr_base.specs.KeptHeap.{block_in, leader_place, root_in};
 ghost use Rattle.sdr_base.specs.Stored.{start_bit};
 ghost use Rattle.sdr_base.specs.declared.line.TheConstants.{START_BITS, WORD};
-ghost use Rattle.audit_owners.specs.View.{is_kind, length_of, word_of};
+ghost use Rattle.audit_owners.specs.View.{have_number, is_kind, is_one_of, length_of, word_of};
 
 use audit_blocks::{number_at, read_label};
 use sdr_base::control::{CONTROL_WORDS, FIRST_NAME, HIGH, LOW, START};
@@ -94,6 +94,24 @@ pub fn is_kind(heap: &[u8], addr: Addr, kind: Kind) -> bool
     match find(heap, addr) {
         None => false,
         Some((found, _)) => found.number() == kind.number(),
+    }
+}
+
+/// Whether one of these kinds has this number.
+pub fn have_number(kinds: &[Kind], number: u8) -> bool
+    ensures { result ≡ have_number kinds.now number }
+{
+    kinds.iter().any(|kind| number == kind.number())
+}
+
+/// Whether a block of one of these kinds is in use at an address.
+pub fn is_one_of(heap: &[u8], addr: Addr, kinds: &[Kind]) -> bool
+    requires region { IsRegionSize (length heap.now) }
+    ensures { result ≡ is_one_of kinds.now (block_in heap.now addr) }
+{
+    match find(heap, addr) {
+        None => false,
+        Some((found, _)) => have_number(kinds, found.number()),
     }
 }
 

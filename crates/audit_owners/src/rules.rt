@@ -5,12 +5,12 @@ ghost use Rattle.sdr_base.specs.KeptHeap.{block_in};
 ghost use Rattle.sdr_base.specs.Sources.{medium_number};
 ghost use Rattle.sdr_base.specs.declared.line.TheConstants.{WORD};
 ghost use Rattle.audit_owners.specs.Marks.{AreMarked};
-ghost use Rattle.audit_owners.specs.Rules.{AreKept, BreaksFirst, IsBroken, IsKept, owner_rules, is_chained, is_source_of, keeps_owner_rule, is_source_of_raw, is_raw_of_source};
+ghost use Rattle.audit_owners.specs.Rules.{AreKept, BreaksFirst, IsBroken, IsKept, owner_kinds, owner_rules, is_chained, is_source_of, keeps_owner_rule, is_source_of_raw, is_raw_of_source};
 ghost use Rattle.audit_owners.specs.View.{view_in};
 
 use crate::error::Wrong;
-use crate::region::{find, is_kind, word};
-use crate::scan::next_block;
+use crate::region::{is_kind, is_one_of, word};
+use crate::scan::next_of;
 use sdr_base::layout::{extent, raw, source};
 use sdr_base::{Addr, Kind, Medium, WORD};
 
@@ -27,6 +27,31 @@ pub enum OwnerRule {
     RawNamesSource,
     /// A block of a kind that only stands in chains was reached.
     IsReached,
+}
+
+// The kinds of blocks that only stand in chains.
+const CHAINED: &[Kind] = &[
+    Kind::Element,
+    Kind::HashEntry,
+    Kind::Name,
+    Kind::Extent,
+    Kind::Capsule,
+    Kind::Ticket,
+];
+
+impl OwnerRule {
+    // The kinds of blocks that the rule speaks of.
+    fn kinds(self) -> &'static [Kind]
+        ensures { result.now ≡ owner_kinds self }
+    {
+        match self {
+            OwnerRule::SourceIsThere => &[Kind::Extent],
+            OwnerRule::RawIsThere => &[Kind::Source],
+            OwnerRule::SourceNamesRaw => &[Kind::Raw],
+            OwnerRule::RawNamesSource => &[Kind::Source],
+            OwnerRule::IsReached => CHAINED,
+        }
+    }
 }
 
 // The number of a medium, which stands in a source's block.
@@ -66,12 +91,7 @@ fn is_chained(heap: &[u8], addr: Addr) -> bool
     requires region { IsRegionSize (length heap.now) }
     ensures { result ≡ is_chained (block_in heap.now addr) }
 {
-    is_kind(heap, addr, Kind::Element)
-        || is_kind(heap, addr, Kind::HashEntry)
-        || is_kind(heap, addr, Kind::Name)
-        || is_kind(heap, addr, Kind::Extent)
-        || is_kind(heap, addr, Kind::Capsule)
-        || is_kind(heap, addr, Kind::Ticket)
+    is_one_of(heap, addr, CHAINED)
 }
 
 // Whether a source of the raw object at an address stands at another.
@@ -95,9 +115,6 @@ fn keeps(heap: &[u8], marks: &[bool], rule: OwnerRule, addr: Addr) -> bool
     ensures { (reached : List ℕ) → AreMarked reached marks.now →
         result ≡ keeps_owner_rule (view_in heap.now) reached rule addr }
 {
-    if find(heap, addr).is_none() {
-        return true;
-    }
     match rule {
         OwnerRule::SourceIsThere => {
             !is_kind(heap, addr, Kind::Extent)
@@ -127,7 +144,7 @@ fn check_rule(heap: &[u8], marks: &[bool], rule: OwnerRule) -> Result<(), Wrong>
         IfErr result (λ wrong. BreaksFirst (view_in heap.now) reached rule wrong.place) }
 {
     let mut from = 0;
-    while let Some(number) = next_block(heap, from) {
+    while let Some(number) = next_of(heap, from, rule.kinds()) {
         let place = WORD * number;
         if !keeps(heap, marks, rule, place) {
             return Err(Wrong { place });

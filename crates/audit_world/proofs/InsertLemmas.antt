@@ -11,7 +11,7 @@ use Rattle.std.proofs.lemmas.List.Elements.{filter_map-append}
 use Rattle.sdr_base.specs.KeptHeap.{block_in}
 use Rattle.audit_owners.proofs.PlacesLemmas.{range_more}
 use Rattle.audit_owners.proofs.ScanLemmas.{passed_over}
-use Rattle.audit_owners.specs.Scan.{HasNoBlocks}
+use Rattle.audit_owners.specs.Scan.{HasNoBlock, HasNoBlocks}
 use Rattle.sdr_model.specs.declared.things.Thing.{Thing}
 use Rattle.audit_world.proofs.RowLemmas.{listed, not_tied, row, row_sorted}
 use Rattle.audit_world.specs.Made.{with_told}
@@ -51,7 +51,7 @@ module _ (f : ℕ → Option Thing) where
   pub told_over : (bytes : List ℕ) (from to : ℕ) → ((addr : ℕ) → block_in bytes addr ≡ None → f addr ≡ None) → from ≤ to → HasNoBlocks bytes from to →
       finite.from_entries {R = nat_cmp} (row f 0 from) ≡ finite.from_entries {R = nat_cmp} (row f 0 to)
   told_over bytes from to unused onward none =
-      passed_over bytes (λ n. finite.from_entries {R = nat_cmp} (row f 0 from) ≡ finite.from_entries {R = nat_cmp} (row f 0 n)) from to (λ n here before.
+      passed_over (HasNoBlock bytes) (λ n. finite.from_entries {R = nat_cmp} (row f 0 from) ≡ finite.from_entries {R = nat_cmp} (row f 0 n)) from to (λ n here before.
       before ∙ ap (λ (o : Option Thing). with_told o (8 * n) (finite.from_entries (row f 0 n))) (sym (unused (8 * n) here)) ∙ told_more n) onward none refl
 
   -- all together

@@ -13,11 +13,12 @@ use Rattle.zco_pieces.specs.Places.{Rebuilt, missing_of}
 use Rattle.zco_pieces.specs.Runs.{Added, Rebuilds}
 use Rattle.zco_pieces.proofs.BytesLemmas.{pieces_placed}
 use Rattle.zco_pieces.proofs.RunLemmas.{run_text}
+use Rattle.zco_pieces.proofs.CutLawLemmas.{named_length}
 use Rattle.law_pieces.specs.Rebuilding.{AreAt, HoldsRebuilt, PieceRow, by_held}
 use Rattle.law_pieces.specs.Texts.{Beside, SomeText, other, room_to_join}
 use Rattle.law_pieces.proofs.AddedLemmas.{joined, joined_holds, joined_row}
 use Rattle.law_pieces.proofs.TextLemmas.{told_both}
-use Rattle.law_pieces.proofs.RowLemmas.{clones_named, named_length, row_at, rows_there, whole_bytes}
+use Rattle.law_pieces.proofs.RowLemmas.{clones_named, row_at, rows_there, whole_bytes}
 
 -- A text became one object.
 module _ {old new : Heap} {total : ℕ} {added : List PieceRow} {r : Rebuilt} {others : List Standing} {most number object : ℕ} (room n : ℕ) (acct : Acct)

@@ -20,7 +20,7 @@ use Rattle.zco_pieces.specs.Cutting.{CutsPiece, HasLength, HasPiece}
 use Rattle.zco_pieces.specs.Places.{Rebuilt, cut_length, opened, Range, missing_of, uncovered}
 use Rattle.zco_pieces.specs.Runs.{AddStep, Added, GapFilled, GapsFilled, IsCloneOf, Rebuilds, range_of}
 use Rattle.zco_pieces.specs.declared.piece.Piece.{Piece}
-use Rattle.zco_pieces.proofs.CutLawLemmas.{cut_fits, piece_begins}
+use Rattle.zco_pieces.proofs.CutLawLemmas.{clone_length, cut_fits, piece_begins}
 use Rattle.zco_pieces.proofs.FillLemmas.{is_cloned, tickets_then}
 use Rattle.zco_pieces.proofs.RunLemmas.{run_missing}
 use Rattle.law_pieces.specs.Rebuilding.{AreAt, HoldsRebuilt, PieceRow, by_held, covers}
@@ -30,7 +30,7 @@ use Rattle.law_pieces.proofs.CloneLemmas.{holds_clone, to_clone}
 use Rattle.law_pieces.proofs.GapLemmas.{GapClone, GapClones}
 use Rattle.law_pieces.proofs.HoldLemmas.{before_other, holds_moved}
 use Rattle.law_pieces.proofs.TextLemmas.{focus_holds, told_both}
-use Rattle.law_pieces.proofs.RowLemmas.{clone_long, row_at, rows_there}
+use Rattle.law_pieces.proofs.RowLemmas.{row_at, rows_there}
 
 -- beside a text of which no byte is filled stand some objects
 pub none_rebuilt : {heap : Heap} {loose : List ℕ} {most room : ℕ} (total : ℕ) → SomeText heap [] loose most room →
@@ -171,7 +171,7 @@ module _ {old new : Heap} {total : ℕ} {added : List PieceRow} {r : Rebuilt} (b
   pub cut_long : cut_row.part_length ≡ cut_length z.row.part_length n k
   cut_long =
       let b = piece_begins z.row.part_length n k cut_has in
-      clone_long z.row cut_row (k * n) (cut_length z.row.part_length n k) cut_kept (omega (arith, b)) cut_clone
+      clone_length (λ source place. 0) z.row cut_row (k * n) (cut_length z.row.part_length n k) cut_kept (omega (arith, b)) cut_clone
 
   pub cut_text : (held : ℕ → ℕ → ℕ) → FitsText held (part_bytes held z.row) piece cut_row
   cut_text held = cut_fits held z.row cut_row n k piece cut_kept cut_has cut_clone cuts.offset cut_total

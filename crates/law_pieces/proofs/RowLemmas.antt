@@ -1,11 +1,8 @@
 -- The rows of objects by their addresses, and the bytes of an object whose part is its whole.
-use Rattle.std.proofs.Common.{◌≡◌, ◌≢◌, ◌+◌, ◌≤◌, ℕ, Bool, cond, List, [], ◌∷◌, ◌++◌, length, take, drop, refl, sym, ap, ◌∙◌, subst, arith, append_assoc, eq-eqb, ne_eqb, length-append, length-drop, take_all}
+use Rattle.std.proofs.Common.{◌≡◌, ◌≢◌, ◌+◌, ◌≤◌, ℕ, Bool, cond, List, [], ◌∷◌, ◌++◌, take, drop, refl, sym, ap, ◌∙◌, subst, arith, append_assoc, eq-eqb, ne_eqb, take_all}
 use Rattle.std.specs.Prelude.{◌==◌, All, flat_map, map}
-use Rattle.std.specs.List.{range_with_len}
 use Rattle.std.proofs.lemmas.List.Concat.{flat_map-append}
-use Rattle.std.proofs.lemmas.List.{length-take}
 use Rattle.std.proofs.lemmas.List.Elements.{All-cons, All-head, All-nil, All-tail}
-use Rattle.std.proofs.lemmas.List.Sums.{sum_by-cons}
 use Rattle.sdr_base.specs.Entries.{BlocksAre, Entries, times}
 use Rattle.sdr_base.specs.Objects.{Heap}
 use Rattle.sdr_base.specs.ZcoObjects.{ExtentRow, ObjectRow, object_entries}
@@ -13,19 +10,16 @@ use Rattle.sdr_base.specs.declared.account.Acct.{Acct}
 use Rattle.sdr_base.specs.declared.account.Acct.TheVariants as accts
 use Rattle.sdr_base.proofs.StandingLemmas.{times-append}
 use Rattle.zco_obj.specs.Gone.{sources_entries}
-use Rattle.zco_obj.specs.Kept.{ObjectFits, extents_length}
-use Rattle.zco_obj.specs.declared.extent.ExtentPiece.{ExtentPiece}
+use Rattle.zco_obj.specs.Kept.{extents_length}
 use Rattle.zco_obj.specs.Links.{piece_of}
 use Rattle.zco_obj.specs.Making.{empty_row}
-use Rattle.zco_part.specs.Pieces.{asked, extents_at, whole_row}
+use Rattle.zco_part.specs.Pieces.{whole_row}
 use Rattle.zco_join.specs.Joining.{AreClones, pieces_in}
 use Rattle.zco_join.specs.Stocks.{Standing, objects_entries, queues_entries}
 use Rattle.zco_join.specs.declared.filled.Filled.{Filled}
 use Rattle.zco_join.proofs.ClonesLemmas.{all_both}
-use Rattle.zco_pieces.specs.Runs.{IsCloneOf}
-use Rattle.zco_pieces.proofs.CutLawLemmas.{part_length}
+use Rattle.zco_pieces.proofs.CutLawLemmas.{named_length}
 use Rattle.zco_pieces.specs.Bytes.{bytes_named, part_bytes}
-use Rattle.zco_pieces.proofs.BytesLemmas.{asked_bytes, own_length, pieces_placed}
 use Rattle.law_pieces.specs.Rebuilding.{AreAt}
 use Rattle.law_pieces.specs.Texts.{Beside, Holds, both, stock_of}
 
@@ -92,15 +86,6 @@ clones_named clone_at (p ∷ ps) (z ∷ zs) a t =
     ∙ ap (λ qs. map piece_of z.row.extents ++ qs) (clones_named clone_at ps zs a.2 (All-tail P z zs t))
 
 -- an object, whose part is its whole, has the bytes of its extents
-pub named_length : (held : ℕ → ℕ → ℕ) (es : List ExtentRow) → length (bytes_named held (map piece_of es)) ≡ extents_length es
-named_length held [] = refl
-named_length held (e ∷ es) =
-    let own = own_length held (piece_of e) in
-    let a = length-append (map (held e.source) (range_with_len e.offset e.length)) (bytes_named held (map piece_of es)) in
-    let s = sum_by-cons (λ (x : ExtentRow). x.length) e es in
-    let ih = named_length held es in
-    omega (arith, own, a, s, ih)
-
 pub whole_bytes : (held : ℕ → ℕ → ℕ) (acct : Acct) (es : List ExtentRow) → part_bytes held (whole_row acct es) ≡ bytes_named held (map piece_of es)
 whole_bytes held acct es =
     ap (take (extents_length es)) (all (bytes_named held (map piece_of es)))
@@ -109,18 +94,3 @@ whole_bytes held acct es =
     all : (xs : List ℕ) → drop 0 xs ≡ xs
     all [] = refl
     all (x ∷ xs) = refl
-
--- a clone of so many bytes has these
-pub clone_long : (row clone : ObjectRow) (offset count : ℕ) → ObjectFits row → offset + count ≤ row.part_length → IsCloneOf row offset count clone →
-    clone.part_length ≡ count
-clone_long row clone offset count f inside c =
-    let none : ℕ → ℕ → ℕ = λ source place. 0 in
-    let ps = asked offset count row in
-    let is = ap (λ (r : ObjectRow). r.part_length) c.is in
-    let n = named_length none (extents_at c.addrs ps) in
-    let p = ap (λ (qs : List ExtentPiece). length (bytes_named none qs)) (pieces_placed c.addrs ps c.each) in
-    let b = ap (length {A = ℕ}) (asked_bytes none offset count row inside) in
-    let t = length-take count (drop offset (part_bytes none row)) in
-    let d = length-drop offset (part_bytes none row) in
-    let l = part_length none row f in
-    omega (arith, is, n, p, b, t, d, l, inside)

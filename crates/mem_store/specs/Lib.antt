@@ -4,5 +4,6 @@ pub mod Draft
 pub mod Entries
 pub mod Ledger
 pub mod Owners
+pub mod Pasts
 pub mod Store
 pub mod Tallies

@@ -58,9 +58,9 @@ ChangesAt old new addr change = (q : ℕ) → place_at new q ≡ cond (is_at (na
 abbrev pub with_thing : Option Thing → Place → Place
 with_thing thing place = record place { thing = thing }
 
--- a place that keeps this as what was there at the begin
-abbrev pub saving : Option Thing → Option Place → Option Place
-saving begun place = Some (record { begun = Some begun; thing = option_and_then now_at place })
+-- a place that keeps what is there as what was there at the begin
+abbrev pub saving : Option Place → Option Place
+saving place = Some (record { begun = Some (option_and_then now_at place); thing = option_and_then now_at place })
 
 -- a place that keeps nothing of the begin, with what stays
 abbrev pub cleared : Stays → Place → Place

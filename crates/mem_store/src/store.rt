@@ -50,16 +50,6 @@ impl Model for Store {
     ghost invariant = { λ s. store.IsKept s.places.entries s.touched.items s.tallies };
 }
 
-// A copy of what is at an address.
-fn copied(alloc: Global, thing: Option<&Thing>) -> Result<Option<Thing>, NoMemory>
-    ensures { IfOk result (λ copy. copy ≡ option_copied thing.entry) }
-{
-    match thing {
-        Some(thing) => Ok(Some(thing.copied(alloc)?)),
-        None => Ok(None),
-    }
-}
-
 impl Store {
     /// No things. It takes no memory.
     pub fn new(alloc: Global) -> Store
@@ -135,8 +125,7 @@ impl Store {
             return Ok(());
         }
         self.touched.reserve(1)?;
-        let begun = copied(self.alloc, self.get(addr))?;
-        save(&mut self.places, addr, begun)?;
+        save(&mut self.places, self.alloc, addr)?;
         self.touched.push_reserved(addr);
         Ok(())
     }

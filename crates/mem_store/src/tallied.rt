@@ -13,10 +13,10 @@ ghost use Rattle.mem_parts.specs.Components.{KeepsLimits, with_component};
 ghost use Rattle.mem_parts.specs.declared.component.Component.{Component as GhostComponent};
 ghost use Rattle.mem_store.specs.Store.{ChangesAt, growing, now_at, place_at, settled, things_at, with_thing};
 ghost use Rattle.mem_store.specs.declared.place.Stays.TheVariants as stays;
-ghost use Rattle.mem_store.specs.Tallies.{AreNoted, AreTallied, IsGrowth, Tallies, is_object_of, is_plain, raw_named, sources_on, tally_of};
+ghost use Rattle.mem_store.specs.Tallies.{AreNoted, AreTallied, IsGrowth, Tallies, is_object_of, raw_named, sources_on, tally_of};
 
 use crate::place;
-use crate::place::{Place, Stays, thing_at};
+use crate::place::{Past, Place, Stays, is_plain, thing_at};
 use crate::tally::{Growth, Tally, enter, grow, growth_by, leave};
 use mem_parts::component::Component;
 use sdr_base::{Acct, Addr, NoMemory};
@@ -94,13 +94,6 @@ fn noted(
         Some(raw) => note(raws, raw, addr),
         None => Some(raws),
     }
-}
-
-// Whether it is neither a source nor an object.
-fn is_plain(thing: Option<&Thing>) -> bool
-    ensures { result ≡ is_plain (option_copied thing.entry) }
-{
-    !matches!(thing, Some(Thing::Source(_) | Thing::Object(_)))
 }
 
 // Whether it is an object of an account.
@@ -205,6 +198,9 @@ impl Tallied {
         ensures tallied { AreTallied (things_at now_at places.old.entries) self.old
             → AreTallied (things_at now_at places.new.entries) self.new }
     {
+        if is_plain(thing.as_ref()) && is_plain(thing_at(places, addr)) {
+            return place::swap(places, addr, thing);
+        }
         self.leave(places, addr);
         let was = place::swap(places, addr, thing);
         self.enter(places, addr);
@@ -217,9 +213,15 @@ impl Tallied {
         ensures tallied { AreTallied (things_at now_at places.old.entries) self.old
             → AreTallied (things_at now_at places.new.entries) self.new }
     {
-        self.leave(places, addr);
-        place::settle(places, addr, Stays::Begun);
-        self.enter(places, addr);
+        match place::past_at(places, addr) {
+            Past::New => place::take_away(places, addr),
+            Past::Plain => place::settle(places, addr, Stays::Begun),
+            Past::Other => {
+                self.leave(places, addr);
+                place::settle(places, addr, Stays::Begun);
+                self.enter(places, addr);
+            }
+        }
     }
 
     /// Lets one of both times stay at an address.

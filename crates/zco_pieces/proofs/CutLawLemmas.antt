@@ -22,7 +22,7 @@ use Rattle.zco_pieces.proofs.BytesLemmas.{asked_bytes, own_length, pieces_placed
 use Rattle.zco_pieces.proofs.PlaceLemmas.{lies}
 
 -- extents have as many bytes as they name
-named_length : (held : ℕ → ℕ → ℕ) (es : List ExtentRow) → length (bytes_named held (map piece_of es)) ≡ extents_length es
+pub named_length : (held : ℕ → ℕ → ℕ) (es : List ExtentRow) → length (bytes_named held (map piece_of es)) ≡ extents_length es
 named_length held [] = refl
 named_length held (e ∷ es) =
     let own = own_length held (piece_of e) in
@@ -51,7 +51,7 @@ piece_begins total most k h =
     omega (arith, m, above)
 
 -- a clone of so many bytes has these
-clone_length : (held : ℕ → ℕ → ℕ) (row clone : ObjectRow) (offset count : ℕ) → ObjectFits row → offset + count ≤ row.part_length →
+pub clone_length : (held : ℕ → ℕ → ℕ) (row clone : ObjectRow) (offset count : ℕ) → ObjectFits row → offset + count ≤ row.part_length →
     IsCloneOf row offset count clone → clone.part_length ≡ count
 clone_length held row clone offset count f inside c =
     let ps = asked offset count row in

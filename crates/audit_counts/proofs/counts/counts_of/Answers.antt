@@ -32,4 +32,4 @@ loop-number-preserved c =
 pub returns-clause-told : goal.returns-clause-told
 returns-clause-told c =
     told_over c.args.heap.now (length c.args.heap.now / 8) c.args.account c.loop-number.counts.items c.loop-number.from (length c.args.heap.now / 8)
-    c.loop-number.invariant.inside (λ word onward less. c.next_block.ensures.none c.in_default.is word onward) c.loop-number.invariant.told
+    c.loop-number.invariant.inside (λ word onward less. c.next_of.ensures.none c.in_default.is word onward) c.loop-number.invariant.told

@@ -1,7 +1,8 @@
-use Rattle.std.proofs.Common.{◌<◌, ◌∙◌, ◌/◌, ℕ, length, arith, sym}
+use Rattle.std.proofs.Common.{◌<◌, ◌∙◌, ◌/◌, ℕ, [], ◌∷◌, length, arith, sym}
+use Rattle.sdr_base.specs.declared.kind.Kind.TheVariants as kinds
 use Rattle.std.proofs.lemmas.List.{get_or_read}
 use Rattle.sdr_base.specs.declared.account.Acct.TheVariants as accts
-use Rattle.audit_counts.proofs.CountedLemmas.{none_counts}
+use Rattle.audit_counts.proofs.CountedLemmas.{others_count}
 use Rattle.audit_counts.proofs.CountsLemmas.{told_exact}
 use Rattle.audit_owners.proofs.BlockLemmas.{few_words}
 use Rattle.audit_owners.proofs.PlacesLemmas.{found_first, found_more, found_over}
@@ -35,7 +36,7 @@ returns-then-not-keeps_counts c =
     let end = next.inside in
     let inside : c.in-Some.number < words = omega (arith, end) in
     sym (found_first test c.in-Some.number words inside
-    (found_over c.args.heap.now test c.loop-number.from c.in-Some.number (none_counts (view_in c.args.heap.now) words) next.onward next.before
+    (found_over (kinds.Source ∷ []) c.args.heap.now test c.loop-number.from c.in-Some.number (others_count (view_in c.args.heap.now) words) next.onward next.before
     c.loop-number.invariant.kept)
     (sym c.keeps_counts.ensures ∙ c.if-not-keeps_counts.true))
 
@@ -49,7 +50,7 @@ loop-number-preserved c =
       inside = omega (arith, end);
       kept =
           found_more test c.in-Some.number
-          (found_over c.args.heap.now test c.loop-number.from c.in-Some.number (none_counts (view_in c.args.heap.now) words) next.onward next.before
+          (found_over (kinds.Source ∷ []) c.args.heap.now test c.loop-number.from c.in-Some.number (others_count (view_in c.args.heap.now) words) next.onward next.before
           c.loop-number.invariant.kept)
           (sym c.keeps_counts.ensures ∙ c.if-not-keeps_counts.false);
     }
@@ -57,5 +58,5 @@ loop-number-preserved c =
 pub returns : goal.returns
 returns c =
     let words : ℕ = length c.args.heap.now / 8 in
-    sym (found_over c.args.heap.now (keeps_counts (view_in c.args.heap.now) words) c.loop-number.from words (none_counts (view_in c.args.heap.now) words)
-    c.loop-number.invariant.inside (λ word onward less. c.next_block.ensures.none c.in_default.is word onward) c.loop-number.invariant.kept)
+    sym (found_over (kinds.Source ∷ []) c.args.heap.now (keeps_counts (view_in c.args.heap.now) words) c.loop-number.from words (others_count (view_in c.args.heap.now) words)
+    c.loop-number.invariant.inside (λ word onward less. c.next_of.ensures.none c.in_default.is word onward) c.loop-number.invariant.kept)

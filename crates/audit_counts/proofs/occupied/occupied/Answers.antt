@@ -33,7 +33,7 @@ returns c =
     c.with_left.ensures before
     (c.loop-number.invariant.charged
     ∙ charges_over c.args.heap.now words c.args.account c.loop-number.from words c.loop-number.invariant.inside
-    (λ word onward less. c.next_block.ensures.none c.in_default.is word onward))
+    (λ word onward less. c.next_of.ensures.none c.in_default.is word onward))
     ∙ charges_same (λ space. before space + sum_by (left_at heap space) c.deref.result.now) (occupancy_in heap words c.args.account) (λ space.
     let t = ap (sum_by (left_at heap space)) tickets in
     omega (arith, t))

@@ -56,4 +56,4 @@ returns-clause-walked c =
     let words : length c.args.heap.now / 8 ≡ length c.args.marks.now = omega arith in
     subst (λ (n : ℕ). HasWalked heap (owners_of heap n) c.loop-number.marks) words
     (walked_over c.args.heap.now c.loop-number.marks c.loop-number.from (length c.args.heap.now / 8) c.loop-number.invariant.inside
-    (λ word onward less. c.next_block.ensures.none c.in_default.is word onward) c.loop-number.invariant.walked)
+    (λ word onward less. c.next_of.ensures.none c.in_default.is word onward) c.loop-number.invariant.walked)

@@ -1,17 +1,10 @@
 use Rattle.std.proofs.Common.{◌≡◌, ◌∙◌, ◌/◌, ◌||◌, Bool, not, true, false, get_or, ap, sym}
-use Rattle.std.specs.Prelude.{is_some}
 use Rattle.sdr_base.specs.KeptHeap.{block_in}
-use Rattle.audit_owners.proofs.RegionLemmas.{no_kind}
-use Rattle.audit_owners.proofs.RulesLemmas.{none_keeps, reached_told}
+use Rattle.audit_owners.proofs.RulesLemmas.{reached_told}
 use Rattle.audit_owners.specs.Rules.{is_chained, keeps_owner_rule}
 use Rattle.audit_owners.specs.View.{view_in}
 use Rattle.audit_owners.specs.declared.rules.OwnerRule.{OwnerRule}
 use Rattle.audit_owners.proofs.rules.keeps.Goals as goal
-
-pub returns-then-is_none : goal.returns-then-is_none
-returns-then-is_none c reached marked =
-    sym (none_keeps (view_in c.args.heap.now) reached c.args.rule c.args.addr
-    (no_kind _ (ap is_some (sym c.find.ensures) ∙ c.is_none.ensures ∙ ap not c.if-is_none.true)))
 
 pub returns-else-not-is_chained : goal.returns-else-not-is_chained
 returns-else-not-is_chained c reached marked =

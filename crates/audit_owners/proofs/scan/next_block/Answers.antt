@@ -4,8 +4,8 @@ use Rattle.std.proofs.lemmas.Bool.{cases_lt}
 use Rattle.sdr_base.specs.Blocks.{kind_length}
 use Rattle.sdr_base.specs.KeptHeap.{block_in}
 use Rattle.audit_owners.proofs.RegionLemmas.{no_kind, none_past}
-use Rattle.audit_owners.proofs.ScanLemmas.{none_up_to}
-use Rattle.audit_owners.specs.Scan.{HasNoStart}
+use Rattle.audit_owners.proofs.ScanLemmas.{holds_up_to, none_behind}
+use Rattle.audit_owners.specs.Scan.{HasNoBlock, HasNoStart}
 use Rattle.audit_owners.proofs.scan.next_block.Goals as goal
 
 pub overflow_add-word : goal.overflow_add-word
@@ -24,7 +24,8 @@ loop-word-preserved c =
     record {
       onward = omega (arith, start);
       passed = λ other onward less.
-          none_up_to c.args.heap.now c.args.from c.loop-word.word c.next_start-start.result c.loop-word.invariant.passed here clear other onward
+          holds_up_to (HasNoBlock c.args.heap.now) c.args.from c.loop-word.word c.next_start-start.result c.loop-word.invariant.passed here
+          (λ next behind before. none_behind c.args.heap.now c.loop-word.word c.next_start-start.result next clear behind before) other onward
           (omega (arith, start, less));
     }
 
