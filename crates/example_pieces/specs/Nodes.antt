@@ -22,4 +22,5 @@ pub record SomePayload (heap : Heap) (parts : List Filled) (object : ℕ) : Type
 
 -- a piece more was added: what there was room for, there is
 pub record AddsNext (old new : Heap) (parts parts' : List Filled) (object : ℕ) : Type 0 where
-  pub adds : (n room : ℕ) → HasPayload old parts object n (room + room_for_next n) → HasPayload new parts' object (2 * n + 1) room
+  pub adds : (n room : ℕ) → HasPayload old parts object n (room + room_for_next n) →
+      HasPayload new parts' object (2 * n + 1) room

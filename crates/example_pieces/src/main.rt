@@ -1,5 +1,6 @@
-//! A node that takes a payload apart and puts it together again, on a heap in memory: it cuts an object by two sizes, adds the pieces in
-//! another order, some of them twice over, and rebuilds the object. It prints what is missing behind each piece, and the bytes.
+//! A node that takes a payload apart and puts it together again, on a heap in memory: it cuts an object by two sizes, adds pieces in
+//! another order, one of them twice and some that overlap, and rebuilds the object. It prints how many pieces there are by either size,
+//! how many bytes are missing behind each piece, and whether the rebuilt object has the payload's bytes.
 //!
 //! 1. `begun` formats a disk in memory, opens it, and begins a transaction on the heap there.
 //! 2. `run` makes an object of the payload (`make_payload`), adds pieces of it to a text (`add_next`), finishes that, and sends the object

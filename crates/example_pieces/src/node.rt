@@ -29,6 +29,7 @@ pub struct Rebuilt {
     pub by_seven: u64,
     /// How many bytes are missing behind each piece.
     pub missing: [u64; 5],
+    /// The bytes that the rebuilt object sends.
     pub bytes: [u8; 26],
 }
 

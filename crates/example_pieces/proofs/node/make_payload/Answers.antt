@@ -6,7 +6,8 @@ use Rattle.example_pieces.proofs.node.make_payload.Goals as goal
 -- the payload's bytes
 abbrev text : List ℕ
 text =
-    102 ∷ 114 ∷ 97 ∷ 103 ∷ 109 ∷ 101 ∷ 110 ∷ 116 ∷ 115 ∷ 32 ∷ 111 ∷ 118 ∷ 101 ∷ 114 ∷ 32 ∷ 97 ∷ 32 ∷ 115 ∷ 108 ∷ 111 ∷ 119 ∷ 32 ∷ 108 ∷ 105 ∷ 110 ∷ 107 ∷ []
+    102 ∷ 114 ∷ 97 ∷ 103 ∷ 109 ∷ 101 ∷ 110 ∷ 116 ∷ 115 ∷ 32 ∷ 111 ∷ 118 ∷ 101 ∷ 114 ∷ 32 ∷ 97 ∷ 32 ∷
+    115 ∷ 108 ∷ 111 ∷ 119 ∷ 32 ∷ 108 ∷ 105 ∷ 110 ∷ 107 ∷ []
 
 pub create-requires-clause-spare : goal.create-requires-clause-spare
 create-requires-clause-spare g c =
