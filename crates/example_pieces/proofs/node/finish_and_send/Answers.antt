@@ -1,6 +1,4 @@
 -- The text is finished, and the object is sent.
-use Rattle.std.proofs.Common.{sym, ap, subst}
-use Rattle.zco_wire.specs.Naming.{IsWire}
 use Rattle.example_pieces.proofs.node.finish_and_send.Goals as goal
 
 pub start_sending-requires : goal.start_sending-requires

@@ -1,9 +1,7 @@
 -- Each call hands on what the next one needs.
-use Rattle.std.proofs.Common.{[], ◌∷◌, ◌++◌, List, length, sym, ap, subst, arith}
+use Rattle.std.proofs.Common.{[], ◌∷◌, sym, subst, arith}
 use Rattle.sdr_base.specs.declared.account.Acct.TheVariants as accts
-use Rattle.zco_join.specs.declared.filled.Filled.{Filled}
 use Rattle.law_pieces.specs.Texts.{SomeText}
-use Rattle.example_pieces.specs.Nodes.{HasPayload}
 use Rattle.example_pieces.proofs.node.run.Goals as goal
 
 pub count-requires-clause-object : goal.count-requires-clause-object
