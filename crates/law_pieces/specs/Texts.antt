@@ -77,6 +77,7 @@ pub record Beside : Type 0 where
   pub sources : List NamedSource
   pub rest : Entries
 
+-- the same as a stock: the clones and the other objects, both queues, the sources, and the other blocks
 abbrev pub stock_of : Beside → Stock
 stock_of x = record { objects = x.clones ++ x.others; queues = both x.tickets; sources = x.sources; rest = x.rest }
 
@@ -91,9 +92,10 @@ pub record SomeText (heap : Heap) (parts : List Filled) (loose : List ℕ) (most
   pub beside : Beside
   pub keeps : KeepsText heap parts loose most room beside
 
--- so many moves are enough to add a piece to a text of so many parts at most, and to make one object of it
+-- so many moves are enough to add a piece to a text of so many parts at most
 abbrev pub room_to_add : ℕ → ℕ → ℕ
 room_to_add most n = (2 * n + 1) * (1 + most)
 
+-- so many are enough to make one object of it
 abbrev pub room_to_join : ℕ → ℕ → ℕ
 room_to_join most n = 1 + 2 * (n * most) + n
